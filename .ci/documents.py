@@ -1,0 +1,73 @@
+"""Checks README.md, CONTRIBUTING.md, docs/*.md and examples/*.md; prints what is wrong, and a count."""
+
+import re
+import subprocess
+import sys
+from pathlib import Path
+
+TOP = Path(__file__).resolve().parent.parent
+LINK = re.compile(r"\[[^\]]*\]\(([^)#\s]+)(#[^)\s]*)?\)")
+passed, failed = 0, 0
+
+
+def check(holds, message):
+    global passed, failed
+    if holds:
+        passed += 1
+    else:
+        failed += 1
+        print(message)
+
+
+def documents():
+    names = ["README.md", "CONTRIBUTING.md"]
+    return [TOP / n for n in names] + sorted((TOP / "docs").glob("*.md")) + sorted((TOP / "examples").glob("*.md"))
+
+
+def crates():
+    lines = (line.split("#")[0].strip() for line in (TOP / "crates.txt").read_text().splitlines())
+    return [line.split(":")[0].split()[0] for line in lines if line]
+
+
+def examples(text):
+    """The commands of the blocks marked `console`, each with the lines that follow it."""
+    for block in re.findall(r"^```console\n(.*?)^```", text, re.M | re.S):
+        command, shown = None, []
+        for line in block.splitlines():
+            if line.startswith("$ "):
+                if command:
+                    yield command, shown
+                command, shown = line[2:], []
+            else:
+                shown.append(line)
+        if command:
+            yield command, shown
+
+
+def main():
+    # The first use builds the program, and says so on standard error.
+    subprocess.run([TOP / "pw", "show", TOP / "examples" / "ppc.aml"], stdout=subprocess.DEVNULL, check=True)
+    handles = (TOP / "HANDLES").read_text()
+    check(handles == "Handles allowed: Threads, Wait.\n", "HANDLES: not the one line that it is to hold")
+    readme = (TOP / "README.md").read_text()
+    for name in crates():
+        check(re.search(rf"^\*\*`{name}`\*\*", readme, re.M), f"README.md: no paragraph that begins with **`{name}`**")
+    for path in documents():
+        check(path.is_file(), f"{path.relative_to(TOP)}: missing")
+        if not path.is_file():
+            continue
+        text = path.read_text(encoding="utf-8")
+        for target, _ in LINK.findall(text):
+            if "://" not in target:
+                check((path.parent / target).exists(), f"{path.relative_to(TOP)}: no file {target}")
+        for command, shown in examples(text):
+            run = subprocess.run(
+                ["bash", "-c", command], cwd=TOP, text=True, stdin=subprocess.DEVNULL, stdout=subprocess.PIPE, stderr=subprocess.STDOUT
+            )
+            said = run.stdout.splitlines()
+            check(said == shown, f"{path.relative_to(TOP)}: `{command}` prints\n  " + "\n  ".join(said))
+    print(f"documents: {passed} passed, {failed} failed")
+    sys.exit(1 if failed else 0)
+
+
+main()

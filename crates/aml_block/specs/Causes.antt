@@ -1,0 +1,17 @@
+-- What a fault of a part is as a fault of the block.
+use Rattle.aml_data.specs.declared.fault.DataFault.{DataFault}
+use Rattle.aml_data.specs.declared.fault.DataFault.TheVariants.{Memory as no_data_memory}
+use Rattle.aml_block.specs.declared.fault.BlockFault.{BlockFault}
+use Rattle.aml_block.specs.declared.fault.BlockFault.TheVariants.{Data as in_data, ReadFault, Memory}
+use Rattle.aml_block.specs.declared.file.FileFault.{FileFault}
+use Rattle.aml_block.specs.declared.file.FileFault.TheVariants as file_faults
+
+-- want of memory stays want of memory
+abbrev pub data_cause : DataFault → BlockFault
+data_cause no_data_memory = Memory
+data_cause fault = in_data fault
+
+-- a file that wasn't read, and want of memory
+abbrev pub file_cause : FileFault → BlockFault
+file_cause file_faults.ReadFault = ReadFault
+file_cause file_faults.Memory = Memory

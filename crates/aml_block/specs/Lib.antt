@@ -1,0 +1,7 @@
+pub mod Causes
+pub mod Header
+pub mod Spelling
+pub mod Faults
+pub mod Reading
+pub mod Answers
+pub mod Content

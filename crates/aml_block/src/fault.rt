@@ -1,0 +1,103 @@
+ghost use Rattle.std.specs.Prelude.{◌≡◌};
+ghost use Rattle.aml_block.specs.declared.fault.BlockFault.TheVariants as faults;
+ghost use Rattle.aml_block.specs.Causes.{data_cause, file_cause};
+
+use crate::file::FileFault;
+use aml_data::DataFault;
+use pw_base::Memory;
+use std::alloc::{AllocError, AllocFailed};
+use thiserror::Error;
+
+/// What is wrong with the header: the first of these that holds.
+#[derive(Clone, Copy, Debug, PartialEq, Eq, Error)]
+pub enum HeaderFault {
+    /// More than 4,194,304 bytes.
+    #[error("large")]
+    Large,
+    /// Fewer than 36 bytes.
+    #[error("short")]
+    Short,
+    /// Neither `DSDT` nor `SSDT`.
+    #[error("signature")]
+    Signature,
+    /// The field Length isn't the number of bytes.
+    #[error("length")]
+    Length,
+    /// The bytes don't sum to 0 modulo 256.
+    #[error("sum")]
+    Sum,
+}
+
+/// Why there is no block: the first fault from left to right. Places count from the first byte.
+#[derive(Clone, Copy, Debug, PartialEq, Eq, Error)]
+pub enum BlockFault {
+    /// The header is wrong.
+    #[error("header {why}")]
+    Header { why: HeaderFault },
+    /// A name or an object in a term is at fault. It is never `DataFault::Memory`.
+    #[error("{0}")]
+    Data(DataFault),
+    /// This opcode begins no term that may stand here. One behind 5B is 0x5B00 plus its byte.
+    #[error("at {at} term {opcode:#04X}")]
+    BadTerm { at: usize, opcode: u16 },
+    /// The file couldn't be read.
+    #[error("read fault")]
+    ReadFault,
+    /// Want of memory.
+    #[error("out of memory")]
+    Memory,
+}
+
+impl From<Memory> for BlockFault {
+    ghost from_gives = { λ _ e. e ≡ faults.Memory };
+
+    fn from(_e: Memory) -> BlockFault {
+        BlockFault::Memory
+    }
+}
+
+impl From<AllocError> for BlockFault {
+    ghost from_gives = { λ _ e. e ≡ faults.Memory };
+
+    fn from(_e: AllocError) -> BlockFault {
+        BlockFault::Memory
+    }
+}
+
+impl<T: Drop> From<AllocFailed<T>> for BlockFault {
+    ghost from_gives = { λ _ e. e ≡ faults.Memory };
+
+    fn from(_e: AllocFailed<T>) -> BlockFault {
+        BlockFault::Memory
+    }
+}
+
+impl From<HeaderFault> for BlockFault {
+    ghost from_gives = { λ why e. e ≡ faults.Header why };
+
+    fn from(why: HeaderFault) -> BlockFault {
+        BlockFault::Header { why }
+    }
+}
+
+impl From<DataFault> for BlockFault {
+    ghost from_gives = { λ d e. e ≡ data_cause d };
+
+    fn from(e: DataFault) -> BlockFault {
+        match e {
+            DataFault::Memory => BlockFault::Memory,
+            other => BlockFault::Data(other),
+        }
+    }
+}
+
+impl From<FileFault> for BlockFault {
+    ghost from_gives = { λ d e. e ≡ file_cause d };
+
+    fn from(e: FileFault) -> BlockFault {
+        match e {
+            FileFault::ReadFault => BlockFault::ReadFault,
+            FileFault::Memory => BlockFault::Memory,
+        }
+    }
+}

@@ -1,0 +1,22 @@
+//! Definition blocks: the header, and the terms that follow it (ACPI 6.5, 5.2.6 and 20.2.5).
+#![tactic(auto)]
+
+mod block;
+mod fault;
+mod file;
+mod header;
+mod laws;
+mod parsing;
+mod reading;
+mod terms;
+
+pub use block::{Block, Header, Signature, Term};
+pub use fault::{BlockFault, HeaderFault};
+pub use file::{FileFault, read_all};
+pub use header::LARGEST;
+pub use laws::{one_block, one_fault};
+pub use parsing::parse;
+pub use reading::read;
+
+#[cfg(test)]
+mod tests;

@@ -1,0 +1,105 @@
+-- Reading from left to right, with the first fault that is met. `end` is the place where the bytes end, so the
+-- place of a byte is `end` less the number of bytes from it on.
+use Rattle.std.specs.Prelude.{◌≡◌, ◌≢◌, ℕ, zero, suc, ◌-◌, Bool, true, false, List, [], ◌∷◌, length, take, drop, Result, Ok, Err, nat_lt, ◌==◌, if◌then◌else◌}
+use Rattle.std.specs.Int.{Width, w16, w32, w64, byte_len, from_le_bytes}
+use Rattle.aml_data.specs.declared.data.Data.{Data}
+use Rattle.aml_data.specs.declared.data.Data.TheVariants.{Int}
+use Rattle.aml_data.specs.declared.path.Path.{Path}
+use Rattle.aml_data.specs.Segment.{is_letter, is_word}
+use Rattle.aml_data.specs.declared.fault.DataFault.{DataFault}
+use Rattle.aml_data.specs.declared.fault.DataFault.TheVariants.{Short, BadLead, BadName, Memory}
+
+-- one step and then the next, up to the first fault
+infixl 10 ◌>>=◌
+abbrev pub ◌>>=◌ : {A B : Type 0} → Result A DataFault → (A → Result B DataFault) → Result B DataFault
+(Ok x) >>= f = f x
+(Err e) >>= f = Err e
+
+-- What a function returned, seen by view, is what reading gives, unless memory ran out.
+abbrev pub Gives : {X Y : Type 0} → (X → Y) → Result X DataFault → Result Y DataFault → Type 0
+Gives view (Ok x) read = read ≡ Ok (view x)
+Gives view (Err e) read = e ≢ Memory → read ≡ Err e
+
+-- The same of a function that takes no memory.
+abbrev pub Tells : {X Y : Type 0} → (X → Y) → Result X DataFault → Result Y DataFault → Type 0
+Tells view (Ok x) read = read ≡ Ok (view x)
+Tells view (Err e) read = read ≡ Err e
+
+-- A part that is read is a value, and the bytes after it.
+abbrev pub Read : Type 0 → Type 0
+Read A = Result (A × List ℕ) DataFault
+
+-- a byte
+abbrev pub byte_at : ℕ → List ℕ → Read ℕ
+byte_at end [] = Err (Short end)
+byte_at end (b ∷ bytes) = Ok (b, bytes)
+
+-- a number of so many bytes, lowest first
+abbrev pub number_at : Width → ℕ → List ℕ → Read ℕ
+number_at w end bytes =
+    if nat_lt (length bytes) (byte_len w) then Err (Short end)
+    else Ok (from_le_bytes w (take (byte_len w) bytes), drop (byte_len w) bytes)
+
+-- an integer constant
+unfoldable pub constant_at : ℕ → List ℕ → Read ℕ
+constant_at end [] = Err (Short end)
+constant_at end (lead ∷ rest) =
+    if lead == 0 then Ok (0, rest)
+    else (if lead == 1 then Ok (1, rest)
+    else (if lead == 10 then byte_at end rest
+    else (if lead == 11 then number_at w16 end rest
+    else (if lead == 12 then number_at w32 end rest
+    else (if lead == 14 then number_at w64 end rest
+    else Err (BadLead (end - length (lead ∷ rest)) lead))))))
+
+-- how many bytes 5E stand in front, and the rest
+abbrev pub ups_at : List ℕ → ℕ × List ℕ
+ups_at [] = (0, [])
+ups_at (b ∷ bytes) = if b == 94 then (suc (ups_at bytes).0, (ups_at bytes).1) else (0, b ∷ bytes)
+
+-- whether the root stands in front, how many steps up, and the rest
+unfoldable pub prefix_at : List ℕ → Bool × ℕ × List ℕ
+prefix_at [] = (false, 0, [])
+prefix_at (b ∷ bytes) = if b == 92 then (true, 0, bytes) else (false, (ups_at (b ∷ bytes)).0, (ups_at (b ∷ bytes)).1)
+
+-- a byte that passes a test
+abbrev pub letter_at : (ℕ → Bool) → ℕ → List ℕ → Read ℕ
+letter_at test end [] = Err (Short end)
+letter_at test end (b ∷ bytes) = if test b then Ok (b, bytes) else Err (BadName (end - length (b ∷ bytes)))
+
+-- a segment
+unfoldable pub segment_at : ℕ → List ℕ → Read (List ℕ)
+segment_at end bytes =
+    letter_at is_letter end bytes >>= λ a.
+    letter_at is_word end a.1 >>= λ b.
+    letter_at is_word end b.1 >>= λ c.
+    letter_at is_word end c.1 >>= λ d.
+    Ok (a.0 ∷ b.0 ∷ c.0 ∷ d.0 ∷ [], d.1)
+
+-- so many segments
+abbrev pub several_at : ℕ → ℕ → List ℕ → Read (List (List ℕ))
+several_at zero end bytes = Ok ([], bytes)
+several_at (suc n) end bytes = segment_at end bytes >>= λ s. several_at n end s.1 >>= λ ss. Ok (s.0 ∷ ss.0, ss.1)
+
+-- a count that isn't 0, and so many segments
+abbrev pub many_at : ℕ → List ℕ → Read (List (List ℕ))
+many_at end [] = Err (Short end)
+many_at end (n ∷ bytes) = if n == 0 then Err (BadName (end - length (n ∷ bytes))) else several_at n end bytes
+
+-- the segments of a name
+unfoldable pub segments_at : ℕ → List ℕ → Read (List (List ℕ))
+segments_at end [] = Err (Short end)
+segments_at end (b ∷ bytes) =
+    if b == 0 then Ok ([], bytes)
+    else (if b == 46 then several_at 2 end bytes
+    else (if b == 47 then many_at end bytes
+    else several_at 1 end (b ∷ bytes)))
+
+-- a name
+unfoldable pub name_at : ℕ → List ℕ → Read Path
+name_at end bytes =
+    segments_at end (prefix_at bytes).2 >>= λ s. Ok (record { root = (prefix_at bytes).0; ups = (prefix_at bytes).1; segs = s.0 }, s.1)
+
+-- a data object
+unfoldable pub object_at : ℕ → List ℕ → Read Data
+object_at end bytes = constant_at end bytes >>= λ n. Ok (Int n.0, n.1)

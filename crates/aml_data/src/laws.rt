@@ -1,0 +1,54 @@
+//! What the definitions say of themselves.
+
+ghost use Rattle.std.specs.Prelude.{◌≡◌, ℕ, List, ◌++◌};
+ghost use Rattle.aml_data.specs.declared.data.Data.{Data};
+ghost use Rattle.aml_data.specs.declared.path.Path.{Path};
+ghost use Rattle.aml_data.specs.declared.fault.DataFault.{DataFault};
+ghost use Rattle.aml_data.specs.Grammar.{Const, NameOf, Spells};
+ghost use Rattle.aml_data.specs.Faults.{ConstFails, NameFails, Fails};
+ghost use Rattle.aml_data.specs.Decoded.{IsSpelledAt};
+
+/// At each place at most one integer constant is spelled, and no spelling begins another.
+pub fn one_constant()
+    ensures place { (bytes : List ℕ) (at v w m n : ℕ) → IsSpelledAt Const bytes at v m
+        → IsSpelledAt Const bytes at w n → (v ≡ w) × (m ≡ n) }
+    ensures prefix { (v w : ℕ) (b c x y : List ℕ) → Const v b → Const w c → b ++ x ≡ c ++ y
+        → (v ≡ w) × (b ≡ c) }
+{}
+
+/// At each place at most one name is spelled, and no spelling begins another.
+pub fn one_name()
+    ensures place { (bytes : List ℕ) (at : ℕ) (v w : Path) (m n : ℕ) → IsSpelledAt NameOf bytes at v m
+        → IsSpelledAt NameOf bytes at w n → (v ≡ w) × (m ≡ n) }
+    ensures prefix { (v w : Path) (b c x y : List ℕ) → NameOf v b → NameOf w c → b ++ x ≡ c ++ y
+        → (v ≡ w) × (b ≡ c) }
+{}
+
+/// At each place at most one data object is spelled, and no spelling begins another.
+pub fn one_object()
+    ensures place { (bytes : List ℕ) (at : ℕ) (v w : Data) (m n : ℕ) → IsSpelledAt Spells bytes at v m
+        → IsSpelledAt Spells bytes at w n → (v ≡ w) × (m ≡ n) }
+    ensures prefix { (v w : Data) (b c x y : List ℕ) → Spells v b → Spells w c → b ++ x ≡ c ++ y
+        → (v ≡ w) × (b ≡ c) }
+{}
+
+/// Bytes have at most one first fault as an integer constant, and none where one is spelled at their front.
+pub fn one_constant_fault()
+    ensures one { (end : ℕ) (b : List ℕ) (f g : DataFault) → ConstFails end b f → ConstFails end b g → f ≡ g }
+    ensures apart { (end v : ℕ) (b x : List ℕ) (f : DataFault) → Const v b
+        → ConstFails end (b ++ x) f → ⊥ }
+{}
+
+/// Bytes have at most one first fault as a name, and none where one is spelled at their front.
+pub fn one_name_fault()
+    ensures one { (end : ℕ) (b : List ℕ) (f g : DataFault) → NameFails end b f → NameFails end b g → f ≡ g }
+    ensures apart { (end : ℕ) (v : Path) (b x : List ℕ) (f : DataFault) → NameOf v b
+        → NameFails end (b ++ x) f → ⊥ }
+{}
+
+/// Bytes have at most one first fault as a data object, and none where one is spelled at their front.
+pub fn one_object_fault()
+    ensures one { (end : ℕ) (b : List ℕ) (f g : DataFault) → Fails end b f → Fails end b g → f ≡ g }
+    ensures apart { (end : ℕ) (v : Data) (b x : List ℕ) (f : DataFault) → Spells v b
+        → Fails end (b ++ x) f → ⊥ }
+{}

@@ -1,0 +1,107 @@
+ghost use Rattle.std.specs.Prelude.{◌≡◌, ◌+◌, ◌<◌, ◌≤◌, ◌^◌, length, IfOk};
+ghost use Rattle.aml_data.specs.Reading.{Gives, ups_at, prefix_at, several_at, many_at, segments_at, name_at};
+
+use crate::fault::DataFault;
+use crate::path::Path;
+use crate::seg::{Seg, segment_of};
+use pw_base::List;
+use std::alloc::Global;
+
+/// How many bytes 5E stand in front, and the bytes after them.
+fn ups_of(bytes: &[u8]) -> (u32, &[u8])
+    requires { length bytes.now < 2 ^ 32 }
+    ensures value { (result.0, result.1.now) ≡ ups_at bytes.now }
+    ensures shorter { result.0 + length result.1.now ≡ length bytes.now }
+{
+    let mut ups = 0;
+    let mut rest = bytes;
+    while let [0x5E, after @ ..] = rest {
+        ups += 1;
+        rest = after;
+    }
+    (ups, rest)
+}
+
+/// Whether the root stands in front, how many steps up, and the bytes after them.
+#[tactic(auto, unfolding(crate::specs::Reading::prefix_at))]
+fn prefix_of(bytes: &[u8]) -> (bool, u32, &[u8])
+    requires { length bytes.now < 2 ^ 32 }
+    ensures value { (result.0, result.1, result.2.now) ≡ prefix_at bytes.now }
+    ensures shorter { length result.2.now ≤ length bytes.now }
+{
+    match bytes {
+        [] => (false, 0, bytes),
+        [0x5C, rest @ ..] => (true, 0, rest),
+        [_, ..] => {
+            let (ups, rest) = ups_of(bytes);
+            (false, ups, rest)
+        }
+    }
+}
+
+/// So many segments, and the bytes after them.
+fn several_of(
+    alloc: Global,
+    bytes: &[u8],
+    end: usize,
+    count: u8,
+) -> Result<(Vec<Seg>, &[u8]), DataFault>
+    requires { length bytes.now ≤ end }
+    ensures value { Gives (λ x. (x.0.items, x.1.now)) result (several_at count end bytes.now) }
+    ensures shorter { IfOk result (λ x. length x.1.now + count ≤ length bytes.now) }
+{
+    let mut segs = Vec::new(alloc);
+    let mut rest = bytes;
+    for _ in 0..count {
+        let (segment, after) = segment_of(rest, end)?;
+        segs.push(Seg::of_segment(segment))?;
+        rest = after;
+    }
+    Ok((segs, rest))
+}
+
+/// A count that isn't 0, so many segments, and the bytes after them.
+fn many_of(alloc: Global, bytes: &[u8], end: usize) -> Result<(Vec<Seg>, &[u8]), DataFault>
+    requires { length bytes.now ≤ end }
+    ensures value { Gives (λ x. (x.0.items, x.1.now)) result (many_at end bytes.now) }
+    ensures shorter { IfOk result (λ x. length x.1.now < length bytes.now) }
+{
+    match bytes {
+        [] => Err(DataFault::Short { at: end }),
+        [0, ..] => Err(DataFault::BadName {
+            at: end - bytes.len(),
+        }),
+        [count, rest @ ..] => several_of(alloc, rest, end, *count),
+    }
+}
+
+/// The segments of a name, and the bytes after them.
+#[tactic(auto, unfolding(crate::specs::Reading::segments_at))]
+fn segments_of(alloc: Global, bytes: &[u8], end: usize) -> Result<(Vec<Seg>, &[u8]), DataFault>
+    requires { length bytes.now ≤ end }
+    ensures value { Gives (λ x. (x.0.items, x.1.now)) result (segments_at end bytes.now) }
+    ensures shorter { IfOk result (λ x. length x.1.now < length bytes.now) }
+{
+    match bytes {
+        [] => Err(DataFault::Short { at: end }),
+        [0x00, rest @ ..] => Ok((Vec::new(alloc), rest)),
+        [0x2E, rest @ ..] => several_of(alloc, rest, end, 2),
+        [0x2F, rest @ ..] => many_of(alloc, rest, end),
+        [_, ..] => several_of(alloc, bytes, end, 1),
+    }
+}
+
+/// The name that stands first, and the bytes after it. `end` is the place where the bytes end
+/// (ACPI 6.5, 20.2.2).
+#[tactic(auto, unfolding(crate::specs::Reading::name_at))]
+pub fn name_of(alloc: Global, bytes: &[u8], end: usize) -> Result<(Path, &[u8]), DataFault>
+    requires within { length bytes.now ≤ end }
+    requires small { end < 2 ^ 32 }
+    ensures value { Gives (λ x. (x.0, x.1.now)) result (name_at end bytes.now) }
+    ensures shorter { IfOk result (λ x. length x.1.now < length bytes.now) }
+{
+    let (root, ups, rest) = prefix_of(bytes);
+    let (segs, after) = segments_of(alloc, rest, end)?;
+    let segs = List::from_vec(segs);
+    Ok((Path { root, ups, segs }, after))
+}

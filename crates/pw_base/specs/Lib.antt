@@ -1,0 +1,4 @@
+pub mod formers
+pub mod InMemory
+pub mod Outside
+pub mod Room

@@ -1,0 +1,4 @@
+pub mod Seen
+pub mod Lines
+pub mod Runs
+pub mod Printed

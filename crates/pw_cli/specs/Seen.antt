@@ -1,0 +1,35 @@
+-- What a run sees of the outside: files by name, and what a sink took.
+use Rattle.std.specs.Prelude.{◌≡◌, ℕ, Bool, true, List, ◌++◌, Option}
+use Rattle.std.proofs.Common.{◌⊎◌}
+use Rattle.pw_base.specs.Outside.{Rose, GrewByPart}
+use Rattle.aml_block.specs.Answers.{IsHeldAnd}
+
+-- files at one moment: whether they tell, what each name holds, and how often they failed
+pub record FilesSeen : Type 0 where
+  pub told : Bool
+  pub holds : List ℕ → Option (List ℕ)
+  pub faults : ℕ
+
+-- a sink at one moment: whether it tells, what it took, and how often it failed
+pub record SinkSeen : Type 0 where
+  pub told : Bool
+  pub written : List ℕ
+  pub faults : ℕ
+
+abbrev pub files_seen : {S : Type 0} → (S → Bool) → (S → List ℕ → Option (List ℕ)) → (S → ℕ) → S → FilesSeen
+files_seen told holds faults s = record { told = told s; holds = holds s; faults = faults s }
+
+abbrev pub sink_seen : {S : Type 0} → (S → Bool) → (S → List ℕ) → (S → ℕ) → S → SinkSeen
+sink_seen told written faults s = record { told = told s; written = written s; faults = faults s }
+
+-- where the files tell, there is a file of this name, and this holds of its bytes
+abbrev pub OfFile : FilesSeen → List ℕ → (List ℕ → Type 0) → Type 0
+OfFile files name P = IsHeldAnd files.told (files.holds name) P
+
+-- where the sink tells, it grew by a text
+abbrev pub Grew : SinkSeen → SinkSeen → List ℕ → Type 0
+Grew old new text = old.told ≡ true → new.written ≡ old.written ++ text
+
+-- where the sink tells, it grew by a line, or by a beginning of it where its count rose
+abbrev pub GrewByLine : SinkSeen → SinkSeen → List ℕ → Type 0
+GrewByLine old new line = old.told ≡ true → (new.written ≡ old.written ++ line) ⊎ (Rose old.faults new.faults × GrewByPart old.written new.written line)

@@ -1,0 +1,11 @@
+//! The program: the words of a command line, the command's work, and what it prints.
+#![tactic(auto)]
+
+mod lines;
+mod outcome;
+mod program;
+mod say;
+mod show;
+
+pub use outcome::Outcome;
+pub use program::run;

@@ -1,0 +1,15 @@
+/// How a run ended.
+///
+/// | status | comes |
+/// |---|---|
+/// | 0 | all is done and written |
+/// | 1 | the block is refused |
+/// | 2 | the words are refused |
+/// | 3 | the file can't be read |
+/// | 4 | the output can't be written |
+/// | 6 | want of memory |
+#[derive(Clone, Copy, Debug, PartialEq, Eq)]
+pub struct Outcome {
+    /// The exit status of the program.
+    pub status: u8,
+}

@@ -1,0 +1,13 @@
+//! Texts as they are printed: numbers and paths, and a page that gathers text for a sink.
+#![tactic(auto)]
+
+mod numbers;
+mod page;
+mod paths;
+
+pub use numbers::{hex_digit, put_hex, put_number};
+pub use page::Page;
+pub use paths::{put_full_path, put_path, put_place};
+
+#[cfg(test)]
+mod tests;

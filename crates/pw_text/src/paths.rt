@@ -1,0 +1,78 @@
+ghost use Rattle.std.specs.Prelude.{◌≡◌, ◌∷◌, is_ok};
+ghost use Rattle.std.specs.List.{flat_map};
+ghost use Rattle.pw_text.specs.Puts.{PutsText};
+ghost use Rattle.pw_text.specs.Text.{full_path_text, place_text, path_prefix, path_text, segments_text};
+
+use crate::page::Page;
+use aml_data::{FullPath, Path, Seg};
+use pw_base::{Failed, Sink};
+
+/// Puts a full path.
+pub fn put_full_path<K: Sink>(page: &mut Page, sink: &mut K, path: &FullPath) -> Result<(), Failed>
+    ensures { PutsText K.told K.written K.faults sink.old sink.new page.old page.new
+        (full_path_text path.now) (is_ok result) }
+{
+    put_place(page, sink, path.segs.as_slice())
+}
+
+/// Puts the place of these segments, counted from the root.
+pub fn put_place<K: Sink>(page: &mut Page, sink: &mut K, segs: &[Seg]) -> Result<(), Failed>
+    ensures { PutsText K.told K.written K.faults sink.old sink.new page.old page.new
+        (place_text segs.now) (is_ok result) }
+{
+    page.put(sink, b"\\")?;
+    put_segments(page, sink, segs)
+}
+
+/// Puts a path as it is written.
+pub fn put_path<K: Sink>(page: &mut Page, sink: &mut K, path: &Path) -> Result<(), Failed>
+    ensures { PutsText K.told K.written K.faults sink.old sink.new page.old page.new
+        (path_text path.now) (is_ok result) }
+{
+    put_prefix(page, sink, path)?;
+    put_segments(page, sink, path.segs.as_slice())
+}
+
+fn put_prefix<K: Sink>(page: &mut Page, sink: &mut K, path: &Path) -> Result<(), Failed>
+    ensures { PutsText K.told K.written K.faults sink.old sink.new page.old page.new
+        (path_prefix path.now) (is_ok result) }
+{
+    if path.root {
+        return page.put(sink, b"\\");
+    }
+    for _step in 0..path.ups {
+        page.put(sink, b"^")?;
+    }
+    Ok(())
+}
+
+fn put_segments<K: Sink>(page: &mut Page, sink: &mut K, segs: &[Seg]) -> Result<(), Failed>
+    ensures { PutsText K.told K.written K.faults sink.old sink.new page.old page.new
+        (segments_text segs.now) (is_ok result) }
+{
+    match segs.split_first() {
+        None => Ok(()),
+        Some((first, rest)) => {
+            page.put(sink, &first.bytes())?;
+            put_behind_dots(page, sink, rest)
+        }
+    }
+}
+
+fn put_behind_dots<K: Sink>(page: &mut Page, sink: &mut K, segs: &[Seg]) -> Result<(), Failed>
+    ensures { PutsText K.told K.written K.faults sink.old sink.new page.old page.new
+        (flat_map (λ seg. 46 ∷ seg) segs.now) (is_ok result) }
+{
+    for seg in segs {
+        put_behind_dot(page, sink, *seg)?;
+    }
+    Ok(())
+}
+
+fn put_behind_dot<K: Sink>(page: &mut Page, sink: &mut K, seg: Seg) -> Result<(), Failed>
+    ensures { PutsText K.told K.written K.faults sink.old sink.new page.old page.new
+        (46 ∷ seg) (is_ok result) }
+{
+    page.put(sink, b".")?;
+    page.put(sink, &seg.bytes())
+}
