@@ -1,0 +1,11 @@
+pub mod Ranges
+pub mod Lines
+pub mod Lists
+pub mod Csd
+pub mod Smallness
+pub mod TreeLemmas
+pub mod DomainLemmas
+pub mod GroupLemmas
+pub mod Soundness
+pub mod Joining
+pub mod Grouping

@@ -1,0 +1,39 @@
+use Rattle.std.proofs.Common.{◌≡◌, List, length, None, sym, ap, ◌∙◌, vec_len}
+use Rattle.pw_plan.specs.Limits.{limit_passed}
+use Rattle.pw_plan.specs.Planning.{IsPlanOf}
+use Rattle.pw_plan.proofs.Grouping.{are_groups}
+use Rattle.pw_plan.proofs.Soundness.{is_sound, members_exist}
+use Rattle.pw_plan.proofs.plan.Plan.new.Goals as goal
+
+pub groups_of-requires-clause-members : goal.groups_of-requires-clause-members
+groups_of-requires-clause-members c =
+    let within = rw (c.as_slice.ensures.value, c.as_slice-2.ensures.value) at (sym c.limit_passed.ensures ∙ c.in_default.is) in
+    let domains = rw c.as_slice-5.ensures.value at c.in_ok-domains.ensures in
+    let size = rw c.as_slice-2.ensures.value at c.as_slice-2.ensures.len in
+    rw (c.as_slice-6.ensures, domains, c.len.ensures, ← size) (members_exist c.args.containers.items c.args.cpus.items within)
+
+planned : (c : goal.After-from_vec-2) → IsPlanOf c.from_vec.result c.from_vec-2.result c.in_ok-children.children c.in_ok-domains.domains c.in_ok-groups.groups
+planned c =
+    let within = rw (c.as_slice.ensures.value, c.as_slice-2.ensures.value) at (sym c.limit_passed.ensures ∙ c.in_default.is) in
+    let size = rw c.as_slice-2.ensures.value at c.as_slice-2.ensures.len in
+    rw (c.from_vec.ensures, c.from_vec-2.ensures) (record {
+      fit = c.requires;
+      within = within;
+      children_are = rw (c.as_slice-3.ensures.value, c.as_slice-4.ensures.value) at c.in_ok-children.ensures;
+      domains_are = rw c.as_slice-5.ensures.value at c.in_ok-domains.ensures;
+      groups_are = rw (c.as_slice-6.ensures, c.len.ensures, ← size) at c.in_ok-groups.ensures;
+    })
+
+pub invariant_of-result : goal.invariant_of-result
+invariant_of-result c = record {
+  planned = ∣ planned c ∣₁;
+  sound = is_sound c.from_vec.result c.from_vec-2.result c.in_ok-children.children c.in_ok-domains.domains c.in_ok-groups.groups (planned c);
+}
+
+pub returns-clause-joined : goal.returns-clause-joined
+returns-clause-joined c =
+    let within = rw (c.as_slice.ensures.value, c.as_slice-2.ensures.value) at (sym c.limit_passed.ensures ∙ c.in_default.is) in
+    let domains = rw c.as_slice-5.ensures.value at c.in_ok-domains.ensures in
+    let size = rw c.as_slice-2.ensures.value at c.as_slice-2.ensures.len in
+    let groups = rw (c.as_slice-6.ensures, c.len.ensures, ← size) at c.in_ok-groups.ensures in
+    rw groups (are_groups c.in_ok-domains.domains (length c.args.cpus.items) (rw domains (members_exist c.args.containers.items c.args.cpus.items within)))

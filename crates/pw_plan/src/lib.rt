@@ -1,0 +1,25 @@
+//! The plan of a machine: its tree of containers and processors, its dependency domains and groups,
+//! made of the tables that its firmware gives (ACPI 6.5, chapter 8).
+#![tactic(auto)]
+
+mod bounds;
+mod domain;
+mod domains;
+mod fault;
+mod groups;
+mod limits;
+mod parts;
+mod parts_check;
+mod plan;
+mod request;
+#[cfg(test)]
+mod tests;
+mod tree;
+
+pub use bounds::covers;
+pub use domain::{Child, Domain, DomainKind, Group};
+pub use fault::PlanFault;
+pub use parts::{ContainerParts, CpuParts, Scale};
+pub use parts_check::parts_ok;
+pub use plan::Plan;
+pub use request::Request;

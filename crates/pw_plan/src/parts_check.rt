@@ -1,0 +1,158 @@
+ghost use Rattle.std.specs.Prelude.{◌≡◌, ◌↔◌, ◌<◌, ◌≢◌, ℕ, Some, length, true, IsTrue};
+ghost use Rattle.std.specs.List.{list_any};
+ghost use Rattle.acpi_values.specs.declared.idle.IdleKind.TheVariants.{Cst};
+ghost use Rattle.pw_plan.specs.Parts.{FitsCsd, ParentsFall, PartsFit, container_in as the_container};
+ghost use Rattle.pw_plan.specs.Parts.{cpu_in as the_cpu, entry_in as the_entry, has_states as the_states};
+ghost use Rattle.pw_plan.specs.Parts.{is_below as the_below, is_entry as the_entry_test};
+
+use crate::domains::{DomainName, is_entry};
+use crate::parts::{ContainerParts, CpuParts, Scale};
+use acpi_values::{CDependency, IdleKind};
+use aml_data::Seg;
+
+/// Whether a parent's number is below this one.
+fn is_below(bound: usize, parent: Option<u32>) -> bool
+    ensures { result ≡ the_below bound parent }
+{
+    match parent {
+        None => true,
+        Some(number) => (number as usize) < bound,
+    }
+}
+
+/// Whether each container's parent stands before it.
+fn parents_fall(containers: &[ContainerParts]) -> bool
+    ensures { IsTrue result ↔ ParentsFall containers.now }
+{
+    for (number, container) in containers.iter().enumerate() {
+        if !is_below(number, container.parent) {
+            return false;
+        }
+    }
+    true
+}
+
+/// Whether there is no scale, or one with a state.
+fn has_states(scale: &Option<Scale>) -> bool
+    ensures { result ≡ the_states scale.now }
+{
+    match scale {
+        None => true,
+        Some(found) => !found.controls.as_slice().is_empty(),
+    }
+}
+
+fn same_seg(one: &Seg, other: &Seg) -> bool
+    ensures { IsTrue result ↔ (one.now ≡ other.now) }
+{
+    one.bytes() == other.bytes()
+}
+
+/// Whether two lists of segments are the same.
+fn same_segs(one: &[Seg], other: &[Seg]) -> bool
+    ensures { IsTrue result ↔ (one.now ≡ other.now) }
+{
+    if one.len() != other.len() {
+        return false;
+    }
+    for number in 0..one.len() {
+        if !same_seg(&one[number], &other[number]) {
+            return false;
+        }
+    }
+    true
+}
+
+/// Whether two processors have the same path.
+fn same_path(one: &CpuParts, other: &CpuParts) -> bool
+    ensures { IsTrue result ↔ (one.now.path ≡ other.now.path) }
+{
+    same_segs(one.path.segs.as_slice(), other.path.segs.as_slice())
+}
+
+/// Whether an entry of `_CSD` stands among these.
+fn is_repeated(entry: CDependency, others: &[CDependency]) -> bool
+    ensures { result ≡ list_any (the_entry_test entry.domain entry.index) others.now }
+{
+    for other in others {
+        if is_entry(
+            DomainName {
+                number: entry.domain,
+                index: entry.index,
+            },
+            other,
+        ) {
+            return true;
+        }
+    }
+    false
+}
+
+/// An entry of `_CSD`.
+fn entry_in(csd: &[CDependency], number: usize) -> CDependency
+    requires { number < length csd.now }
+    ensures { result ≡ the_entry csd.now number }
+{
+    csd[number]
+}
+
+/// Whether an entry of `_CSD` is about a C state that the processor has.
+fn is_state(cpu: &CpuParts, entry: CDependency) -> bool
+    ensures { IsTrue result ↔ ((cpu.now.idle.kind ≡ Cst) × (entry.index < length cpu.now.idle.rows)) }
+{
+    matches!(cpu.idle.kind, IdleKind::Cst)
+        && (entry.index as usize) < cpu.idle.rows.as_slice().len()
+}
+
+/// Whether the entries of `_CSD` are about states that the processor has, and no two about the same.
+fn fits_csd(cpu: &CpuParts) -> bool
+    ensures { IsTrue result ↔ FitsCsd cpu.now }
+{
+    let csd = cpu.csd.as_slice();
+    for number in 0..csd.len() {
+        let entry = entry_in(csd, number);
+        if !is_state(cpu, entry) {
+            return false;
+        }
+        if is_repeated(entry, &csd[number + 1..]) {
+            return false;
+        }
+    }
+    true
+}
+
+/// Whether no processor behind this one has its path.
+fn is_only(cpus: &[CpuParts], cpu: usize) -> bool
+    requires { cpu < length cpus.now }
+    ensures { IsTrue result ↔ ((q : ℕ) → cpu < q → q < length cpus.now
+        → (the_cpu cpus.now cpu).path ≢ (the_cpu cpus.now q).path) }
+{
+    for other in cpu + 1..cpus.len() {
+        if same_path(&cpus[cpu], &cpus[other]) {
+            return false;
+        }
+    }
+    true
+}
+
+/// Whether parts fit together to a plan: each parent is the number of a container, and less than a
+/// container's own; no two processors have one path; no scale is without a state; each entry of `_CSD`
+/// is about a C state of its processor, and no two of one are about the same domain and state.
+pub fn parts_ok(containers: &[ContainerParts], cpus: &[CpuParts]) -> bool
+    ensures { IsTrue result ↔ PartsFit containers.now cpus.now }
+{
+    if !parents_fall(containers) {
+        return false;
+    }
+    for (number, cpu) in cpus.iter().enumerate() {
+        if !is_below(containers.len(), cpu.parent)
+            || !has_states(&cpu.perf)
+            || !has_states(&cpu.throttle)
+            || !fits_csd(cpu)
+            || !is_only(cpus, number)
+        {
+            return false;
+        }
+    }
+    true
+}
