@@ -1,4 +1,4 @@
-"""Measures `show` of blocks of names: time, peak memory, bytes read and written, and growth.
+"""Measures `show` and `rewrite` of blocks: time, peak memory, bytes read and written, and growth.
 
 usage: measure.py PROGRAM
 Times are the least of several runs, as the program's own processor time and as wall time.
@@ -31,52 +31,109 @@ def block(body):
 def names(size):
     """As many names of double words, each of another path, as fit in a block of this size."""
     count = (size - 36) // 10
-    segments = itertools.islice(itertools.product(FIRST, LATER, LATER, LATER), count)
-    return block(b"".join(b"\x08" + "".join(s).encode() + b"\x0c" + i.to_bytes(4, "little") for i, s in enumerate(segments)))
+    return block(b"".join(b"\x08" + s + b"\x0c" + i.to_bytes(4, "little") for i, s in enumerate(itertools.islice(paths(), count))))
 
 
-def run(program, path):
+def paths():
+    """Segments, each another one."""
+    return ("".join(s).encode() for s in itertools.product(FIRST, LATER, LATER, LATER))
+
+
+def length(content):
+    """A PkgLength before so many bytes, in its shortest spelling."""
+    if content < 63:
+        return bytes([content + 1])
+    for more in (1, 2, 3):
+        whole = content + more + 1
+        if whole < 1 << (4 + 8 * more):
+            return bytes([more << 6 | whole & 15]) + (whole >> 4).to_bytes(more, "little")
+    raise ValueError(content)
+
+
+def package(elements, count):
+    """A package of these bytes of so many elements."""
+    return b"\x12" + length(1 + len(elements)) + bytes([count]) + elements
+
+
+def each(size, value):
+    """As many names of this object, each of another path, as fit in a block of this size."""
+    count = (size - 36) // (5 + len(value))
+    return block(b"".join(b"\x08" + s + value for s in itertools.islice(paths(), count)))
+
+
+def tables(size):
+    """Names of four packages of six numbers, as tables of performance states have them."""
+    state = package(b"\x0b\x60\x09\x0b\x98\x3a\x0a\x0a\x0a\x0a\x0a\x10\x0a\x10", 6)
+    return each(size, package(4 * state, 4))
+
+
+def flat(size):
+    """One package of as many elements of a byte as fit."""
+    count = size - 36 - 16
+    elements = b"\x0c" + count.to_bytes(4, "little") + bytes(count)
+    return block(b"\x08FLAT\x13" + length(len(elements)) + elements)
+
+
+def buffer(size):
+    """One buffer of as many bytes as fit."""
+    count = size - 36 - 16
+    content = b"\x0c" + count.to_bytes(4, "little") + bytes(i & 255 for i in range(count))
+    return block(b"\x08BUFR\x11" + length(len(content)) + content)
+
+
+def nested(size):
+    """Names of packages 32 deep."""
+    value = package(b"", 0)
+    for _ in range(31):
+        value = package(value, 1)
+    return each(size, value)
+
+
+def run(program, command, path):
     """One run: wall seconds, processor seconds, and bytes written."""
     before = resource.getrusage(resource.RUSAGE_CHILDREN)
     start = time.perf_counter()
-    done = subprocess.run([program, "show", path], stdout=subprocess.PIPE, check=True)
+    done = subprocess.run([program, command, path], stdout=subprocess.PIPE, check=True)
     wall = time.perf_counter() - start
     after = resource.getrusage(resource.RUSAGE_CHILDREN)
     busy = after.ru_utime + after.ru_stime - before.ru_utime - before.ru_stime
     return wall, busy, len(done.stdout)
 
 
-def peak_memory(program, path):
+def peak_memory(program, command, path):
     """Peak resident KiB of one run, as GNU time says it; none where it isn't installed."""
     if not os.access("/usr/bin/time", os.X_OK):
         return None
     done = subprocess.run(
-        ["/usr/bin/time", "-f", "%M", program, "show", path], stdout=subprocess.DEVNULL, stderr=subprocess.PIPE, check=True
+        ["/usr/bin/time", "-f", "%M", program, command, path], stdout=subprocess.DEVNULL, stderr=subprocess.PIPE, check=True
     )
     return int(done.stderr)
 
 
 def main():
     program = sys.argv[1]
-    cases = [("42 bytes", block(b"\x08_PPC\x00"))]
-    cases += [(f"{n} MiB of names", names(n << 20)) for n in (1, 2, 4)]
+    cases = [("show", "42 bytes", block(b"\x08_PPC\x00"))]
+    kinds = [("names", names), ("tables", tables), ("one flat package", flat), ("one buffer", buffer), ("nested packages", nested)]
+    for what, made in kinds:
+        for command in ("show", "rewrite"):
+            cases += [(command, f"{n} MiB of {what}", made(n << 20)) for n in (1, 2, 4)]
     print("| work | block, bytes | output, bytes | time, ms | processor, ms | ns a byte | peak memory, KiB | memory a byte | time against half |")
     print("|---|---|---|---|---|---|---|---|---|")
     before = None
     with tempfile.TemporaryDirectory() as folder:
-        for name, content in cases:
+        for command, name, content in cases:
             path = Path(folder) / "block.aml"
             path.write_bytes(content)
-            runs = [run(program, str(path)) for _ in range(RUNS)]
+            runs = [run(program, command, str(path)) for _ in range(RUNS)]
             wall = min(r[0] for r in runs) * 1e3
             busy = min(r[1] for r in runs) * 1e3
-            peak = peak_memory(program, str(path))
+            peak = peak_memory(program, command, str(path))
             growth = f"{wall / before:.2f}" if before and "MiB" in name and not name.startswith("1 ") else ""
             size = len(content)
             large = size > 1 << 16
             a_byte = f"{wall * 1e6 / size:.0f}" if large else ""
             memory = f"{peak * 1024 / size:.1f}" if large and peak else ""
-            print(f"| show, {name} | {size} | {runs[0][2]} | {wall:.1f} | {busy:.1f} | {a_byte} | {peak or 'no GNU time'} | {memory} | {growth} |")
+            print(f"| {command}, {name} | {size} | {runs[0][2]} | {wall:.1f} | {busy:.1f} | {a_byte} | {peak or 'no GNU time'} | {memory} | {growth} |")
             before = wall
 
 

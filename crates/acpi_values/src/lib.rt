@@ -16,4 +16,7 @@ pub use idle::{CState, IdleKind, IdleRow, IdleTable};
 pub use lpi::{EntryMethod, Lpi, LpiState};
 pub use operation::{Chain, Composite, Op};
 pub use performance::{ControlPair, Cpc, CpcEntry, PState, TState};
-pub use register::Register;
+pub use register::{Register, RegisterFault};
+
+#[cfg(test)]
+mod tests;

@@ -4,7 +4,12 @@ use Rattle.aml_data.specs.declared.fault.DataFault.{DataFault}
 use Rattle.aml_data.specs.declared.fault.DataFault.TheVariants.{Memory as no_memory}
 use Rattle.aml_data.specs.Faults.{LetterFails, fails_no_letter, fails_wrong_letter, SegmentFails, fails_at_first, fails_at_second, fails_at_third, fails_at_fourth}
 use Rattle.aml_data.specs.Faults.{SeveralFail, fails_this_segment, fails_later_segment, SegmentsFail, fails_no_segments, fails_in_two, fails_no_count, fails_count_zero}
-use Rattle.aml_data.specs.Faults.{fails_in_many, fails_in_one, NameFails, fails_in_segments, Fails, fails_no_object, fails_other_lead, fails_in_constant}
+use Rattle.aml_data.specs.Faults.{fails_in_many, fails_in_one, NameFails, fails_in_segments, ConstFails, fails_no_constant, fails_few_bytes, fails_other_byte}
+use Rattle.aml_data.specs.Faults.{LenFails, fails_no_length, fails_reserved_bit, fails_few_following, fails_wrong_length, TextFails, fails_no_end, fails_high_byte}
+use Rattle.aml_data.specs.Faults.{Fails, FailsWithin, fails_no_object, fails_other_lead, fails_in_constant, fails_no_second, fails_other_second, fails_in_text, fails_in_path}
+use Rattle.aml_data.specs.Faults.{fails_in_buffer_length, fails_in_buffer_size, fails_too_deep, fails_in_package_length, fails_no_package_count, fails_in_package_elements}
+use Rattle.aml_data.specs.Faults.{fails_var_too_deep, fails_in_var_package_length, fails_in_var_package_count, fails_in_var_package_elements}
+use Rattle.aml_data.specs.Faults.{ElementsFail, fails_too_many, fails_this_element, fails_later_element}
 use Rattle.aml_block.specs.declared.fault.BlockFault.TheVariants.{Data as in_data}
 use Rattle.aml_block.specs.Causes.{data_cause}
 
@@ -41,7 +46,45 @@ segments_cause end _ f (fails_in_one a b c h) = several_cause _ _ _ _ h
 pub name_cause : (end : ℕ) (bytes : List ℕ) (f : DataFault) → NameFails end bytes f → IsCause f
 name_cause end _ f (fails_in_segments p rest prefixed ends h) = segments_cause _ _ _ h
 
+constant_cause : (end : ℕ) (bytes : List ℕ) (f : DataFault) → ConstFails end bytes f → IsCause f
+constant_cause end _ _ fails_no_constant = tt
+constant_cause end _ _ (fails_few_bytes follows few) = tt
+constant_cause end _ _ (fails_other_byte none) = tt
+
+length_cause : (end : ℕ) (bytes : List ℕ) (f : DataFault) → LenFails end bytes f → IsCause f
+length_cause end _ _ fails_no_length = tt
+length_cause end _ _ (fails_reserved_bit le set) = tt
+length_cause end _ _ (fails_few_following none few) = tt
+length_cause end _ _ (fails_wrong_length p rest h wrong) = tt
+
+text_cause : (end : ℕ) (bytes : List ℕ) (f : DataFault) → TextFails end bytes f → IsCause f
+text_cause end _ _ (fails_no_end t all) = tt
+text_cause end _ _ (fails_high_byte t rest all high) = tt
+
+mutual
+  within_cause : (depth end : ℕ) (bytes : List ℕ) (f : DataFault) → FailsWithin depth end bytes f → IsCause f
+  within_cause _ end _ _ fails_no_object = tt
+  within_cause _ end _ _ (fails_other_lead b) = tt
+  within_cause _ end _ _ (fails_in_constant follows few) = tt
+  within_cause _ end _ _ fails_no_second = tt
+  within_cause _ end _ _ (fails_other_second other) = tt
+  within_cause _ end _ f (fails_in_text h) = text_cause _ _ _ h
+  within_cause _ end _ f (fails_in_path begins h) = name_cause _ _ _ h
+  within_cause _ end _ f (fails_in_buffer_length h) = length_cause _ _ _ h
+  within_cause _ end _ f (fails_in_buffer_size p inside rest len h) = constant_cause _ _ _ h
+  within_cause _ end _ _ fails_too_deep = tt
+  within_cause _ end _ f (fails_in_package_length h) = length_cause _ _ _ h
+  within_cause _ end _ _ (fails_no_package_count p rest len) = tt
+  within_cause _ end _ f (fails_in_package_elements p body rest len h) = elements_cause _ _ _ _ _ h
+  within_cause _ end _ _ fails_var_too_deep = tt
+  within_cause _ end _ f (fails_in_var_package_length h) = length_cause _ _ _ h
+  within_cause _ end _ f (fails_in_var_package_count p inside rest len h) = constant_cause _ _ _ h
+  within_cause _ end _ f (fails_in_var_package_elements p c body rest len const h) = elements_cause _ _ _ _ _ h
+
+  elements_cause : (depth count end : ℕ) (bytes : List ℕ) (f : DataFault) → ElementsFail depth count end bytes f → IsCause f
+  elements_cause _ _ end _ _ fails_too_many = tt
+  elements_cause _ _ end _ f (fails_this_element h) = within_cause _ _ _ _ h
+  elements_cause _ _ end _ f (fails_later_element v c rest spelled h) = elements_cause _ _ _ _ _ h
+
 pub object_cause : (end : ℕ) (bytes : List ℕ) (f : DataFault) → Fails end bytes f → IsCause f
-object_cause end _ _ fails_no_object = tt
-object_cause end _ _ (fails_other_lead b) = tt
-object_cause end _ _ (fails_in_constant b few) = tt
+object_cause end bytes f h = within_cause 32 end bytes f h

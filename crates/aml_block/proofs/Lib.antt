@@ -6,3 +6,5 @@ pub mod Headers
 pub mod TermLists
 pub mod Blocks
 pub mod Held
+pub mod WrittenHeaders
+pub mod WrittenBlocks

@@ -9,7 +9,8 @@ use Rattle.aml_data.specs.declared.fault.DataFault.{DataFault}
 use Rattle.aml_data.specs.declared.fault.DataFault.TheVariants as data_faults
 use Rattle.aml_data.specs.Grammar.{Prefix, Segments, spells_no_segment, spells_one_segment, spells_two_segments, spells_many_segments, NameOf, spells_name, Spells}
 use Rattle.aml_data.specs.Faults.{NameFails, Fails}
-use Rattle.aml_data.specs.Reading.{name_at, object_at}
+use Rattle.aml_data.specs.Reading.{name_at}
+use Rattle.aml_data.specs.ReadingObjects.{object_at}
 use Rattle.aml_block.specs.declared.block.Term.{Term}
 use Rattle.aml_block.specs.declared.block.Term.TheVariants.{Name}
 use Rattle.aml_block.specs.declared.fault.BlockFault.{BlockFault}
@@ -25,7 +26,8 @@ use Rattle.aml_block.proofs.Loops.{terms_more}
 use Rattle.aml_data.proofs.Steps.{IsBytes, IsBytes-rest, Takes, chosen}
 use Rattle.aml_data.proofs.Names.{name_takes, name_again}
 use Rattle.aml_data.proofs.NameFaults.{name_fails, name_refused}
-use Rattle.aml_data.proofs.Objects.{object_takes, object_again, object_fails, object_refused}
+use Rattle.aml_data.proofs.Objects.{object_takes, object_again}
+use Rattle.aml_data.proofs.ObjectFaults.{object_fails, object_refused}
 
 -- a Name without its opcode
 abbrev NameTerm : Term → List ℕ → Type 0
@@ -131,7 +133,7 @@ name_term_fails end bytes f fits e =
     elim (bind_err (part (name_at end bytes)) (after_name end) f e) [
       | inl h ↦
           let d = part_err (name_at end bytes) f h in
-          subst (λ g. TermFails end (8 ∷ bytes) g) d.2 (in_name end bytes d.0 (name_fails end bytes d.0 d.1))
+          subst (λ g. TermFails end (8 ∷ bytes) g) d.2 (in_name end bytes d.0 (name_fails end bytes d.0 fits d.1))
       | inr a ↦
           let n = name_takes end bytes a.0 fits (part_ok (name_at end bytes) a.0 a.1) in
           elim (chosen (eqb (length a.0.0.segs) 0) _ _ _ a.2) [
@@ -142,7 +144,7 @@ name_term_fails end bytes f fits e =
               | inl o ↦
                   let d = part_err (object_at end a.0.1) f o in
                   subst (λ g. TermFails end (8 ∷ bytes) g) d.2
-                  (rw n.parts (in_value end a.0.0 n.front a.0.1 d.0 n.spelled (some_segment (length a.0.0.segs) h.0) (object_fails end a.0.1 d.0 d.1)))
+                  (rw n.parts (in_value end a.0.0 n.front a.0.1 d.0 n.spelled (some_segment (length a.0.0.segs) h.0) (object_fails end a.0.1 d.0 n.rest_fits d.1)))
               | inr o ↦ absurd (let impossible = o.2 in cc)
             ]
           ]

@@ -1,6 +1,7 @@
 pub mod Causes
 pub mod Header
 pub mod Spelling
+pub mod Written
 pub mod Faults
 pub mod Reading
 pub mod Answers

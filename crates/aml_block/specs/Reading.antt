@@ -4,7 +4,8 @@ use Rattle.std.specs.Prelude.{◌≡◌, ◌≢◌, ℕ, zero, suc, ◌+◌, ◌
 use Rattle.std.specs.Str.{bytes_eq}
 use Rattle.aml_data.specs.declared.fault.DataFault.{DataFault}
 use Rattle.aml_data.specs.declared.fault.DataFault.TheVariants as data_faults
-use Rattle.aml_data.specs.Reading.{name_at, object_at}
+use Rattle.aml_data.specs.Reading.{name_at}
+use Rattle.aml_data.specs.ReadingObjects.{object_at}
 use Rattle.aml_block.specs.declared.block.Signature.{Signature}
 use Rattle.aml_block.specs.declared.block.Signature.TheVariants.{Dsdt, Ssdt}
 use Rattle.aml_block.specs.declared.block.Header.{Header}

@@ -1,10 +1,11 @@
 ghost use Rattle.std.specs.Prelude.{◌≡◌};
 ghost use Rattle.aml_block.specs.declared.fault.BlockFault.TheVariants as faults;
+ghost use Rattle.aml_block.specs.declared.fault.WriteFault.TheVariants as write_faults;
 ghost use Rattle.aml_block.specs.Causes.{data_cause, file_cause};
 
 use crate::file::FileFault;
 use aml_data::DataFault;
-use pw_base::Memory;
+use pw_base::{Failed, Memory};
 use std::alloc::{AllocError, AllocFailed};
 use thiserror::Error;
 
@@ -99,5 +100,32 @@ impl From<FileFault> for BlockFault {
             FileFault::ReadFault => BlockFault::ReadFault,
             FileFault::Memory => BlockFault::Memory,
         }
+    }
+}
+
+/// Why a block isn't written whole.
+#[derive(Clone, Copy, Debug, PartialEq, Eq, Error)]
+pub enum WriteFault {
+    /// The sink failed.
+    #[error("write fault")]
+    Sink,
+    /// Want of memory.
+    #[error("out of memory")]
+    Memory,
+}
+
+impl From<Memory> for WriteFault {
+    ghost from_gives = { λ _ e. e ≡ write_faults.Memory };
+
+    fn from(_e: Memory) -> WriteFault {
+        WriteFault::Memory
+    }
+}
+
+impl From<Failed> for WriteFault {
+    ghost from_gives = { λ _ e. e ≡ write_faults.Sink };
+
+    fn from(_e: Failed) -> WriteFault {
+        WriteFault::Sink
     }
 }

@@ -30,7 +30,7 @@ fn number_at(bytes: &[u8], at: usize) -> u32
 }
 
 /// The sum of all bytes.
-fn sum_of(bytes: &[u8]) -> u32
+pub(crate) fn sum_of(bytes: &[u8]) -> u32
     requires { length bytes.now ≤ 4194304 }
     ensures { result ≡ sum bytes.now }
 {

@@ -9,14 +9,16 @@ mod laws;
 mod parsing;
 mod reading;
 mod terms;
+mod writing;
 
 pub use block::{Block, Header, Signature, Term};
-pub use fault::{BlockFault, HeaderFault};
+pub use fault::{BlockFault, HeaderFault, WriteFault};
 pub use file::{FileFault, read_all};
 pub use header::LARGEST;
-pub use laws::{one_block, one_fault};
+pub use laws::{one_block, one_fault, written_blocks};
 pub use parsing::parse;
 pub use reading::read;
+pub use writing::{encode_block, is_writable_block, write};
 
 #[cfg(test)]
 mod tests;

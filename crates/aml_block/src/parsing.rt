@@ -3,6 +3,7 @@ ghost use Rattle.aml_data.specs.declared.fault.DataFault.TheVariants.{Memory as 
 ghost use Rattle.aml_block.specs.declared.block.Block.{Block as block};
 ghost use Rattle.aml_block.specs.declared.fault.BlockFault.{BlockFault as fault_type};
 ghost use Rattle.aml_block.specs.Spelling.{BlockSpells};
+ghost use Rattle.aml_block.specs.Written.{IsWritableBlock};
 ghost use Rattle.aml_block.specs.Faults.{BlockFails};
 ghost use Rattle.aml_block.specs.Answers.{IsUnlessMemory, FailsUnlessMemory};
 ghost use Rattle.aml_block.specs.Reading.{Gives, block_at};
@@ -27,6 +28,8 @@ fn block_of(alloc: Global, bytes: &[u8]) -> Result<Block, BlockFault>
 pub fn parse(alloc: Global, bytes: &[u8]) -> Result<Block, BlockFault>
     // What is read is spelled by the bytes.
     ensures found { IfOk result (λ b. BlockSpells b bytes.now) }
+    // What is read can be written.
+    ensures writable { IfOk result IsWritableBlock }
     // What the bytes spell is read, unless memory runs out.
     ensures only { (b : block) → BlockSpells b bytes.now → IsUnlessMemory result b }
     // Otherwise it is the first fault.

@@ -4,6 +4,7 @@ ghost use Rattle.aml_data.specs.declared.fault.DataFault.TheVariants.{Memory as 
 ghost use Rattle.aml_block.specs.declared.block.Block.{Block as block};
 ghost use Rattle.aml_block.specs.declared.fault.BlockFault.{BlockFault as fault_type};
 ghost use Rattle.aml_block.specs.Spelling.{BlockSpells};
+ghost use Rattle.aml_block.specs.Written.{IsWritableBlock};
 ghost use Rattle.aml_block.specs.Faults.{BlockFails};
 ghost use Rattle.aml_block.specs.Answers.{IsUnlessUnread, FailsUnlessUnread, IsHeldAnd, ForHeld};
 
@@ -24,6 +25,8 @@ pub fn read<F: Files>(alloc: Global, files: &mut F, name: &str) -> Result<Block,
     // What is read is spelled by what the name holds.
     ensures found { IfOk result (λ b.
         IsHeldAnd (F.told files.old) (F.holds files.old name.now) (BlockSpells b)) }
+    // What is read can be written.
+    ensures writable { IfOk result IsWritableBlock }
     // What the held bytes spell is read, unless memory runs out or a read fails.
     ensures only { ForHeld (F.told files.old) (F.holds files.old name.now) (λ content.
         (b : block) → BlockSpells b content → IsUnlessUnread result b) }

@@ -228,3 +228,13 @@ fn failing_reads(rt: HostRuntime) {
         assert_eq!(rt; fault, Some(BlockFault::ReadFault));
     }
 }
+
+#[test]
+fn what_is_read_is_written(rt: HostRuntime) -> Result<(), Fail> {
+    let alloc = rt.alloc();
+    let block = parse(alloc, &NAMED).map_err(|_| Fail::from("no block"))?;
+    assert!(rt; is_writable_block(&block));
+    let written = encode_block(alloc, &block)?;
+    assert_eq!(rt; written.as_slice(), NAMED.as_slice());
+    Ok(())
+}

@@ -172,10 +172,10 @@ wide_fails w k follows end lead rest fault is e =
     let f = number_fails w end rest fault e in
     subst (λ (g : DataFault). ConstFails end (lead ∷ rest) g) f.1 (fails_few_bytes (subst (λ (b : ℕ). Follows b (byte_len w)) (sym is) follows) f.0)
 
-pub constant_fails : (end : ℕ) (bytes : List ℕ) (fault : DataFault) → constant_at end bytes ≡ Err fault → ConstFails end bytes fault
+pub constant_fails : (end : ℕ) (bytes : List ℕ) (fault : DataFault) → IsBytes bytes → constant_at end bytes ≡ Err fault → ConstFails end bytes fault
 unfolding constant_at
-constant_fails end [] fault e = subst (λ (f : DataFault). ConstFails end [] f) (err_is {A = ℕ × List ℕ} (Short end) fault e) fails_no_constant
-constant_fails end (lead ∷ rest) fault e =
+constant_fails end [] fault fits e = subst (λ (f : DataFault). ConstFails end [] f) (err_is {A = ℕ × List ℕ} (Short end) fault e) fails_no_constant
+constant_fails end (lead ∷ rest) fault fits e =
     elim (chosen (eqb lead 0) _ _ _ e) [
       | inl h ↦ absurd (let impossible = h.1 in cc)
       | inr h0 ↦

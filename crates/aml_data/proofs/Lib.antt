@@ -1,7 +1,16 @@
 pub mod Steps
 pub mod Constants
+pub mod LengthSpellings
 pub mod Names
 pub mod NameFaults
+pub mod Texts
+pub mod Leads
 pub mod Objects
+pub mod ObjectFaults
 pub mod Places
+pub mod LengthPlaces
 pub mod SegmentLoop
+pub mod ElementLoop
+pub mod Appending
+pub mod WrittenLayers
+pub mod WrittenLengths

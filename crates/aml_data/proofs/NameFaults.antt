@@ -8,7 +8,7 @@ use Rattle.aml_data.specs.Reading.{◌>>=◌, letter_at, segment_at, several_at,
 use Rattle.aml_data.specs.Faults.{LetterFails, fails_no_letter, fails_wrong_letter, SegmentFails, fails_at_first, fails_at_second, fails_at_third, fails_at_fourth}
 use Rattle.aml_data.specs.Faults.{SeveralFail, fails_this_segment, fails_later_segment}
 use Rattle.aml_data.specs.Faults.{SegmentsFail, fails_no_segments, fails_in_two, fails_no_count, fails_count_zero, fails_in_many, fails_in_one, NameFails, fails_in_segments}
-use Rattle.aml_data.proofs.Steps.{bind_err, chosen, err_is}
+use Rattle.aml_data.proofs.Steps.{bind_err, chosen, err_is, IsBytes}
 use Rattle.aml_data.proofs.Names.{letter_takes, letter_again, segment_takes, segment_again, prefix_parts, prefix_again, path_of}
 
 -- ---- one segment
@@ -148,9 +148,9 @@ segments_refused end bytes fault (fails_in_one {b = b} {rest = r} not_none not_t
 
 -- ---- names
 
-pub name_fails : (end : ℕ) (bytes : List ℕ) (fault : DataFault) → name_at end bytes ≡ Err fault → NameFails end bytes fault
+pub name_fails : (end : ℕ) (bytes : List ℕ) (fault : DataFault) → IsBytes bytes → name_at end bytes ≡ Err fault → NameFails end bytes fault
 unfolding name_at
-name_fails end bytes fault e =
+name_fails end bytes fault fits e =
     let p = prefix_parts bytes in
     elim (bind_err (segments_at end (prefix_at bytes).2) (λ s. Ok (path_of (prefix_at bytes) s.0, s.1)) fault e) [
       | inl h ↦ subst (λ (r : List ℕ). NameFails end r fault) (sym p.parts) (fails_in_segments p.front (prefix_at bytes).2 p.spelled p.ends (segments_fails end (prefix_at bytes).2 fault h))

@@ -1,5 +1,5 @@
 -- Names: what is read is spelled so, and what is spelled so is read.
-use Rattle.std.proofs.Common.{◌≡◌, ◌≢◌, ◌<◌, ◌+◌, ◌⊎◌, ℕ, zero, suc, Bool, true, false, eqb, IsTrue, List, [], ◌∷◌, ◌++◌, length, replicate, Ok}
+use Rattle.std.proofs.Common.{◌≡◌, ◌≢◌, ◌<◌, ◌+◌, ℕ, zero, suc, Bool, true, false, eqb, IsTrue, List, [], ◌∷◌, ◌++◌, length, replicate, Ok}
 use Rattle.std.proofs.Common.{refl, ap, sym, subst, ◌∙◌, append_assoc, arith, inl, inr}
 use Rattle.std.specs.List.{AllByRecursion}
 use Rattle.std.proofs.lemmas.Bool.{eqb-true, eqb-false, ne_eqb}
@@ -8,7 +8,7 @@ use Rattle.aml_data.specs.Segment.{is_letter, is_word, IsSegment, joined}
 use Rattle.aml_data.specs.Grammar.{Prefix, spells_root, spells_ups, Segments, spells_no_segment, spells_one_segment, spells_two_segments, spells_many_segments, NameOf, spells_name}
 use Rattle.aml_data.specs.Reading.{◌>>=◌, letter_at, segment_at, several_at, many_at, segments_at, ups_at, prefix_at, name_at}
 use Rattle.aml_data.specs.Faults.{EndsPrefix, ends_root, ends_bytes, ends_ups}
-use Rattle.aml_data.proofs.Steps.{done, bind_ok, chosen, ok_is, IsBytes, IsBytes-rest, IsBytes-after, Takes}
+use Rattle.aml_data.proofs.Steps.{done, bind_ok, chosen, known, ok_is, IsBytes, IsBytes-rest, IsBytes-after, Takes}
 
 -- ---- one segment
 
@@ -183,10 +183,6 @@ segments_again end ss c rest (spells_two_segments ts count all) = several_again_
 segments_again end ss c rest (spells_many_segments ts some few all) = many_again end ts rest some all
 
 -- ---- the prefix
-
-known : (b : Bool) → (b ≡ true) ⊎ (b ≡ false)
-known true = inl refl
-known false = inr refl
 
 ups_more : (b : ℕ) (bytes : List ℕ) → eqb b 94 ≡ true → ups_at (b ∷ bytes) ≡ (suc (ups_at bytes).0, (ups_at bytes).1)
 ups_more b bytes h = rw h refl

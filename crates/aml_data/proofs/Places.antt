@@ -16,7 +16,7 @@ abbrev pub Again : {A : Type 0} → (A → List ℕ → Type 0) → (ℕ → Lis
 Again {A} S read = (end : ℕ) (v : A) (c rest : List ℕ) → S v c → read end (c ++ rest) ≡ Ok (v, rest)
 
 abbrev pub Failing : {A : Type 0} → (ℕ → List ℕ → DataFault → Type 0) → (ℕ → List ℕ → Read A) → Type 0
-Failing F read = (end : ℕ) (bytes : List ℕ) (fault : DataFault) → read end bytes ≡ Err fault → F end bytes fault
+Failing F read = (end : ℕ) (bytes : List ℕ) (fault : DataFault) → IsBytes bytes → read end bytes ≡ Err fault → F end bytes fault
 
 abbrev pub Refused : {A : Type 0} → (ℕ → List ℕ → DataFault → Type 0) → (ℕ → List ℕ → Read A) → Type 0
 Refused F read = (end : ℕ) (bytes : List ℕ) (fault : DataFault) → F end bytes fault → read end bytes ≡ Err fault
@@ -87,10 +87,10 @@ pub is_only : {A : Type 0} (S : A → List ℕ → Type 0) (read : ℕ → List 
 is_only S read again bytes at (Ok x) given v n h = ok_is x (v, n) (sym given ∙ place_again S read again bytes at v n h)
 is_only S read again bytes at (Err e) given v n h = is_memory e (λ other. no_ok_err (v, n) e (sym (place_again S read again bytes at v n h) ∙ given other))
 
-pub is_fault : {A : Type 0} (F : ℕ → List ℕ → DataFault → Type 0) (read : ℕ → List ℕ → Read A) → Failing F read → (bytes : List ℕ) (at : ℕ) (r : Result (A × ℕ) DataFault)
+pub is_fault : {A : Type 0} (F : ℕ → List ℕ → DataFault → Type 0) (read : ℕ → List ℕ → Read A) → Failing F read → (bytes : List ℕ) (at : ℕ) (r : Result (A × ℕ) DataFault) → IsBytes bytes
     → Gives (λ x. x) r (from_place read at bytes) → IfErr r (λ f. f ≢ Memory → F (length bytes) (drop at bytes) f)
-is_fault F read fails bytes at (Ok x) given = tt
-is_fault F read fails bytes at (Err e) given = λ other. fails (length bytes) (drop at bytes) e (place_fails read bytes at e (given other))
+is_fault F read fails bytes at (Ok x) fits given = tt
+is_fault F read fails bytes at (Err e) fits given = λ other. fails (length bytes) (drop at bytes) e (IsBytes-drop at bytes fits) (place_fails read bytes at e (given other))
 
 pub is_refused : {A : Type 0} (F : ℕ → List ℕ → DataFault → Type 0) (read : ℕ → List ℕ → Read A) → Refused F read → (bytes : List ℕ) (at : ℕ) (r : Result (A × ℕ) DataFault)
     → Gives (λ x. x) r (from_place read at bytes) → (f : DataFault) → F (length bytes) (drop at bytes) f → IsFaultUnlessMemory r f
@@ -112,10 +112,10 @@ pub told_only : {A : Type 0} (S : A → List ℕ → Type 0) (read : ℕ → Lis
     → Tells (λ x. x) r (from_place read at bytes) → (v : A) (n : ℕ) → IsSpelledAt S bytes at v n → r ≡ Ok (v, n)
 told_only S read again bytes at r given v n h = sym (told_is r (from_place read at bytes) given) ∙ place_again S read again bytes at v n h
 
-pub told_fault : {A : Type 0} (F : ℕ → List ℕ → DataFault → Type 0) (read : ℕ → List ℕ → Read A) → Failing F read → (bytes : List ℕ) (at : ℕ) (r : Result (A × ℕ) DataFault)
+pub told_fault : {A : Type 0} (F : ℕ → List ℕ → DataFault → Type 0) (read : ℕ → List ℕ → Read A) → Failing F read → (bytes : List ℕ) (at : ℕ) (r : Result (A × ℕ) DataFault) → IsBytes bytes
     → Tells (λ x. x) r (from_place read at bytes) → IfErr r (λ f. F (length bytes) (drop at bytes) f)
-told_fault F read fails bytes at (Ok x) given = tt
-told_fault F read fails bytes at (Err e) given = fails (length bytes) (drop at bytes) e (place_fails read bytes at e given)
+told_fault F read fails bytes at (Ok x) fits given = tt
+told_fault F read fails bytes at (Err e) fits given = fails (length bytes) (drop at bytes) e (IsBytes-drop at bytes fits) (place_fails read bytes at e given)
 
 pub told_refused : {A : Type 0} (F : ℕ → List ℕ → DataFault → Type 0) (read : ℕ → List ℕ → Read A) → Refused F read → (bytes : List ℕ) (at : ℕ) (r : Result (A × ℕ) DataFault)
     → Tells (λ x. x) r (from_place read at bytes) → (f : DataFault) → F (length bytes) (drop at bytes) f → r ≡ Err f

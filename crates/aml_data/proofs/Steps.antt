@@ -1,5 +1,5 @@
 -- What a step of reading answered, and what a part took from the front of the bytes.
-use Rattle.std.proofs.Common.{◌≡◌, ◌<◌, ◌+◌, ◌⊎◌, ℕ, suc, Bool, true, false, cond, List, ◌∷◌, ◌++◌, length, get_or, take, drop, Result, Ok, Err, refl, arith, inl, inr}
+use Rattle.std.proofs.Common.{◌≡◌, ◌<◌, ◌+◌, ◌⊎◌, ℕ, suc, Bool, true, false, cond, List, ◌∷◌, ◌++◌, length, get_or, take, drop, Result, Ok, Err, refl, subst, arith, inl, inr}
 use Rattle.std.proofs.lemmas.Bool.{cases_lt}
 use Rattle.std.proofs.lemmas.List.{get_or-drop, get_or-take, get_or_past, length-take, drop_at}
 use Rattle.aml_data.specs.declared.fault.DataFault.{DataFault}
@@ -28,6 +28,10 @@ bind_err (Err c) f d e = inl cc
 pub chosen : {A : Type 0} (b : Bool) (x y z : A) → cond b x y ≡ z → ((b ≡ true) × (x ≡ z)) ⊎ ((b ≡ false) × (y ≡ z))
 chosen true x y z e = inl (refl, e)
 chosen false x y z e = inr (refl, e)
+
+pub known : (b : Bool) → (b ≡ true) ⊎ (b ≡ false)
+known true = inl refl
+known false = inr refl
 
 pub ok_is : {A : Type 0} (x y : A) → done x ≡ done y → x ≡ y
 ok_is x y e = cc
@@ -62,6 +66,9 @@ IsBytes-rest b bytes h i = h (suc i)
 pub IsBytes-after : (front rest : List ℕ) → IsBytes (front ++ rest) → IsBytes rest
 IsBytes-after front rest h = rw (drop_at front rest (length front) refl) at (IsBytes-drop (length front) (front ++ rest) h)
 
+pub IsBytes-same : (bytes others : List ℕ) → bytes ≡ others → IsBytes bytes → IsBytes others
+IsBytes-same bytes others e h = subst IsBytes e h
+
 -- ---- parts
 
 -- What was read from bytes: they begin with a spelling of it, and the rest follows.
@@ -75,3 +82,7 @@ pub record Takes {A : Type 0} (Spelling : A → List ℕ → Type 0) (bytes : Li
 pub Takes-as : {A B : Type 0} (S : A → List ℕ → Type 0) (R : B → List ℕ → Type 0) (bytes : List ℕ) (x : A × List ℕ) (y : B)
     → ((c : List ℕ) → S x.0 c → R y c) → Takes S bytes x → Takes R bytes (y, x.1)
 Takes-as S R bytes x y f t = record { front = t.front; parts = t.parts; spelled = f t.front t.spelled; rest_fits = t.rest_fits }
+
+-- the same of the answer that was met
+pub Takes-is : {A : Type 0} (S : A → List ℕ → Type 0) (bytes : List ℕ) (y x : A × List ℕ) → done y ≡ done x → Takes S bytes y → Takes S bytes x
+Takes-is {A} S bytes y x e t = subst (λ (z : A × List ℕ). Takes S bytes z) (ok_is y x e) t

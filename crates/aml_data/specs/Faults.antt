@@ -1,10 +1,12 @@
 -- The first fault: the parts before it are spelled in order, and the next part fails. The bytes end at `end`, so a
 -- byte that stands before n more has the place end - (n + 1).
-use Rattle.std.specs.Prelude.{◌≡◌, ◌≢◌, ℕ, suc, ◌-◌, ◌<◌, Bool, true, false, IsTrue, List, [], ◌∷◌, ◌++◌, length}
+use Rattle.std.specs.Prelude.{◌≡◌, ◌≢◌, ◌⊎◌, ℕ, zero, suc, ◌+◌, ◌-◌, ◌/◌, ◌%◌, ◌<◌, ◌≤◌, Bool, true, false, IsTrue, List, [], ◌∷◌, ◌++◌, length}
+use Rattle.std.specs.List.{AllByRecursion}
+use Rattle.aml_data.specs.declared.data.Data.{Data}
 use Rattle.aml_data.specs.declared.fault.DataFault.{DataFault}
-use Rattle.aml_data.specs.declared.fault.DataFault.TheVariants.{Short, BadLead, BadName}
-use Rattle.aml_data.specs.Grammar.{Prefix}
-use Rattle.aml_data.specs.Segment.{is_letter, is_word, IsSegment}
+use Rattle.aml_data.specs.declared.fault.DataFault.TheVariants.{Short, BadLead, BadLength, BadName, BadText, TooMany, TooDeep}
+use Rattle.aml_data.specs.Grammar.{Const, Len, Prefix, IsAscii, SpellsWithin}
+use Rattle.aml_data.specs.Segment.{is_letter, is_word, IsSegment, begins_name}
 
 -- how many bytes follow the lead byte of an integer constant
 pub data Follows : ℕ → ℕ → Type 0 where
@@ -22,6 +24,23 @@ pub data ConstFails : ℕ → List ℕ → DataFault → Type 0 where
   fails_no_constant : {end : ℕ} → ConstFails end [] (Short end)
   fails_few_bytes : {end lead n : ℕ} {rest : List ℕ} → Follows lead n → length rest < n → ConstFails end (lead ∷ rest) (Short end)
   fails_other_byte : {end lead : ℕ} {rest : List ℕ} → IsNoConstant lead → ConstFails end (lead ∷ rest) (BadLead (end - length (lead ∷ rest)) lead)
+
+-- PkgLength: the reserved bits of its lead byte, then the bytes that follow it, then whether the length is at least that of
+-- its own bytes and at most that of all bytes (ACPI 6.5, 20.2.4)
+pub data LenFails : ℕ → List ℕ → DataFault → Type 0 where
+  fails_no_length : {end : ℕ} → LenFails end [] (Short end)
+  fails_reserved_bit : {end lead : ℕ} {rest : List ℕ} → 64 ≤ lead → lead / 16 % 4 ≢ 0
+      → LenFails end (lead ∷ rest) (BadLength (end - length (lead ∷ rest)))
+  fails_few_following : {end lead : ℕ} {rest : List ℕ} → (64 ≤ lead → lead / 16 % 4 ≡ 0) → length rest < lead / 64
+      → LenFails end (lead ∷ rest) (Short end)
+  fails_wrong_length : {end n : ℕ} (p rest : List ℕ) → Len n p → (n < length p) ⊎ (length (p ++ rest) < n)
+      → LenFails end (p ++ rest) (BadLength (end - length (p ++ rest)))
+
+-- a string behind its lead byte: its bytes up to the 0 that ends it
+pub data TextFails : ℕ → List ℕ → DataFault → Type 0 where
+  fails_no_end : {end : ℕ} (t : List ℕ) → AllByRecursion IsAscii t → TextFails end t (Short end)
+  fails_high_byte : {end b : ℕ} (t rest : List ℕ) → AllByRecursion IsAscii t → 128 ≤ b
+      → TextFails end (t ++ b ∷ rest) (BadText (end - length (b ∷ rest)))
 
 -- a byte that must pass a test
 pub data LetterFails (test : ℕ → Bool) : ℕ → List ℕ → DataFault → Type 0 where
@@ -68,9 +87,50 @@ pub data NameFails : ℕ → List ℕ → DataFault → Type 0 where
 -- a byte that begins no data object
 pub record BeginsNothing (lead : ℕ) : Type 0 where
   pub constant : IsNoConstant lead
+  pub ones : lead ≢ 255
+  pub revision : lead ≢ 91
+  pub string : lead ≢ 13
+  pub buffer : lead ≢ 17
+  pub pack : lead ≢ 18
+  pub var_pack : lead ≢ 19
+  pub name : begins_name lead ≡ false
 
--- a data object: its lead byte, and then the part that the lead byte says
-pub data Fails : ℕ → List ℕ → DataFault → Type 0 where
-  fails_no_object : {end : ℕ} → Fails end [] (Short end)
-  fails_other_lead : {end lead : ℕ} {rest : List ℕ} → BeginsNothing lead → Fails end (lead ∷ rest) (BadLead (end - length (lead ∷ rest)) lead)
-  fails_in_constant : {end lead n : ℕ} {rest : List ℕ} → Follows lead n → length rest < n → Fails end (lead ∷ rest) (Short end)
+-- A data object that may nest so deep: its lead byte, and then the parts that the lead byte says. In a package these are
+-- the nesting, the PkgLength, the count and the elements; what is inside a PkgLength ends where its bytes end.
+mutual
+  pub data FailsWithin : ℕ → ℕ → List ℕ → DataFault → Type 0 where
+    fails_no_object : {depth end : ℕ} → FailsWithin depth end [] (Short end)
+    fails_other_lead : {depth end lead : ℕ} {rest : List ℕ} → BeginsNothing lead
+        → FailsWithin depth end (lead ∷ rest) (BadLead (end - length (lead ∷ rest)) lead)
+    fails_in_constant : {depth end lead n : ℕ} {rest : List ℕ} → Follows lead n → length rest < n → FailsWithin depth end (lead ∷ rest) (Short end)
+    fails_no_second : {depth end : ℕ} → FailsWithin depth end (91 ∷ []) (Short end)
+    fails_other_second : {depth end b : ℕ} {rest : List ℕ} → b ≢ 48 → FailsWithin depth end (91 ∷ b ∷ rest) (BadLead (end - length (b ∷ rest)) b)
+    fails_in_text : {depth end : ℕ} {rest : List ℕ} {fault : DataFault} → TextFails end rest fault → FailsWithin depth end (13 ∷ rest) fault
+    fails_in_path : {depth end lead : ℕ} {rest : List ℕ} {fault : DataFault} → begins_name lead ≡ true → NameFails end (lead ∷ rest) fault
+        → FailsWithin depth end (lead ∷ rest) fault
+    fails_in_buffer_length : {depth end : ℕ} {rest : List ℕ} {fault : DataFault} → LenFails end rest fault → FailsWithin depth end (17 ∷ rest) fault
+    fails_in_buffer_size : {depth end : ℕ} {fault : DataFault} (p inside rest : List ℕ) → Len (length p + length inside) p
+        → ConstFails (end - length rest) inside fault → FailsWithin depth end (17 ∷ (p ++ (inside ++ rest))) fault
+    fails_too_deep : {end : ℕ} {rest : List ℕ} → FailsWithin zero end (18 ∷ rest) (TooDeep (end - length (18 ∷ rest)))
+    fails_in_package_length : {depth end : ℕ} {rest : List ℕ} {fault : DataFault} → LenFails end rest fault → FailsWithin (suc depth) end (18 ∷ rest) fault
+    fails_no_package_count : {depth end : ℕ} (p rest : List ℕ) → Len (length p) p → FailsWithin (suc depth) end (18 ∷ (p ++ rest)) (Short (end - length rest))
+    fails_in_package_elements : {depth end count : ℕ} {fault : DataFault} (p body rest : List ℕ) → Len (length p + length (count ∷ body)) p
+        → ElementsFail depth count (end - length rest) body fault → FailsWithin (suc depth) end (18 ∷ (p ++ ((count ∷ body) ++ rest))) fault
+    fails_var_too_deep : {end : ℕ} {rest : List ℕ} → FailsWithin zero end (19 ∷ rest) (TooDeep (end - length (19 ∷ rest)))
+    fails_in_var_package_length : {depth end : ℕ} {rest : List ℕ} {fault : DataFault} → LenFails end rest fault → FailsWithin (suc depth) end (19 ∷ rest) fault
+    fails_in_var_package_count : {depth end : ℕ} {fault : DataFault} (p inside rest : List ℕ) → Len (length p + length inside) p
+        → ConstFails (end - length rest) inside fault → FailsWithin (suc depth) end (19 ∷ (p ++ (inside ++ rest))) fault
+    fails_in_var_package_elements : {depth end count : ℕ} {fault : DataFault} (p c body rest : List ℕ) → Len (length p + length (c ++ body)) p → Const count c
+        → ElementsFail depth count (end - length rest) body fault → FailsWithin (suc depth) end (19 ∷ (p ++ ((c ++ body) ++ rest))) fault
+
+  -- the elements of a package of so many, where its bytes go on: one too many, this one, or one after it
+  pub data ElementsFail : ℕ → ℕ → ℕ → List ℕ → DataFault → Type 0 where
+    fails_too_many : {depth end b : ℕ} {rest : List ℕ} → ElementsFail depth 0 end (b ∷ rest) (TooMany (end - length (b ∷ rest)))
+    fails_this_element : {depth count end b : ℕ} {rest : List ℕ} {fault : DataFault} → FailsWithin depth end (b ∷ rest) fault
+        → ElementsFail depth (suc count) end (b ∷ rest) fault
+    fails_later_element : {depth count end : ℕ} {fault : DataFault} (v : Data) (c rest : List ℕ) → SpellsWithin depth v c
+        → ElementsFail depth count end rest fault → ElementsFail depth (suc count) end (c ++ rest) fault
+
+-- a data object, at most 32 levels deep
+abbrev pub Fails : ℕ → List ℕ → DataFault → Type 0
+Fails end bytes fault = FailsWithin 32 end bytes fault

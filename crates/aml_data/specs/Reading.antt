@@ -1,13 +1,11 @@
 -- Reading from left to right, with the first fault that is met. `end` is the place where the bytes end, so the
 -- place of a byte is `end` less the number of bytes from it on.
-use Rattle.std.specs.Prelude.{◌≡◌, ◌≢◌, ℕ, zero, suc, ◌-◌, Bool, true, false, List, [], ◌∷◌, length, take, drop, Result, Ok, Err, nat_lt, ◌==◌, if◌then◌else◌}
+use Rattle.std.specs.Prelude.{◌≡◌, ◌≢◌, ℕ, zero, suc, ◌+◌, ◌-◌, ◌*◌, ◌/◌, ◌%◌, Bool, true, false, ◌&&◌, not, List, [], ◌∷◌, length, take, drop, Result, Ok, Err, nat_lt, nat_le, ◌==◌, if◌then◌else◌}
 use Rattle.std.specs.Int.{Width, w16, w32, w64, byte_len, from_le_bytes}
-use Rattle.aml_data.specs.declared.data.Data.{Data}
-use Rattle.aml_data.specs.declared.data.Data.TheVariants.{Int}
 use Rattle.aml_data.specs.declared.path.Path.{Path}
 use Rattle.aml_data.specs.Segment.{is_letter, is_word}
 use Rattle.aml_data.specs.declared.fault.DataFault.{DataFault}
-use Rattle.aml_data.specs.declared.fault.DataFault.TheVariants.{Short, BadLead, BadName, Memory}
+use Rattle.aml_data.specs.declared.fault.DataFault.TheVariants.{Short, BadLead, BadLength, BadName, Memory}
 
 -- one step and then the next, up to the first fault
 infixl 10 ◌>>=◌
@@ -51,6 +49,33 @@ constant_at end (lead ∷ rest) =
     else (if lead == 12 then number_at w32 end rest
     else (if lead == 14 then number_at w64 end rest
     else Err (BadLead (end - length (lead ∷ rest)) lead))))))
+
+-- the length that a PkgLength gives, by its lead byte and the bytes that follow
+abbrev pub length_value : ℕ → List ℕ → ℕ
+length_value lead [] = lead
+length_value lead (b ∷ []) = lead % 16 + 16 * b
+length_value lead (b ∷ c ∷ []) = lead % 16 + 16 * b + 4096 * c
+length_value lead (b ∷ c ∷ d ∷ _) = lead % 16 + 16 * b + 4096 * c + 1048576 * d
+
+-- what is left of the length behind a PkgLength of so many following bytes
+abbrev pub left_at : ℕ → ℕ → ℕ → List ℕ → Read ℕ
+left_at end more lead rest =
+    let whole = length_value lead (take more rest) in
+    if nat_le whole more then Err (BadLength (end - length (lead ∷ rest)))
+    else (if nat_lt (length (lead ∷ rest)) whole then Err (BadLength (end - length (lead ∷ rest)))
+    else Ok (whole - more - 1, drop more rest))
+
+-- a PkgLength: how many bytes after it belong to its object
+unfoldable pub length_at : ℕ → List ℕ → Read ℕ
+length_at end [] = Err (Short end)
+length_at end (lead ∷ rest) =
+    if nat_lt 0 (lead / 64) && not (lead / 16 % 4 == 0) then Err (BadLength (end - length (lead ∷ rest)))
+    else (if nat_lt (length rest) (lead / 64) then Err (Short end)
+    else left_at end (lead / 64) lead rest)
+
+-- the bytes that a PkgLength counts after itself
+unfoldable pub window_at : ℕ → List ℕ → Read (List ℕ)
+window_at end bytes = length_at end bytes >>= λ x. Ok (take x.0 x.1, drop x.0 x.1)
 
 -- how many bytes 5E stand in front, and the rest
 abbrev pub ups_at : List ℕ → ℕ × List ℕ
@@ -99,7 +124,3 @@ segments_at end (b ∷ bytes) =
 unfoldable pub name_at : ℕ → List ℕ → Read Path
 name_at end bytes =
     segments_at end (prefix_at bytes).2 >>= λ s. Ok (record { root = (prefix_at bytes).0; ups = (prefix_at bytes).1; segs = s.0 }, s.1)
-
--- a data object
-unfoldable pub object_at : ℕ → List ℕ → Read Data
-object_at end bytes = constant_at end bytes >>= λ n. Ok (Int n.0, n.1)

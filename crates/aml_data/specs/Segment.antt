@@ -18,3 +18,7 @@ IsSegment _ = ⊥
 abbrev pub joined : List (List ℕ) → List ℕ
 joined [] = []
 joined (text ∷ texts) = text ++ joined texts
+
+-- a byte that begins a name with a prefix or a segment
+abbrev pub begins_name : ℕ → Bool
+begins_name b = is_letter b || (b == 92) || (b == 94) || (b == 46) || (b == 47)

@@ -8,7 +8,7 @@ use thiserror::Error;
 /// Why bytes are no name, length or data object: the first fault from left to right, at its place.
 #[derive(Clone, Copy, Debug, PartialEq, Eq, Error)]
 pub enum DataFault {
-    /// A byte is needed here, and the bytes, or the enclosing package, end.
+    /// A byte is needed here, and the bytes, or those of the enclosing buffer or package, end.
     #[error("at {at}: the bytes end here")]
     Short { at: usize },
     /// This byte begins no data object where one is needed, or no integer constant.

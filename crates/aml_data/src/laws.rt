@@ -1,12 +1,12 @@
 //! What the definitions say of themselves.
 
-ghost use Rattle.std.specs.Prelude.{◌≡◌, ℕ, List, ◌++◌};
+ghost use Rattle.std.specs.Prelude.{◌≡◌, ◌≤◌, ℕ, List, ◌++◌, length};
 ghost use Rattle.aml_data.specs.declared.data.Data.{Data};
 ghost use Rattle.aml_data.specs.declared.path.Path.{Path};
 ghost use Rattle.aml_data.specs.declared.fault.DataFault.{DataFault};
-ghost use Rattle.aml_data.specs.Grammar.{Const, NameOf, Spells};
-ghost use Rattle.aml_data.specs.Faults.{ConstFails, NameFails, Fails};
-ghost use Rattle.aml_data.specs.Decoded.{IsSpelledAt};
+ghost use Rattle.aml_data.specs.Grammar.{Const, Len, NameOf, Spells};
+ghost use Rattle.aml_data.specs.Faults.{ConstFails, LenFails, NameFails, Fails};
+ghost use Rattle.aml_data.specs.Decoded.{IsSpelledAt, IsLengthAt};
 
 /// At each place at most one integer constant is spelled, and no spelling begins another.
 pub fn one_constant()
@@ -14,6 +14,14 @@ pub fn one_constant()
         → IsSpelledAt Const bytes at w n → (v ≡ w) × (m ≡ n) }
     ensures prefix { (v w : ℕ) (b c x y : List ℕ) → Const v b → Const w c → b ++ x ≡ c ++ y
         → (v ≡ w) × (b ≡ c) }
+{}
+
+/// At each place there is at most one PkgLength, and no spelling of one begins another.
+pub fn one_length()
+    ensures place { (bytes : List ℕ) (at e f m n : ℕ) → IsLengthAt bytes at e m
+        → IsLengthAt bytes at f n → (e ≡ f) × (m ≡ n) }
+    ensures prefix { (m n : ℕ) (b c x y : List ℕ) → Len m b → Len n c → b ++ x ≡ c ++ y
+        → (m ≡ n) × (b ≡ c) }
 {}
 
 /// At each place at most one name is spelled, and no spelling begins another.
@@ -37,6 +45,14 @@ pub fn one_constant_fault()
     ensures one { (end : ℕ) (b : List ℕ) (f g : DataFault) → ConstFails end b f → ConstFails end b g → f ≡ g }
     ensures apart { (end v : ℕ) (b x : List ℕ) (f : DataFault) → Const v b
         → ConstFails end (b ++ x) f → ⊥ }
+{}
+
+/// Bytes have at most one first fault as a PkgLength, and none where one stands at their front that
+/// counts at least its own bytes and reaches no further than they do.
+pub fn one_length_fault()
+    ensures one { (end : ℕ) (b : List ℕ) (f g : DataFault) → LenFails end b f → LenFails end b g → f ≡ g }
+    ensures apart { (end n : ℕ) (p x : List ℕ) (f : DataFault) → Len n p → length p ≤ n
+        → n ≤ length (p ++ x) → LenFails end (p ++ x) f → ⊥ }
 {}
 
 /// Bytes have at most one first fault as a name, and none where one is spelled at their front.

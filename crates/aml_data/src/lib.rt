@@ -5,27 +5,43 @@ mod bytes;
 mod constant;
 mod data;
 mod decoding;
+mod encoding;
 mod fault;
 mod laws;
+mod length;
+mod lengths;
 mod meaning;
 mod name;
 mod object;
 mod path;
 mod seg;
+mod text;
+mod writable;
+mod writing;
 
 pub use bytes::byte_of;
 pub use constant::constant_of;
 pub use data::{Data, Width, copy_data};
-pub use decoding::{decode, decode_constant, decode_name};
+pub use decoding::{decode, decode_constant, decode_length, decode_name};
+pub use encoding::encode;
 pub use fault::DataFault;
 pub use laws::{
-    one_constant, one_constant_fault, one_name, one_name_fault, one_object, one_object_fault,
+    one_constant, one_constant_fault, one_length, one_length_fault, one_name, one_name_fault,
+    one_object, one_object_fault,
 };
+pub use length::{length_of, window_of};
+pub use lengths::{constant_len, length_len, name_len, written_len};
 pub use meaning::integer;
 pub use name::name_of;
 pub use object::object_of;
 pub use path::{FullPath, Path, copy_full_path, copy_path};
 pub use seg::Seg;
+pub use writable::{is_writable, is_writable_name};
+pub use writing::{encode_constant, encode_length, encode_name};
 
 #[cfg(test)]
+mod object_tests;
+#[cfg(test)]
 mod tests;
+#[cfg(test)]
+mod writing_tests;

@@ -2,7 +2,8 @@ use super::*;
 use pw_base::List;
 use std::test::*;
 
-fn are_segs(segs: &[Seg], want: &[[u8; 4]]) -> bool {
+/// Whether these are segments of these characters.
+pub(crate) fn are_segs(segs: &[Seg], want: &[[u8; 4]]) -> bool {
     segs.len() == want.len()
         && segs
             .iter()

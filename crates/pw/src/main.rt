@@ -2,7 +2,9 @@
 //! What it does with them is the library's `run`.
 #![tactic(auto)]
 
-use pw_base::{Sink, StdFiles, StdSink, put_all};
+ghost use Rattle.std.specs.Prelude.{◌≡◌, codes, if◌then◌else◌};
+
+use pw_base::{StdFiles, StdSink, put_all};
 use pw_cli::run;
 use std::process::ExitCode;
 use std::{env, io};
@@ -17,12 +19,11 @@ fn main(rt: HostRuntime) -> ExitCode {
             let outcome = run(alloc, words.as_slice(), &mut files, &mut out, &mut err);
             ExitCode::from(outcome.status)
         }
-        Err(error) if error.kind() == io::ErrorKind::OutOfMemory => end(
-            &mut err,
-            6,
-            b"no memory\n",
-        ),
-        Err(_) => end(&mut err, 2, b"words: refused\n"),
+        Err(error) => {
+            let (status, line) = early_end(error.kind() == io::ErrorKind::OutOfMemory);
+            let _ = put_all(&mut err, line);
+            ExitCode::from(status)
+        }
     }
 }
 
@@ -37,8 +38,15 @@ fn words(rt: &HostRuntime) -> io::Result<Vec<String>> {
     Ok(words)
 }
 
-/// Ends before a run, with a status and its line.
-fn end<K: Sink>(err: &mut K, status: u8, line: &[u8]) -> ExitCode {
-    let _ = put_all(err, line);
-    ExitCode::from(status)
+/// The status and the line of a run that ends before it begins: for want of memory, or since a word
+/// isn't UTF-8.
+fn early_end(memory: bool) -> (u8, &'static [u8])
+    ensures status { result.0 ≡ (if memory then 6 else 2) }
+    ensures line { result.1.now ≡ (if memory then codes "no memory\n" else codes "words: refused\n") }
+{
+    if memory {
+        (6, b"no memory\n")
+    } else {
+        (2, b"words: refused\n")
+    }
 }

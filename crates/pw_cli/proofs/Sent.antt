@@ -35,3 +35,8 @@ nothing_said told written faults s = λ tells. inl (sym (append-nil (written s))
 -- nothing was printed on it
 pub nothing_printed : {S : Type 0} (told : S → Bool) (written : S → List ℕ) (faults : S → ℕ) (s : S) → Grew (sink_seen told written faults s) (sink_seen told written faults s) []
 nothing_printed told written faults s = λ tells. sym (append-nil (written s))
+
+-- the same of a sink that a call left as it was
+pub nothing_printed_as : {S : Type 0} (told : S → Bool) (written : S → List ℕ) (faults : S → ℕ) (s t : S) → t ≡ s
+    → Grew (sink_seen told written faults s) (sink_seen told written faults t) []
+nothing_printed_as told written faults s t same = λ tells. ap written same ∙ sym (append-nil (written s))

@@ -4,6 +4,8 @@
 mod lines;
 mod outcome;
 mod program;
+mod refusal;
+mod rewrite;
 mod say;
 mod show;
 

@@ -1,9 +1,12 @@
+ghost use Rattle.std.specs.Prelude.{List, ℕ};
 ghost use Rattle.pw_base.specs.Outside.{KeepsFiles, KeepsSink};
+ghost use Rattle.pw_words.specs.Command.{MeansWords};
 ghost use Rattle.pw_words.specs.Words.{texts};
 ghost use Rattle.pw_cli.specs.Seen.{files_seen, sink_seen};
 ghost use Rattle.pw_cli.specs.Runs.{Ran, IsComplete};
 
 use crate::outcome::Outcome;
+use crate::rewrite::rewrite;
 use crate::say::say;
 use crate::show::show;
 use pw_base::{Files, Sink};
@@ -39,6 +42,29 @@ pub fn run<F: Files, K: Sink>(
             say(err, b"words: refused\n");
             Outcome { status: 2 }
         }
-        Some(Command::Show { block }) => show(alloc, block, files, out, err),
+        Some(command) => do_command(alloc, command, files, out, err),
+    }
+}
+
+/// Does what a command asks for.
+fn do_command<F: Files, K: Sink>(
+    alloc: Global,
+    command: Command<'_>,
+    files: &mut F,
+    out: &mut K,
+    err: &mut K,
+) -> Outcome
+    ensures keeps_files { KeepsFiles F.told F.holds F.faults files.old files.new }
+    ensures keeps_out { KeepsSink K.told K.faults out.old out.new }
+    ensures keeps_err { KeepsSink K.told K.faults err.old err.new }
+    ensures ran { (words : List (List ℕ)) → MeansWords command.entry words → Ran words
+        (files_seen F.told F.holds F.faults files.old) (files_seen F.told F.holds F.faults files.new)
+        (sink_seen K.told K.written K.faults out.old) (sink_seen K.told K.written K.faults out.new)
+        (sink_seen K.told K.written K.faults err.old)
+        (sink_seen K.told K.written K.faults err.new) result.status }
+{
+    match command {
+        Command::Show { block } => show(alloc, block, files, out, err),
+        Command::Rewrite { block } => rewrite(alloc, block, files, out, err),
     }
 }

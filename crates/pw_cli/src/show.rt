@@ -1,18 +1,19 @@
-ghost use Rattle.std.specs.Prelude.{◌≡◌, ◌++◌, [], true, List, ℕ, codes, OnOk, OnErr};
+ghost use Rattle.std.specs.Prelude.{◌≡◌, ◌++◌, [], true, List, ℕ, OnOk, OnErr};
 ghost use Rattle.pw_base.specs.Outside.{Rose, KeepsFiles, KeepsSink, GrewByPart};
 ghost use Rattle.acpi_space.specs.Distinct.{IsDistinct};
 ghost use Rattle.acpi_space.specs.Objects.{objects_of, paths_of};
 ghost use Rattle.pw_show.specs.Show.{show_text};
-ghost use Rattle.pw_words.specs.Words.{IsShow};
-ghost use Rattle.pw_cli.specs.Seen.{files_seen, sink_seen, GrewByLine};
-ghost use Rattle.pw_cli.specs.Lines.{fault_line};
+ghost use Rattle.pw_words.specs.Words.{AskFor};
+ghost use Rattle.pw_words.specs.Words.Task.{to_show};
+ghost use Rattle.pw_cli.specs.Seen.{files_seen, sink_seen};
 ghost use Rattle.pw_cli.specs.Runs.{Ran};
-ghost use Rattle.pw_cli.specs.Printed.{BlockPrinted, FaultPrinted};
+ghost use Rattle.pw_cli.specs.Printed.{BlockPrinted};
 
 use crate::outcome::Outcome;
-use crate::say::{say, say_fault, say_twice};
+use crate::refusal::{refuse, without_memory};
+use crate::say::{say, say_twice};
 use acpi_space::first_repeat;
-use aml_block::{Block, BlockFault, Term, read};
+use aml_block::{Block, Term, read};
 use pw_base::{Failed, Files, Sink};
 use pw_show::put_objects;
 use pw_text::Page;
@@ -29,7 +30,7 @@ pub fn show<F: Files, K: Sink>(
     ensures keeps_files { KeepsFiles F.told F.holds F.faults files.old files.new }
     ensures keeps_out { KeepsSink K.told K.faults out.old out.new }
     ensures keeps_err { KeepsSink K.told K.faults err.old err.new }
-    ensures ran { (words : List (List ℕ)) → IsShow words name.now → Ran words
+    ensures ran { (words : List (List ℕ)) → AskFor words to_show name.now → Ran words
         (files_seen F.told F.holds F.faults files.old) (files_seen F.told F.holds F.faults files.new)
         (sink_seen K.told K.written K.faults out.old) (sink_seen K.told K.written K.faults out.new)
         (sink_seen K.told K.written K.faults err.old)
@@ -44,46 +45,6 @@ pub fn show<F: Files, K: Sink>(
     }
 }
 
-fn refuse<K: Sink>(page: &mut Page, err: &mut K, fault: BlockFault) -> Outcome
-    requires { page.old ≡ [] }
-    ensures keeps { KeepsSink K.told K.faults err.old err.new }
-    ensures printed { FaultPrinted fault
-        (sink_seen K.told K.written K.faults err.old)
-        (sink_seen K.told K.written K.faults err.new) result.status }
-{
-    match fault {
-        BlockFault::Memory => without_memory(err),
-        BlockFault::ReadFault => {
-            say(err, b"read fault\n");
-            Outcome { status: 3 }
-        }
-        BlockFault::Header { .. } => refuse_bytes(page, err, fault),
-        BlockFault::Data(_) => refuse_bytes(page, err, fault),
-        BlockFault::BadTerm { .. } => refuse_bytes(page, err, fault),
-    }
-}
-
-fn refuse_bytes<K: Sink>(page: &mut Page, err: &mut K, fault: BlockFault) -> Outcome
-    requires { page.old ≡ [] }
-    ensures status { result.status ≡ 1 }
-    ensures keeps { KeepsSink K.told K.faults err.old err.new }
-    ensures line { GrewByLine (sink_seen K.told K.written K.faults err.old)
-        (sink_seen K.told K.written K.faults err.new) (fault_line fault) }
-{
-    say_fault(page, err, fault);
-    Outcome { status: 1 }
-}
-
-fn without_memory<K: Sink>(err: &mut K) -> Outcome
-    ensures status { result.status ≡ 6 }
-    ensures keeps { KeepsSink K.told K.faults err.old err.new }
-    ensures line { GrewByLine (sink_seen K.told K.written K.faults err.old)
-        (sink_seen K.told K.written K.faults err.new) (codes "no memory\n") }
-{
-    say(err, b"no memory\n");
-    Outcome { status: 6 }
-}
-
 fn show_block<K: Sink>(
     alloc: Global,
     block: &Block,
@@ -94,7 +55,7 @@ fn show_block<K: Sink>(
     requires { page.old ≡ [] }
     ensures keeps_out { KeepsSink K.told K.faults out.old out.new }
     ensures keeps_err { KeepsSink K.told K.faults err.old err.new }
-    ensures printed { BlockPrinted block.now
+    ensures printed { BlockPrinted to_show block.now
         (sink_seen K.told K.written K.faults out.old) (sink_seen K.told K.written K.faults out.new)
         (sink_seen K.told K.written K.faults err.old)
         (sink_seen K.told K.written K.faults err.new) result.status }
@@ -114,7 +75,7 @@ fn print_block<K: Sink>(block: &Block, page: &mut Page, out: &mut K, err: &mut K
     requires distinct { IsDistinct (paths_of (objects_of block.now.terms)) }
     ensures keeps_out { KeepsSink K.told K.faults out.old out.new }
     ensures keeps_err { KeepsSink K.told K.faults err.old err.new }
-    ensures printed { BlockPrinted block.now
+    ensures printed { BlockPrinted to_show block.now
         (sink_seen K.told K.written K.faults out.old) (sink_seen K.told K.written K.faults out.new)
         (sink_seen K.told K.written K.faults err.old)
         (sink_seen K.told K.written K.faults err.new) result.status }

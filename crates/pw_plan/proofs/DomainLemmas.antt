@@ -1,8 +1,8 @@
 -- The domains of a plan: who is in them, and how many there are.
-use Rattle.std.proofs.Common.{◌≡◌, ◌<◌, ◌≤◌, ◌+◌, ◌*◌, ◌==◌, ◌&&◌, ◌||◌, not, ℕ, suc, zero, Bool, true, false, cond, List, [], ◌∷◌, ◌++◌, map, length, get_or, take, Option, Some, None, refl, ap}
-use Rattle.std.proofs.Common.{sym, ◌∙◌, arith, zero-add, length-append, inl, inr}
-use Rattle.std.specs.Prelude.{filter, nat_lt, is_some, is_none, sum_by, All}
-use Rattle.std.specs.List.{flat_map, list_any, range_with_len, position_or_len, AllByRecursion}
+use Rattle.std.proofs.Common.{◌≡◌, ◌<◌, ◌≤◌, ◌*◌, ◌==◌, ◌&&◌, not, ℕ, Bool, true, false, cond, List, [], ◌∷◌, ◌++◌, length, Option, Some, None, refl, ap}
+use Rattle.std.proofs.Common.{sym, ◌∙◌, arith, zero-add, length-append}
+use Rattle.std.specs.Prelude.{filter, nat_lt, is_some, sum_by, All}
+use Rattle.std.specs.List.{list_any, position_or_len, AllByRecursion}
 use Rattle.std.proofs.lemmas.List.Elements.{All-from_recursion}
 use Rattle.std.proofs.lemmas.List.Sums.{sum_by-append, sum_by-le}
 use Rattle.std.proofs.lemmas.Bool.Decides.{nat_tests}
@@ -16,13 +16,13 @@ use Rattle.pw_plan.specs.declared.domain.DomainKind.{DomainKind}
 use Rattle.pw_plan.specs.declared.domain.DomainKind.TheVariants.{Perf, Throttle, Idle}
 use Rattle.pw_plan.specs.declared.domains.DomainName.{DomainName}
 use Rattle.pw_plan.specs.Parts.{cpu_in, no_cpu, scale_of}
-use Rattle.pw_plan.specs.Tree.{places_from}
 use Rattle.pw_plan.specs.Domains.{all_domains, declared_of, dependency_in, domain_with, domains_of, entry_of, is_alone, is_in, is_known, led_by, members_of, name_in, named_domains, names_of}
 use Rattle.pw_plan.specs.Domains.{own_domain}
-use Rattle.pw_plan.specs.Groups.{has_member, is_idle}
+use Rattle.pw_plan.specs.Groups.{has_member, is_idle, no_domain}
 use Rattle.pw_plan.specs.Planning.{HasDomains, covers, opening_by, opening_count, same_kind}
 use Rattle.pw_plan.proofs.Lists.{any_append_left, any_append_right, any_at, any_flat_map, each_append, each_flat_map, each_map, first_place, length-flat_map-le, or_left, places-each, places-has}
 use Rattle.pw_plan.proofs.Lists.{places-length, position-in_first, sum-none}
+use Rattle.pw_plan.proofs.Placing.{Registered, Scaled, Shows, all_show, leads_one, only}
 
 -- # Members
 
@@ -79,19 +79,7 @@ module _ (ps : List CpuParts) (few : length ps ≤ 256) where
       each_append (λ d. opening_count d ≡ 0) (own_domain Idle ps q) (named_domains Idle ps q (names_of Idle (cpu_in ps q))) (idle_own q)
       (each_map (λ d. opening_count d ≡ 0) (λ d. domain_with Idle (Some d) ps q (members_of Idle ps d)) (filter (λ d. not (is_known Idle ps q d)) (names_of Idle (cpu_in ps q))) (λ d. refl))))
 
-  -- # How many domains of scales there are: no processor leads two
-
-  leads_one : (s : Option Scale) (x : Domain) (f : DomainName → Domain) (t : DomainName → Bool) → length ((cond (is_alone s) (x ∷ []) []) ++ map f (filter t (name_in (dependency_in s)))) ≤ 1
-  leads_one None x f t = omega arith
-  leads_one (Some s) x f t = by s.dependency
-    where
-      kept : (b : Bool) (d : DomainName) → length (map f (cond b (d ∷ []) [])) ≤ 1
-      kept true d = omega arith
-      kept false d = omega arith
-
-      by : (e : Option Dependency) → length ((cond (is_none e) (x ∷ []) []) ++ map f (filter t (name_in e))) ≤ 1
-      by None = omega arith
-      by (Some e) = kept (t (record { number = e.domain; index = 0 })) (record { number = e.domain; index = 0 })
+  -- # How many domains of scales there are
 
   perf_few : length (domains_of Perf ps) ≤ length ps
   perf_few = length-flat_map-le (led_by Perf ps) 0 (length ps) (λ q.
@@ -190,6 +178,9 @@ module _ (ps : List CpuParts) (few : length ps ≤ 256) where
         (λ p. p < length ps) d.members) (λ d f. All-from_recursion (λ p. p < length ps) d.members f.0) (all_domains ps) all_fit);
     sizes = All-from_recursion (λ (d : Domain). length d.members ≤ 256) (all_domains ps) (weaker (Fits (length ps)) (λ d. length d.members ≤ 256) (λ d f. f.1) (all_domains ps) all_fit);
     placed = λ kind p lt e. let a = early kind p lt e in rw (length-append (domains_of Perf ps ++ domains_of Throttle ps) (domains_of Idle ps)) (omega (arith, a));
+    only = λ kind d p lt scaled e. only ps kind d p no_domain lt scaled e;
+    scaled = All-from_recursion (Scaled ps) (all_domains ps) (weaker (Shows ps) (Scaled ps) (λ d s. s.0) (all_domains ps) (all_show ps));
+    registered = All-from_recursion (Registered ps) (all_domains ps) (weaker (Shows ps) (Registered ps) (λ d s. s.1) (all_domains ps) (all_show ps));
     few = λ kind p lt e. let a = early kind p lt e in let b = count in omega (arith, a, b);
     opening = opening_small;
   }

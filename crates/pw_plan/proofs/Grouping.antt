@@ -10,7 +10,7 @@ use Rattle.std.proofs.lemmas.List.Elements.{All-from_recursion, recursion_from_A
 use Rattle.std.proofs.lemmas.Bool.Decides.{nat_tests}
 use Rattle.pw_plan.specs.declared.domain.Domain.{Domain}
 use Rattle.pw_plan.specs.declared.domain.Group.{Group}
-use Rattle.pw_plan.specs.Groups.{AreGroups, Chain, here, onward, domain_in, first_of, group_with, groups_of, has_member, is_link, is_linked, label_at, labels_after, labels_of, leads_group}
+use Rattle.pw_plan.specs.Groups.{AreGroups, Chain, here, onward, domain_in, first_of, group_with, groups_of, has_member, is_link, is_linked, label_at, labels_of, leads_group}
 use Rattle.pw_plan.specs.Groups.{no_domain}
 use Rattle.pw_plan.specs.Tree.{places_from}
 use Rattle.pw_plan.proofs.GroupLemmas.{labels_of-length}

@@ -1,20 +1,13 @@
 -- The list of the groups is what groups are.
-use Rattle.std.proofs.Common.{◌≡◌, ◌≢◌, ◌<◌, ◌≤◌, ◌+◌, ◌==◌, ◌&&◌, ◌||◌, not, ℕ, suc, zero, Bool, true, false, cond, List, [], ◌∷◌, map, length, get_or, take, refl, ap, sym, ◌∙◌, arith, zero-add}
-use Rattle.std.proofs.Common.{add-one, inl, inr}
-use Rattle.std.specs.Prelude.{filter, All}
-use Rattle.std.specs.List.{list_any, range_with_len, AllByRecursion}
-use Rattle.std.specs.List.Sorted.{IsStrictlyIncreasing}
-use Rattle.std.proofs.lemmas.List.{get_or-map, get_or_default}
-use Rattle.std.proofs.lemmas.List.FromFn.{get_or-range_with_len, length-range_with_len}
-use Rattle.std.proofs.lemmas.List.Elements.{All-from_recursion, recursion_from_All}
-use Rattle.std.proofs.lemmas.Bool.Decides.{eqb_tells, nat_tests}
+use Rattle.std.proofs.Common.{◌≡◌, ◌<◌, ◌==◌, ◌&&◌, ◌||◌, ℕ, Bool, true, false, cond, List, [], ◌∷◌, length, refl, ap, sym, ◌∙◌, arith}
+use Rattle.std.specs.List.{AllByRecursion}
+use Rattle.std.proofs.lemmas.List.{get_or-map}
+use Rattle.std.proofs.lemmas.Bool.Decides.{nat_tests}
 use Rattle.pw_plan.specs.declared.domain.Domain.{Domain}
-use Rattle.pw_plan.specs.declared.domain.Group.{Group}
-use Rattle.pw_plan.specs.Groups.{AreGroups, Chain, here, onward, domain_in, first_of, group_with, groups_of, has_member, is_link, is_linked, join_members, join_with, label_at, labels_after}
-use Rattle.pw_plan.specs.Groups.{labels_of, leads_group, no_domain, relabel, rename}
-use Rattle.pw_plan.specs.Tree.{places_from}
-use Rattle.pw_plan.proofs.GroupLemmas.{join_members-length, join_with-length, labels_after-length, labels_of-length}
-use Rattle.pw_plan.proofs.Lists.{and_both, and_first, and_second, any_at, first_place, or_second, places-has, places-only}
+use Rattle.pw_plan.specs.Groups.{Chain, here, onward, domain_in, has_member, is_link, is_linked, join_members, join_with, label_at, labels_after}
+use Rattle.pw_plan.specs.Groups.{no_domain, relabel, rename}
+use Rattle.pw_plan.proofs.GroupLemmas.{join_members-length}
+use Rattle.pw_plan.proofs.Lists.{and_both, any_at}
 use Rattle.std.proofs.lemmas.List.{length-map}
 
 -- # Chains

@@ -4,6 +4,7 @@ pub mod Lists
 pub mod Csd
 pub mod Smallness
 pub mod TreeLemmas
+pub mod Placing
 pub mod DomainLemmas
 pub mod GroupLemmas
 pub mod Soundness

@@ -1,9 +1,9 @@
 -- The containers from one on upwards.
-use Rattle.std.proofs.Common.{◌≡◌, ◌<◌, ◌≤◌, ◌+◌, ◌-◌, ℕ, suc, zero, List, [], ◌∷◌, length, Option, Some, None, refl, ap, arith, true}
+use Rattle.std.proofs.Common.{◌≡◌, ◌<◌, ◌≤◌, ℕ, suc, zero, List, [], ◌∷◌, length, Option, Some, None, refl, ap, arith, true}
 use Rattle.std.proofs.lemmas.Bool.Decides.{nat_tests}
 use Rattle.pw_plan.specs.declared.parts.ContainerParts.{ContainerParts}
 use Rattle.pw_plan.specs.Parts.{ParentsFall, container_in, is_below}
-use Rattle.pw_plan.specs.Tree.{line_within, line_from, depth_of}
+use Rattle.pw_plan.specs.Tree.{line_within, line_from}
 
 pub parent_below : (n m : ℕ) (p : Option ℕ) → is_below n p ≡ true → p ≡ Some m → m < n
 parent_below n m None b e = cc

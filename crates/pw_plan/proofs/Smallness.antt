@@ -1,9 +1,9 @@
 -- What the limits leave room for.
-use Rattle.std.proofs.Common.{◌≡◌, ◌<◌, ◌≤◌, ◌+◌, ◌==◌, ℕ, suc, zero, Bool, true, false, cond, List, [], ◌∷◌, ◌++◌, map, length, get_or, Option, Some, None, refl, ap, sym, ◌∙◌, arith, zero-add}
+use Rattle.std.proofs.Common.{◌≡◌, ◌<◌, ◌≤◌, ℕ, suc, zero, Bool, true, false, cond, List, [], ◌∷◌, ◌++◌, map, length, get_or, Option, Some, None, refl, ap, sym, ◌∙◌, arith, zero-add}
 use Rattle.std.proofs.Common.{inl, inr}
 use Rattle.std.specs.Prelude.{find, nat_lt, is_some}
 use Rattle.std.specs.Option.{option_or, option_map}
-use Rattle.std.specs.List.{flat_map, range_with_len, AllByRecursion}
+use Rattle.std.specs.List.{flat_map, AllByRecursion}
 use Rattle.std.proofs.lemmas.List.{get_or-map, get_or_past}
 use Rattle.std.proofs.lemmas.List.FromFn.{get_or-map-range_with_len}
 use Rattle.std.proofs.lemmas.Bool.{cases_lt}
@@ -14,10 +14,8 @@ use Rattle.pw_plan.specs.declared.parts.CpuParts.{CpuParts}
 use Rattle.pw_plan.specs.declared.parts.Scale.{Scale}
 use Rattle.pw_plan.specs.declared.domain.DomainKind.{DomainKind}
 use Rattle.pw_plan.specs.declared.domain.DomainKind.TheVariants.{Perf, Throttle, Idle}
-use Rattle.pw_plan.specs.declared.fault.PlanFault.{PlanFault}
-use Rattle.pw_plan.specs.declared.fault.PlanFault.TheVariants.{Limit}
 use Rattle.pw_plan.specs.Parts.{PartsFit, container_in, count_of, cpu_in, has_states, is_below, no_container, no_cpu, no_table, scale_of}
-use Rattle.pw_plan.specs.Tree.{children_of, containers_of, depth_of, line_from}
+use Rattle.pw_plan.specs.Tree.{containers_of, depth_of, line_from}
 use Rattle.pw_plan.specs.Limits.{capped, child_counts, depths, first_above, limit_passed, passed, state_counts, table_counts}
 use Rattle.pw_plan.specs.Planning.{IsSmall}
 use Rattle.pw_plan.proofs.Lines.{parent_below, line_within-None}

@@ -1,5 +1,5 @@
 -- What follows for the plan of its parts.
-use Rattle.std.proofs.Common.{◌≡◌, ◌<◌, List, length, None, ap, sym, ◌∙◌}
+use Rattle.std.proofs.Common.{◌≡◌, ◌<◌, List, length, None}
 use Rattle.std.specs.Prelude.{All}
 use Rattle.pw_plan.specs.declared.parts.ContainerParts.{ContainerParts}
 use Rattle.pw_plan.specs.declared.parts.CpuParts.{CpuParts}
@@ -7,11 +7,8 @@ use Rattle.pw_plan.specs.declared.domain.Child.{Child}
 use Rattle.pw_plan.specs.declared.domain.Domain.{Domain}
 use Rattle.pw_plan.specs.declared.domain.Group.{Group}
 use Rattle.pw_plan.specs.Limits.{limit_passed}
-use Rattle.pw_plan.specs.Parts.{PartsFit}
-use Rattle.pw_plan.specs.Tree.{all_children}
 use Rattle.pw_plan.specs.Domains.{all_domains}
-use Rattle.pw_plan.specs.Groups.{groups_of}
-use Rattle.pw_plan.specs.Planning.{HasDomains, HasGroups, IsPlanOf, IsSound}
+use Rattle.pw_plan.specs.Planning.{IsPlanOf, IsSound}
 use Rattle.pw_plan.proofs.Smallness.{is_small, limits_of}
 use Rattle.pw_plan.proofs.TreeLemmas.{is_tree}
 use Rattle.pw_plan.proofs.DomainLemmas.{has_domains}

@@ -1,5 +1,5 @@
 -- What stands at a number in a plan.
-use Rattle.std.specs.Prelude.{◌-◌, ℕ, List, [], length, slice_index_or, Option}
+use Rattle.std.specs.Prelude.{◌-◌, ℕ, List, [], slice_index_or, Option}
 use Rattle.std.specs.List.{position_or_len}
 use Rattle.acpi_values.specs.Idle.{rows_of}
 use Rattle.acpi_values.specs.declared.idle.IdleRow.{IdleRow}

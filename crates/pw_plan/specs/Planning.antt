@@ -1,5 +1,5 @@
 -- What holds of every plan, of its lists alone.
-use Rattle.std.specs.Prelude.{◌≡◌, ◌+◌, ◌<◌, ◌≤◌, ◌&&◌, ℕ, Bool, true, false, List, [], length, slice_index_or, Some, None, if◌then◌else◌, nat_lt, sum_by, is_some, All}
+use Rattle.std.specs.Prelude.{◌≡◌, ◌<◌, ◌≤◌, ◌&&◌, ℕ, min, Bool, true, false, List, [], length, slice_index_or, Some, None, if◌then◌else◌, nat_lt, sum_by, is_some, All}
 use Rattle.std.specs.List.{list_all, position_or_len}
 use Rattle.acpi_values.specs.Idle.{rows_of}
 use Rattle.acpi_values.specs.declared.dependency.Coord.{Coord}
@@ -15,8 +15,8 @@ use Rattle.pw_plan.specs.declared.domain.Group.{Group}
 use Rattle.pw_plan.specs.Parts.{PartsFit, container_in, cpu_in, scale_of, count_of}
 use Rattle.pw_plan.specs.Tree.{all_children, containers_of, is_number}
 use Rattle.pw_plan.specs.Limits.{limit_passed}
-use Rattle.pw_plan.specs.Domains.{all_domains}
-use Rattle.pw_plan.specs.Groups.{groups_of, is_idle, has_member}
+use Rattle.pw_plan.specs.Domains.{all_domains, has_register}
+use Rattle.pw_plan.specs.Groups.{domain_in, groups_of, is_idle, has_member}
 
 -- It is the plan of its parts: they fit together and pass no limit, and the rest is made of them.
 pub record IsPlanOf (cs : List ContainerParts) (ps : List CpuParts) (children : List (List Child)) (ds : List Domain) (gs : List Group) : Type 0 where
@@ -65,20 +65,24 @@ same_kind Idle Throttle = false
 abbrev pub covers : DomainKind → ℕ → Domain → Bool
 covers kind p d = same_kind d.kind kind && has_member d.members p
 
--- on how many members a domain's state is set at the start
+-- on how many of so many members a domain's state is set at the start
 abbrev pub opening_by : Coord → ℕ → ℕ
 opening_by SwAll members = members
-opening_by SwAny members = 1
+opening_by SwAny members = min 1 members
 opening_by HwAll members = members
 
 abbrev pub opening_count : Domain → ℕ
 opening_count d = if is_idle d.kind then 0 else if nat_lt 0 d.unfit then 0 else opening_by d.coord (length d.members)
 
--- Domains: their members are processors, and who has a scale is in a domain of that kind.
+-- Domains: their members are processors, and who has a scale is in just one domain of that kind; who is in one has
+-- the scale, and in a fit one its control register.
 pub record HasDomains (ps : List CpuParts) (ds : List Domain) : Type 0 where
   pub members : All (λ (d : Domain). All (λ p. p < length ps) d.members) ds
   pub sizes : All (λ (d : Domain). length d.members ≤ 256) ds
   pub placed : (kind : DomainKind) (p : ℕ) → p < length ps → is_some (scale_of kind (cpu_in ps p)) ≡ true → position_or_len (covers kind p) ds < length ds
+  pub only : (kind : DomainKind) (d p : ℕ) → d < length ds → is_idle kind ≡ false → covers kind p (domain_in ds d) ≡ true → position_or_len (covers kind p) ds ≡ d
+  pub scaled : All (λ (d : Domain). (p : ℕ) → is_idle d.kind ≡ false → has_member d.members p ≡ true → is_some (scale_of d.kind (cpu_in ps p)) ≡ true) ds
+  pub registered : All (λ (d : Domain). (p : ℕ) → d.unfit ≡ 0 → has_member d.members p ≡ true → has_register (scale_of d.kind (cpu_in ps p)) ≡ true) ds
   pub few : (kind : DomainKind) (p : ℕ) → p < length ps → is_some (scale_of kind (cpu_in ps p)) ≡ true → position_or_len (covers kind p) ds < 512
   pub opening : sum_by opening_count ds ≤ 131072
 

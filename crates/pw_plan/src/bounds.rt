@@ -46,7 +46,7 @@ pub fn opening_count(domain: &Domain) -> u32
     let members = domain.members.as_slice().len() as u32;
     match domain.coord {
         Coord::SwAll => members,
-        Coord::SwAny => 1,
+        Coord::SwAny => members.min(1),
         Coord::HwAll => members,
     }
 }

@@ -42,6 +42,11 @@ impl Left {
         (self.status, self.out.written(), self.err.written())
     }
 
+    /// Whether all was done and this printed.
+    fn is_done(&self, text: &[u8]) -> bool {
+        self.status == 0 && self.out.written() == text && self.err.written().is_empty()
+    }
+
     /// Whether the block was refused by this line, and nothing printed.
     fn is_refused(&self, line: &[u8]) -> bool {
         self.status == 1 && self.out.written().is_empty() && self.err.written() == line
@@ -341,6 +346,110 @@ fn a_failing_error_output_changes_no_status(rt: HostRuntime) -> Result<(), Fail>
             let whole = 4 * (k as usize) > line.len().saturating_add(3);
             assert_eq!(rt; left.err.written().len() == line.len(), whole);
         }
+    }
+    Ok(())
+}
+
+const REWRITE: &[&str] = &["rewrite", "one.aml"];
+
+#[test]
+fn objects_are_shown(rt: HostRuntime) -> Result<(), Fail> {
+    let rows: [(&[u8], &[u8]); 9] = [
+        (b"\x08_HID\x0DACPI0007\x00", b"\\_HID = \"ACPI0007\"\n"),
+        (
+            b"\x08OBJ_\x12\x05\x02\x00\x0A\x07",
+            b"\\OBJ_ = Package(2) {0, 7}\n",
+        ),
+        (b"\x08OBJ_\x12\x03\x03\x01", b"\\OBJ_ = Package(3) {1}\n"),
+        (
+            b"\x08OBJ_\x13\x04\x0A\x02\x01",
+            b"\\OBJ_ = VarPackage(2) {1}\n",
+        ),
+        (
+            b"\x08OBJ_\x11\x05\x0A\x02\x01\x02",
+            b"\\OBJ_ = Buffer(2) {01 02}\n",
+        ),
+        (
+            b"\x08OBJ_\x11\x0A\x0E\xFF\xFF\xFF\xFF\xFF\xFF\xFF\xFF",
+            b"\\OBJ_ = Buffer(18446744073709551615) {}\n",
+        ),
+        (b"\x08OBJ_\\._SB_CLU0", b"\\OBJ_ = \\_SB_.CLU0\n"),
+        (b"\x08OBJ_\xFF", b"\\OBJ_ = Ones\n"),
+        (b"\x08OBJ_\x5B\x30", b"\\OBJ_ = Revision\n"),
+    ];
+    for (body, text) in rows {
+        let bytes = block_of(rt.alloc(), b"SSDT", body)?;
+        let left = left_of(rt.alloc(), SHOW, &bytes)?;
+        assert!(rt; left.is_done(text));
+    }
+    Ok(())
+}
+
+#[test]
+fn faulty_objects_are_refused(rt: HostRuntime) -> Result<(), Fail> {
+    let rows: [(&[u8], &[u8]); 8] = [
+        (b"\x08OBJ_\x0D\x80\x00", b"block: at 42 text\n"),
+        (b"\x08OBJ_\x0DAB", b"block: at 44 short\n"),
+        (b"\x08OBJ_\x12\x04\x01\x01\x01", b"block: at 45 too many\n"),
+        (b"\x08OBJ_\x12\x05\x02\x00", b"block: at 42 length\n"),
+        (b"\x08OBJ_\x12\x00", b"block: at 42 length\n"),
+        (b"\x08OBJ_\x12\x50\x00\x00", b"block: at 42 length\n"),
+        (b"\x08OBJ_\x12\x03\x01\x07", b"block: at 44 lead 0x7\n"),
+        (b"\x08OBJ_\x5B\x31", b"block: at 42 lead 0x31\n"),
+    ];
+    for (body, line) in rows {
+        let bytes = block_of(rt.alloc(), b"SSDT", body)?;
+        let left = left_of(rt.alloc(), SHOW, &bytes)?;
+        assert!(rt; left.is_refused(line));
+        let left = left_of(rt.alloc(), REWRITE, &bytes)?;
+        assert!(rt; left.is_refused(line));
+    }
+    Ok(())
+}
+
+#[test]
+fn blocks_are_rewritten(rt: HostRuntime) -> Result<(), Fail> {
+    let alloc = rt.alloc();
+    let rows: [(&[u8], &[u8]); 5] = [
+        (b"\x08_PPC\x0E\x40\0\0\0\0\0\0\0", b"\x08_PPC\x0A\x40"),
+        (b"\x08_PPC\x00\x08_PPC\x01", b"\x08_PPC\x00\x08_PPC\x01"),
+        (b"\x08OBJ_\x12\x43\x00\x00", b"\x08OBJ_\x12\x02\x00"),
+        (b"\x08/\x02_SB_OBJ_\x0B\x07\x00", b"\x08._SB_OBJ_\x0A\x07"),
+        (b"", b""),
+    ];
+    for (body, shorter) in rows {
+        let left = left_of(alloc, REWRITE, &block_of(alloc, b"SSDT", body)?)?;
+        let written = block_of(alloc, b"SSDT", shorter)?;
+        assert!(rt; left.is_done(written.as_slice()));
+    }
+    // The checksums of the first row.
+    let longer = block_of(alloc, b"SSDT", rows[0].0)?;
+    assert_eq!(rt; longer.get(9).copied(), Some(0xCA));
+    let shorter = block_of(alloc, b"SSDT", rows[0].1)?;
+    assert_eq!(rt; shorter.get(9).copied(), Some(0xD5));
+    Ok(())
+}
+
+#[test]
+fn rewriting_that_fails_leaves_a_beginning(rt: HostRuntime) -> Result<(), Fail> {
+    let alloc = rt.alloc();
+    let files = file_of(alloc, &NAMED, &[1], 100_000)?;
+    let out = sink_of(alloc, 1000, &[], 1000)?;
+    let left = run_with(alloc, REWRITE, files, out, sink_of(alloc, 1000, &[], 1000)?)?;
+    assert_eq!(rt;
+        left.seen(),
+        (3, b"".as_slice(), b"read fault\n".as_slice())
+    );
+    for k in 1..5 {
+        let files = file_of(alloc, &NAMED, &[], 100_000)?;
+        let out = sink_of(alloc, 1000, &[k], 8)?;
+        let left = run_with(alloc, REWRITE, files, out, sink_of(alloc, 1000, &[], 1000)?)?;
+        assert_eq!(rt;
+            (left.status, left.err.written()),
+            (4, b"write fault\n".as_slice())
+        );
+        assert!(rt; NAMED.starts_with(left.out.written()));
+        assert_eq!(rt; left.out.written().len(), 8 * (k as usize - 1));
     }
     Ok(())
 }

@@ -28,6 +28,16 @@ fn words_of_show(rt: HostRuntime) -> Result<(), Fail> {
 }
 
 #[test]
+fn words_of_rewrite(rt: HostRuntime) -> Result<(), Fail> {
+    let words = words_of(rt.alloc(), &["rewrite", "x"])?;
+    let Some(Command::Rewrite { block }) = command_of(&words) else {
+        return Err("no command".into());
+    };
+    assert_eq!(rt; block, "x");
+    Ok(())
+}
+
+#[test]
 fn other_words(rt: HostRuntime) -> Result<(), Fail> {
     let rows: [&[&str]; 8] = [
         &[],

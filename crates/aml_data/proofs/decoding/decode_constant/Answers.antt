@@ -13,7 +13,7 @@ pub returns-clause-only : goal.returns-clause-only
 returns-clause-only c = told_only Const constant_at constant_again c.args.bytes.now c.args.at c.constant_from.result c.constant_from.ensures
 
 pub returns-clause-fault : goal.returns-clause-fault
-returns-clause-fault c = told_fault ConstFails constant_at constant_fails c.args.bytes.now c.args.at c.constant_from.result c.constant_from.ensures
+returns-clause-fault c = told_fault ConstFails constant_at constant_fails c.args.bytes.now c.args.at c.constant_from.result (λ i. omega (arith, c.type_inv.bytes i)) c.constant_from.ensures
 
 pub returns-clause-refused : goal.returns-clause-refused
 returns-clause-refused c = told_refused ConstFails constant_at constant_refused c.args.bytes.now c.args.at c.constant_from.result c.constant_from.ensures

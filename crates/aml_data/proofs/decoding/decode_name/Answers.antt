@@ -14,7 +14,7 @@ pub returns-clause-only : goal.returns-clause-only
 returns-clause-only c = is_only NameOf name_at name_again c.args.bytes.now c.args.at c.name_from.result c.name_from.ensures
 
 pub returns-clause-fault : goal.returns-clause-fault
-returns-clause-fault c = is_fault NameFails name_at name_fails c.args.bytes.now c.args.at c.name_from.result c.name_from.ensures
+returns-clause-fault c = is_fault NameFails name_at name_fails c.args.bytes.now c.args.at c.name_from.result (λ i. omega (arith, c.type_inv.bytes i)) c.name_from.ensures
 
 pub returns-clause-refused : goal.returns-clause-refused
 returns-clause-refused c = is_refused NameFails name_at name_refused c.args.bytes.now c.args.at c.name_from.result c.name_from.ensures

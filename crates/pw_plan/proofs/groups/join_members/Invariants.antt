@@ -1,4 +1,4 @@
-use Rattle.std.proofs.Common.{◌≡◌, drop, length, get_or}
+use Rattle.std.proofs.Common.{◌≡◌, drop, get_or}
 use Rattle.pw_plan.specs.Groups.{join_members, join_with}
 use Rattle.pw_plan.proofs.groups.join_members.Given as goal
 

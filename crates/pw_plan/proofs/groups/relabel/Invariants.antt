@@ -1,4 +1,4 @@
-use Rattle.std.proofs.Common.{◌≡◌, ◌++◌, take, drop, length}
+use Rattle.std.proofs.Common.{◌≡◌, ◌++◌, take, drop}
 use Rattle.pw_plan.specs.Groups.{relabel}
 use Rattle.pw_plan.proofs.groups.relabel.Given as goal
 

@@ -1,5 +1,4 @@
-use Rattle.std.proofs.Common.{◌≡◌, ◌<◌, ◌≤◌, ◌+◌, ℕ, Some, ap, length, arith}
-use Rattle.pw_plan.specs.Tree.{line_from}
+use Rattle.std.proofs.Common.{Some, ap, length, arith}
 use Rattle.pw_plan.specs.Parts.{container_in}
 use Rattle.pw_plan.proofs.Lines.{parent_below, line_from-Some, line_within-length, line_within-None}
 use Rattle.pw_plan.proofs.limits.depth_of.Goals as goal

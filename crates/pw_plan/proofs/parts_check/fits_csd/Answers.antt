@@ -1,5 +1,4 @@
-use Rattle.std.proofs.Common.{◌≡◌, ◌<◌, ◌≤◌, ◌+◌, ℕ, false, length, ap, sym, ◌∙◌, inl, inr, arith, refl}
-use Rattle.acpi_values.specs.declared.dependency.CDependency.{CDependency}
+use Rattle.std.proofs.Common.{◌<◌, ◌≤◌, ◌+◌, length, sym, ◌∙◌, inl, inr, arith, refl}
 use Rattle.pw_plan.specs.Parts.{entry_in, is_entry}
 use Rattle.pw_plan.proofs.Csd.{none_behind, some_behind, last_of, rest_is}
 use Rattle.pw_plan.proofs.parts_check.fits_csd.Goals as goal

@@ -1,4 +1,4 @@
-use Rattle.std.proofs.Common.{◌≡◌, ◌≢◌, ◌<◌, ℕ}
+use Rattle.std.proofs.Common.{◌≢◌, ◌<◌, ℕ}
 use Rattle.pw_plan.specs.Parts.{cpu_in}
 use Rattle.pw_plan.proofs.parts_check.is_only.Given as goal
 

@@ -1,4 +1,4 @@
-use Rattle.std.proofs.Common.{◌<◌, ℕ, List, refl, length, arith, rules}
+use Rattle.std.proofs.Common.{refl, arith, rules}
 use Rattle.std.proofs.lemmas.List.{same_lists}
 use Rattle.pw_plan.proofs.parts_check.same_segs.Goals as goal
 

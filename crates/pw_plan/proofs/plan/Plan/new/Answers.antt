@@ -1,5 +1,4 @@
-use Rattle.std.proofs.Common.{◌≡◌, List, length, None, sym, ap, ◌∙◌, vec_len}
-use Rattle.pw_plan.specs.Limits.{limit_passed}
+use Rattle.std.proofs.Common.{length, sym, ◌∙◌}
 use Rattle.pw_plan.specs.Planning.{IsPlanOf}
 use Rattle.pw_plan.proofs.Grouping.{are_groups}
 use Rattle.pw_plan.proofs.Soundness.{is_sound, members_exist}

@@ -1,0 +1,81 @@
+-- Reading data objects from left to right, with the first fault that is met. `end` is the place where the bytes end: in
+-- a buffer or a package that is the end of its own bytes.
+use Rattle.std.specs.Prelude.{ℕ, zero, suc, ◌-◌, List, [], ◌∷◌, length, Option, Some, None, Result, Ok, Err, nat_le, ◌==◌, if◌then◌else◌}
+use Rattle.aml_data.specs.declared.data.Data.{Data}
+use Rattle.aml_data.specs.declared.data.Data.TheVariants.{Int, Ones, Revision, Text, Buffer, Package, VarPackage, Path as at_path}
+use Rattle.aml_data.specs.Segment.{begins_name}
+use Rattle.aml_data.specs.declared.fault.DataFault.{DataFault}
+use Rattle.aml_data.specs.declared.fault.DataFault.TheVariants.{Short, BadLead, BadText, TooMany, TooDeep}
+use Rattle.aml_data.specs.Reading.{◌>>=◌, Read, byte_at, constant_at, window_at, name_at}
+
+-- the bytes of a string, and the 0 that ends it
+unfoldable pub text_at : ℕ → List ℕ → Read (List ℕ)
+text_at end [] = Err (Short end)
+text_at end (b ∷ bytes) =
+    if b == 0 then Ok ([], bytes)
+    else (if nat_le 128 b then Err (BadText (end - length (b ∷ bytes)))
+    else (text_at end bytes >>= λ more. Ok (b ∷ more.0, more.1)))
+
+-- the second byte of the revision
+abbrev pub revision_at : ℕ → List ℕ → Read Data
+revision_at end [] = Err (Short end)
+revision_at end (b ∷ rest) = if b == 48 then Ok (Revision, rest) else Err (BadLead (end - length (b ∷ rest)) b)
+
+-- a buffer behind its lead byte
+unfoldable pub buffer_at : ℕ → List ℕ → Read Data
+buffer_at end bytes =
+    window_at end bytes >>= λ inside.
+    constant_at (end - length inside.1) inside.0 >>= λ size.
+    Ok (Buffer size.0 size.1, inside.1)
+
+-- the elements of a package, to the end of its bytes, each read by `read`
+abbrev pub elements_at : (ℕ → List ℕ → Read Data) → ℕ → ℕ → List ℕ → Result (List Data) DataFault
+elements_at read count end [] = Ok []
+elements_at read zero end (b ∷ bytes) = Err (TooMany (end - length (b ∷ bytes)))
+elements_at read (suc count) end (b ∷ bytes) =
+    read end (b ∷ bytes) >>= λ first. elements_at read count end first.1 >>= λ others. Ok (first.0 ∷ others)
+
+-- A package behind its lead byte, which stands at a place: how its elements are read, or nothing where the nesting is
+-- used up.
+unfoldable pub package_at : Option (ℕ → List ℕ → Read Data) → ℕ → ℕ → List ℕ → Read Data
+package_at None at end bytes = Err (TooDeep at)
+package_at (Some read) at end bytes =
+    window_at end bytes >>= λ inside.
+    byte_at (end - length inside.1) inside.0 >>= λ count.
+    elements_at read count.0 (end - length inside.1) count.1 >>= λ elements.
+    Ok (Package count.0 elements, inside.1)
+
+-- the same of a package that a constant counts
+unfoldable pub var_package_at : Option (ℕ → List ℕ → Read Data) → ℕ → ℕ → List ℕ → Read Data
+var_package_at None at end bytes = Err (TooDeep at)
+var_package_at (Some read) at end bytes =
+    window_at end bytes >>= λ inside.
+    constant_at (end - length inside.1) inside.0 >>= λ count.
+    elements_at read count.0 (end - length inside.1) count.1 >>= λ elements.
+    Ok (VarPackage count.0 elements, inside.1)
+
+-- a data object, the elements of whose packages are read so
+unfoldable pub object_by : Option (ℕ → List ℕ → Read Data) → ℕ → List ℕ → Read Data
+object_by inner end [] = Err (Short end)
+object_by inner end (lead ∷ rest) =
+    if lead == 255 then Ok (Ones, rest)
+    else (if lead == 91 then revision_at end rest
+    else (if lead == 13 then (text_at end rest >>= λ text. Ok (Text text.0, text.1))
+    else (if lead == 17 then buffer_at end rest
+    else (if lead == 18 then package_at inner (end - length (lead ∷ rest)) end rest
+    else (if lead == 19 then var_package_at inner (end - length (lead ∷ rest)) end rest
+    else (if begins_name lead then (name_at end (lead ∷ rest) >>= λ path. Ok (at_path path.0, path.1))
+    else (constant_at end (lead ∷ rest) >>= λ n. Ok (Int n.0, n.1))))))))
+
+-- how the elements of a package are read where so many levels may be opened
+unfoldable pub within : ℕ → Option (ℕ → List ℕ → Read Data)
+within zero = None
+within (suc depth) = Some (object_by (within depth))
+
+-- a data object that nests at most so deep
+abbrev pub object_within : ℕ → ℕ → List ℕ → Read Data
+object_within depth = object_by (within depth)
+
+-- a data object
+unfoldable pub object_at : ℕ → List ℕ → Read Data
+object_at end bytes = object_within 32 end bytes

@@ -1,0 +1,120 @@
+-- The written form: of every part the shortest spelling (ACPI 6.5, 20.2), and which objects have one.
+use Rattle.std.specs.Prelude.{◌≡◌, ℕ, zero, suc, ◌+◌, ◌/◌, ◌%◌, ◌<◌, ◌≤◌, ◌^◌, Bool, true, false, List, [], ◌∷◌, ◌++◌, length, take, replicate, nat_lt, ◌==◌, if◌then◌else◌}
+use Rattle.std.specs.List.{AllByRecursion}
+use Rattle.std.specs.Int.{w16, w32, w64, to_le_bytes}
+use Rattle.aml_data.specs.declared.data.Data.{Data, Data-F, fold-Data, out-Data}
+use Rattle.aml_data.specs.declared.data.Data.TheOpen as layer
+use Rattle.aml_data.specs.declared.path.Path.{Path}
+use Rattle.aml_data.specs.Segment.{IsSegment, joined}
+use Rattle.aml_data.specs.Grammar.{IsAscii, HasPart}
+
+-- an integer constant: the first spelling that holds the number
+abbrev pub written_constant : ℕ → List ℕ
+written_constant n =
+    if n == 0 then 0 ∷ []
+    else (if n == 1 then 1 ∷ []
+    else (if nat_lt n 256 then 10 ∷ n ∷ []
+    else (if nat_lt n 65536 then 11 ∷ to_le_bytes w16 n
+    else (if nat_lt n 4294967296 then 12 ∷ to_le_bytes w32 n
+    else 14 ∷ to_le_bytes w64 n))))
+
+-- a PkgLength of one byte
+abbrev pub one_byte_length : ℕ → List ℕ
+one_byte_length whole = whole ∷ []
+
+-- a PkgLength of two bytes
+abbrev pub two_byte_length : ℕ → List ℕ
+two_byte_length whole = (64 + whole % 16) ∷ whole / 16 ∷ []
+
+-- a PkgLength of three bytes
+abbrev pub three_byte_length : ℕ → List ℕ
+three_byte_length whole = (128 + whole % 16) ∷ whole / 16 % 256 ∷ whole / 4096 ∷ []
+
+-- a PkgLength of four bytes
+abbrev pub four_byte_length : ℕ → List ℕ
+four_byte_length whole = (192 + whole % 16) ∷ whole / 16 % 256 ∷ whole / 4096 % 256 ∷ whole / 1048576 ∷ []
+
+-- the PkgLength before so many bytes: the shortest that holds their number and its own
+abbrev pub written_length : ℕ → List ℕ
+written_length content =
+    if nat_lt content 63 then one_byte_length (content + 1)
+    else (if nat_lt content 4094 then two_byte_length (content + 2)
+    else (if nat_lt content 1048573 then three_byte_length (content + 3)
+    else four_byte_length (content + 4)))
+
+-- bytes behind their PkgLength
+abbrev pub sized : List ℕ → List ℕ
+sized content = written_length (length content) ++ content
+
+-- what stands before the segments of a name
+abbrev pub written_prefix : Path → List ℕ
+written_prefix path = if path.root then 92 ∷ [] else replicate path.ups 94
+
+-- what says how many segments follow: one alone needs nothing
+abbrev pub segments_lead : ℕ → List ℕ
+segments_lead n = if n == 0 then 0 ∷ [] else (if n == 1 then [] else (if n == 2 then 46 ∷ [] else 47 ∷ n ∷ []))
+
+-- the segments of a name
+abbrev pub written_segments : List (List ℕ) → List ℕ
+written_segments segs = segments_lead (length segs) ++ joined segs
+
+-- a name
+abbrev pub written_name : Path → List ℕ
+written_name path = written_prefix path ++ written_segments path.segs
+
+-- one layer of an object, whose elements are written already
+abbrev pub written_layer : Data-F (List ℕ) → List ℕ
+written_layer (layer.Int n) = written_constant n
+written_layer layer.Ones = 255 ∷ []
+written_layer layer.Revision = 91 ∷ 48 ∷ []
+written_layer (layer.Text text) = 13 ∷ text ++ 0 ∷ []
+written_layer (layer.Buffer size bytes) = 17 ∷ sized (written_constant size ++ bytes)
+written_layer (layer.Package count elements) = 18 ∷ sized (count ∷ joined elements)
+written_layer (layer.VarPackage count elements) = 19 ∷ sized (written_constant count ++ joined elements)
+written_layer (layer.Path path) = written_name path
+
+-- a data object
+unfoldable pub written : Data → List ℕ
+written = fold-Data (List ℕ) written_layer
+
+-- A name that can be written: its segments can be counted by a byte, and the root has no steps up.
+pub record IsWritablePath (path : Path) : Type 0 where
+  pub few : length path.segs < 256
+  pub no_ups : path.root ≡ true → path.ups ≡ 0
+  pub segments : AllByRecursion IsSegment path.segs
+
+-- one layer of an object that is no package
+abbrev pub IsWritableLeaf : Data-F Data → Type 0
+IsWritableLeaf (layer.Int n) = n < 2 ^ 64
+IsWritableLeaf layer.Ones = Unit {0}
+IsWritableLeaf layer.Revision = Unit {0}
+IsWritableLeaf (layer.Text text) = AllByRecursion IsAscii text
+IsWritableLeaf (layer.Buffer size bytes) = size < 2 ^ 64
+IsWritableLeaf (layer.Package count elements) = ⊥
+IsWritableLeaf (layer.VarPackage count elements) = ⊥
+IsWritableLeaf (layer.Path path) = IsWritablePath path × HasPart path
+
+-- elements of a package: at most as many as its count, each of them writable
+abbrev pub AreElements : (Data → Type 0) → ℕ → List Data → Type 0
+AreElements Inner count elements = (length elements ≤ count) × AllByRecursion Inner elements
+
+-- one layer of an object whose elements can be written
+abbrev pub IsWritableLayer : (Data → Type 0) → Data-F Data → Type 0
+IsWritableLayer Inner (layer.Package count elements) = (count < 2 ^ 8) × AreElements Inner count elements
+IsWritableLayer Inner (layer.VarPackage count elements) = (count < 2 ^ 64) × AreElements Inner count elements
+IsWritableLayer Inner other = IsWritableLeaf other
+
+-- an object that can be written but for its length, and whose nesting is at most so much
+unfoldable pub IsWritableWithin : ℕ → Data → Type 0
+IsWritableWithin zero v = IsWritableLeaf (out-Data v)
+IsWritableWithin (suc depth) v = IsWritableLayer (IsWritableWithin depth) (out-Data v)
+
+-- A data object that can be written: every PkgLength in it holds its length.
+pub record IsWritable (v : Data) : Type 0 where
+  pub within : IsWritableWithin 32 v
+  pub short : length (written v) < 2 ^ 28
+
+-- A list grew by these bytes, or, where memory ran out, at least what it was before still stands in front.
+abbrev pub Appends : List ℕ → List ℕ → List ℕ → Bool → Type 0
+Appends old new bytes true = new ≡ old ++ bytes
+Appends old new bytes false = take (length old) new ≡ old

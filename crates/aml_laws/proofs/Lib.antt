@@ -1,0 +1,4 @@
+pub mod ShortestParts
+pub mod ShortestNames
+pub mod ShortestObjects
+pub mod Placed
