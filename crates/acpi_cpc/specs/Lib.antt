@@ -1,0 +1,2 @@
+pub mod Cpcs
+pub mod Written

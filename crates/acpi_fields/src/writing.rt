@@ -1,0 +1,42 @@
+ghost use Rattle.std.specs.Prelude.{◌≡◌, ◌<◌, length, IfOk};
+ghost use Rattle.acpi_fields.specs.Dependencies.{coord_number as the_number};
+ghost use Rattle.acpi_fields.specs.Writing.{package_object as the_package};
+ghost use Rattle.acpi_fields.specs.Writing.{register_object as the_object};
+
+use acpi_values::{Coord, Register};
+use aml_data::Data;
+use pw_base::{List, Memory};
+use std::alloc::Global;
+
+/// A register as an object: a buffer of its resource template (ACPI 6.5, 6.4.3.7).
+pub fn register_object(alloc: Global, register: &Register) -> Result<Data, Memory>
+    ensures { IfOk result (λ object. object ≡ the_object register.now) }
+{
+    let bytes = Vec::from_slice(alloc, &register.to_bytes())?;
+    Ok(Data::Buffer {
+        size: 17,
+        bytes: List::from_vec(bytes),
+    })
+}
+
+/// A package of these elements, which counts them.
+pub fn package_object(elements: Vec<Data>) -> Data
+    requires { length elements.items < 256 }
+    ensures { result ≡ the_package elements.items }
+{
+    Data::Package {
+        count: elements.len() as u8,
+        elements: List::from_vec(elements),
+    }
+}
+
+/// The number of a coordination type (ACPI 6.5, 8.3).
+pub fn coord_number(coord: Coord) -> u64
+    ensures { result ≡ the_number coord }
+{
+    match coord {
+        Coord::SwAll => 0xFC,
+        Coord::SwAny => 0xFD,
+        Coord::HwAll => 0xFE,
+    }
+}

@@ -1,0 +1,11 @@
+use Rattle.std.proofs.Common.{◌≡◌, ◌+◌, drop}
+use Rattle.acpi_fields.specs.Reading.{rows_from}
+use Rattle.acpi_fields.proofs.RowLists.{ahead}
+use Rattle.acpi_idle.specs.CStates.{cst_row}
+use Rattle.acpi_idle.proofs.c_states.read_cst.Given as goal
+
+abbrev pub invariant-loop-element : goal.invariant-loop-element
+invariant-loop-element l = record {
+  place : l.outer ≡ l.element-index + 1;
+  rows : ahead l.states.items (rows_from (cst_row l.width) (l.outer + 1) (drop l.element-index l.rest)) ≡ rows_from (cst_row l.width) 2 l.rest;
+}

@@ -1,0 +1,19 @@
+use Rattle.std.proofs.Common.{refl}
+use Rattle.acpi_idle.proofs.writing.lpi_state.Goals as goal
+
+pub returns : goal.returns
+returns c =
+    rw (
+      c.package_object.ensures,
+      c.in_ok-fields.ensures.items,
+      c.in_ok-entry.ensures,
+      c.in_ok-residency.ensures,
+      c.in_ok-usage.ensures,
+      c.in_ok-name.ensures,
+      c.from.ensures,
+      c.from-2.ensures,
+      c.from-3.ensures,
+      c.from-4.ensures,
+      c.from-5.ensures,
+      c.from-6.ensures,
+    ) refl

@@ -1,0 +1,3 @@
+pub mod CStates
+pub mod Lpis
+pub mod Written

@@ -1,0 +1,15 @@
+//! Idle tables: `_CST`, `_CSD` and `_LPI`, from objects and as objects (ACPI 6.5, 8.4.1 and 8.4.3).
+#![tactic(auto)]
+
+mod c_states;
+mod laws;
+mod lpis;
+mod writing;
+
+pub use c_states::{read_csd, read_cst};
+pub use laws::written_idle;
+pub use lpis::read_lpi;
+pub use writing::{write_csd, write_cst, write_lpi};
+
+#[cfg(test)]
+mod tests;

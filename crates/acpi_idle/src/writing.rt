@@ -1,0 +1,118 @@
+ghost use Rattle.std.specs.Prelude.{◌≡◌, ◌≤◌, length, IfOk};
+ghost use Rattle.aml_data.specs.declared.data.Data.TheVariants.{Text as string};
+ghost use Rattle.acpi_idle.specs.Written.{csd_object, csd_row_object, cst_object, cst_row_object};
+ghost use Rattle.acpi_idle.specs.Written.{entry_object, lpi_object, lpi_row_object};
+
+use acpi_fields::{coord_number, package_object, register_object};
+use acpi_values::{CDependency, CState, EntryMethod, Lpi, LpiState};
+use aml_data::Data;
+use pw_base::{List, Memory};
+use std::alloc::Global;
+
+fn cst_state(alloc: Global, state: &CState) -> Result<Data, Memory>
+    ensures { IfOk result (λ object. object ≡ cst_row_object state.now) }
+{
+    let register = register_object(alloc, &state.register)?;
+    let fields = vec![in alloc;
+        register,
+        Data::Int(u64::from(state.kind)),
+        Data::Int(u64::from(state.latency)),
+        Data::Int(u64::from(state.power)),
+    ]?;
+    Ok(package_object(fields))
+}
+
+/// The object of `_CST` for these C states (ACPI 6.5, 8.4.1.1).
+pub fn write_cst(alloc: Global, states: &[CState]) -> Result<Data, Memory>
+    requires { length states.now ≤ 250 }
+    ensures { IfOk result (λ object. object ≡ cst_object states.now) }
+{
+    let mut elements = Vec::new(alloc);
+    elements.push(Data::Int(states.len() as u64))?;
+    for state in states {
+        elements.push(cst_state(alloc, state)?)?;
+    }
+    Ok(package_object(elements))
+}
+
+fn csd_entry(alloc: Global, entry: &CDependency) -> Result<Data, Memory>
+    ensures { IfOk result (λ object. object ≡ csd_row_object entry.now) }
+{
+    let fields = vec![in alloc;
+        Data::Int(6),
+        Data::Int(0),
+        Data::Int(u64::from(entry.domain)),
+        Data::Int(coord_number(entry.coord)),
+        Data::Int(u64::from(entry.processors)),
+        Data::Int(u64::from(entry.index)),
+    ]?;
+    Ok(package_object(fields))
+}
+
+/// The object of `_CSD` for these dependencies (ACPI 6.5, 8.4.1.2).
+pub fn write_csd(alloc: Global, entries: &[CDependency]) -> Result<Data, Memory>
+    requires { length entries.now ≤ 250 }
+    ensures { IfOk result (λ object. object ≡ csd_object entries.now) }
+{
+    let mut elements = Vec::new(alloc);
+    for entry in entries {
+        elements.push(csd_entry(alloc, entry)?)?;
+    }
+    Ok(package_object(elements))
+}
+
+/// An entry method (ACPI 6.5, 8.4.3.3).
+fn entry_of(alloc: Global, entry: &EntryMethod) -> Result<Data, Memory>
+    ensures { IfOk result (λ object. object ≡ entry_object entry.now) }
+{
+    match entry {
+        EntryMethod::Register(register) => register_object(alloc, register),
+        EntryMethod::Integer(number) => Ok(Data::Int(*number)),
+    }
+}
+
+/// A string.
+fn text_of(alloc: Global, text: &List<u8>) -> Result<Data, Memory>
+    ensures { IfOk result (λ object. object ≡ string text.now) }
+{
+    let text = Vec::from_slice(alloc, text.as_slice())?;
+    Ok(Data::Text(List::from_vec(text)))
+}
+
+fn lpi_state(alloc: Global, state: &LpiState) -> Result<Data, Memory>
+    ensures { IfOk result (λ object. object ≡ lpi_row_object state.now) }
+{
+    let entry = entry_of(alloc, &state.entry)?;
+    let residency = register_object(alloc, &state.residency)?;
+    let usage = register_object(alloc, &state.usage)?;
+    let name = text_of(alloc, &state.name)?;
+    let fields = vec![in alloc;
+        Data::Int(u64::from(state.min_residency)),
+        Data::Int(u64::from(state.wake_latency)),
+        Data::Int(u64::from(state.flags)),
+        Data::Int(u64::from(state.lost)),
+        Data::Int(u64::from(state.frequency)),
+        Data::Int(u64::from(state.parent)),
+        entry,
+        residency,
+        usage,
+        name,
+    ]?;
+    Ok(package_object(fields))
+}
+
+/// The object of `_LPI` for these states (ACPI 6.5, 8.4.3.3).
+pub fn write_lpi(alloc: Global, lpi: &Lpi) -> Result<Data, Memory>
+    requires { length lpi.now.states ≤ 250 }
+    ensures { IfOk result (λ object. object ≡ lpi_object lpi.now) }
+{
+    let states = lpi.states.as_slice();
+    let mut elements = Vec::new(alloc);
+    elements.push(Data::Int(0))?;
+    elements.push(Data::Int(lpi.level))?;
+    elements.push(Data::Int(states.len() as u64))?;
+    for state in states {
+        elements.push(lpi_state(alloc, state)?)?;
+    }
+    Ok(package_object(elements))
+}

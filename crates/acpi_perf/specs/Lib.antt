@@ -1,0 +1,3 @@
+pub mod Scales
+pub mod Objects
+pub mod Written
