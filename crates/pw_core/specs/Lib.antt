@@ -1,0 +1,5 @@
+pub mod Changes
+pub mod Rooms
+pub mod Chains
+pub mod Known
+pub mod Drawn

@@ -1,0 +1,147 @@
+ghost use Rattle.std.specs.Prelude.{◌≡◌, ◌≢◌, ◌<◌, ◌++◌, ◌==◌, ◌&&◌, not, length, map, All, None};
+ghost use Rattle.pw_plan.specs.Places.{cpu_at};
+ghost use Rattle.pw_plan.specs.Requests.{Has, group_bound, ops_bound};
+ghost use Rattle.pw_model.specs.States.{IsState, vote_of, with_change};
+ghost use Rattle.pw_model.specs.Refusals.{fixed_refusal};
+ghost use Rattle.pw_model.specs.Answers.{accepted as the_reply, chain_of, change_of as the_change};
+ghost use Rattle.pw_model.specs.Answers.{states_of};
+ghost use Rattle.pw_model.specs.Composites.{composite_of};
+ghost use Rattle.pw_model.specs.Operations.{accepted_ops, enter as the_entry, idle_ops};
+ghost use Rattle.pw_model.specs.Operations.{is_drawn as the_draw};
+ghost use Rattle.pw_core.specs.Chains.{AreStatesOf, IsChain, states_in};
+ghost use Rattle.pw_core.specs.Drawn.{drawn_among};
+ghost use Rattle.pw_core.specs.Rooms.{HasRoom};
+
+use crate::c_states::is_drawn;
+use crate::chain::chain_under;
+use crate::composite::chain_composite;
+use crate::ops::Ops;
+use crate::setting::{set_domain, stands_under};
+use acpi_values::{Chain, IdleKind, Op};
+use pw_model::{Change, Reply, State};
+use pw_plan::{DomainKind, Plan, Request};
+
+/// What an accepted request is answered, from the state that it leaves.
+#[tactic(auto, unfolding(pw_model::specs::Answers::accepted))]
+pub fn accepted_reply(plan: &Plan, state: &State, change: Change, request: Request) -> Reply
+    requires request { Has plan.now request }
+    requires accepted { fixed_refusal plan.now request ≡ None }
+    requires old { IsState plan.now state.now }
+    requires fits { IsState plan.now (with_change state.now change) }
+    ensures { result ≡ the_reply plan.now (with_change state.now change) request }
+{
+    let perf = DomainKind::Perf;
+    let throttle = DomainKind::Throttle;
+    match request {
+        Request::Idle { cpu, .. } => Reply::Entered {
+            chain: chain_under(plan, state, change, cpu),
+        },
+        Request::Wake { .. } => Reply::Running,
+        Request::Perf { cpu, .. } => stands_under(plan, state, change, perf, cpu),
+        Request::Throttle { cpu, .. } => stands_under(plan, state, change, throttle, cpu),
+        Request::PerfLimit { cpu, .. } => stands_under(plan, state, change, perf, cpu),
+        Request::ThrottleLimit { cpu, .. } => stands_under(plan, state, change, throttle, cpu),
+    }
+}
+
+/// The processor enters this chain of states.
+fn enter(plan: &Plan, cpu: u32, chain: &Chain) -> Op
+    requires cpu { cpu < length plan.now.cpus }
+    requires chain { IsChain chain.now }
+    requires states { AreStatesOf plan.now cpu (states_in chain.now) }
+    ensures { result ≡ Op.Enter cpu (composite_of plan.now cpu (states_in chain.now)) }
+{
+    Op::Enter {
+        cpu,
+        composite: chain_composite(plan, cpu, chain),
+    }
+}
+
+/// Whether a processor is another than the requester, and drawn along.
+fn joins(plan: &Plan, state: &State, change: Change, cpu: u32, other: u32) -> bool
+    requires other { other < length plan.now.cpus }
+    requires fits { IsState plan.now state.now }
+    ensures { result ≡ (not (other == cpu)
+        && the_draw plan.now state.now (with_change state.now change) other) }
+{
+    other != cpu && is_drawn(plan, state, change, other)
+}
+
+/// Those among these members, but for the requester, whose C state the change raises to one that a
+/// SW_ALL domain is about, enter it too.
+fn draw_along(plan: &Plan, state: &State, change: Change, cpu: u32, members: &[u32], ops: &mut Ops)
+    requires members { All (λ p. p < length plan.now.cpus) members.now }
+    requires old { IsState plan.now state.now }
+    requires fits { IsState plan.now (with_change state.now change) }
+    requires room { HasRoom ops.old
+        (length (drawn_among plan.now state.now (with_change state.now change) cpu members.now)) }
+    ensures { let after = with_change state.now change in
+        ops.new ≡ record ops.old {
+          elements = ops.old.elements
+              ++ map (the_entry plan.now after)
+              (drawn_among plan.now state.now after cpu members.now);
+        } }
+{
+    for member in members {
+        if joins(plan, state, change, cpu, *member) {
+            let chain = chain_under(plan, state, change, *member);
+            ops.push(enter(plan, *member, &chain));
+        }
+    }
+}
+
+/// Appends the operations of an accepted idle request, and says which states the processor comes
+/// to.
+fn idle(plan: &Plan, state: &State, change: Change, cpu: u32, ops: &mut Ops) -> Chain
+    requires cpu { cpu < length plan.now.cpus }
+    requires table { (cpu_at plan.now cpu).idle.kind ≢ IdleKind.Absent }
+    requires idles { 0 < (vote_of (with_change state.now change) cpu).state }
+    requires old { IsState plan.now state.now }
+    requires fits { IsState plan.now (with_change state.now change) }
+    requires room { HasRoom ops.old (group_bound plan.now cpu) }
+    ensures chain { result ≡ chain_of (states_of plan.now (with_change state.now change) cpu) }
+    ensures list { ops.new ≡ record ops.old {
+      elements = ops.old.elements
+          ++ idle_ops plan.now state.now (with_change state.now change) cpu;
+    } }
+{
+    let chain = chain_under(plan, state, change, cpu);
+    if chain.states[0] > 0 {
+        ops.push(enter(plan, cpu, &chain));
+    }
+    let place = plan.group_of(cpu);
+    if place < plan.groups.as_slice().len() {
+        let members = plan.group(place).members.as_slice();
+        draw_along(plan, state, change, cpu, members, ops);
+    }
+    chain
+}
+
+/// Appends the operations of an accepted request, and answers it.
+#[tactic(auto, unfolding(pw_model::specs::Answers::accepted, pw_model::specs::Operations::accepted_ops))]
+pub fn accept(plan: &Plan, state: &State, change: Change, request: Request, ops: &mut Ops) -> Reply
+    requires request { Has plan.now request }
+    requires accepted { fixed_refusal plan.now request ≡ None }
+    requires change { change ≡ the_change plan.now request }
+    requires old { IsState plan.now state.now }
+    requires fits { IsState plan.now (with_change state.now change) }
+    requires room { HasRoom ops.old (ops_bound plan.now request) }
+    ensures reply { result ≡ the_reply plan.now (with_change state.now change) request }
+    ensures list { ops.new ≡ record ops.old {
+      elements = ops.old.elements
+          ++ accepted_ops plan.now state.now (with_change state.now change) request;
+    } }
+{
+    let perf = DomainKind::Perf;
+    let throttle = DomainKind::Throttle;
+    match request {
+        Request::Idle { cpu, .. } => Reply::Entered {
+            chain: idle(plan, state, change, cpu, ops),
+        },
+        Request::Wake { .. } => Reply::Running,
+        Request::Perf { cpu, .. } => set_domain(plan, state, change, perf, cpu, ops),
+        Request::Throttle { cpu, .. } => set_domain(plan, state, change, throttle, cpu, ops),
+        Request::PerfLimit { cpu, .. } => set_domain(plan, state, change, perf, cpu, ops),
+        Request::ThrottleLimit { cpu, .. } => set_domain(plan, state, change, throttle, cpu, ops),
+    }
+}

@@ -1,0 +1,85 @@
+ghost use Rattle.std.specs.Prelude.{◌≡◌, ◌<◌, length, None};
+ghost use Rattle.pw_plan.specs.Parts.{scale_of as the_scale};
+ghost use Rattle.pw_plan.specs.Places.{cpu_at};
+ghost use Rattle.pw_plan.specs.Requests.{Has};
+ghost use Rattle.pw_model.specs.States.{IsState, capped as the_cap, with_change};
+ghost use Rattle.pw_model.specs.Refusals.{refusal};
+ghost use Rattle.pw_core.specs.Changes.{CanChange};
+ghost use Rattle.pw_model.specs.Answers.{change_of as the_change};
+
+use crate::tree::RUNNING;
+use pw_model::{Change, State, Vote};
+use pw_plan::{DomainKind, Plan, Request};
+
+/// A limit, which past the last state counts as the last one.
+pub fn capped(plan: &Plan, kind: DomainKind, cpu: u32, n: u32) -> u8
+    requires { cpu < length plan.now.cpus }
+    ensures { result ≡ the_cap (the_scale kind (cpu_at plan.now cpu)) n }
+{
+    let last = (plan.cpu(cpu).state_count(kind) as u32).saturating_sub(1);
+    n.min(last) as u8
+}
+
+/// What an accepted request changes.
+#[tactic(auto, unfolding(pw_model::specs::States::any_latency))]
+pub fn change_of(plan: &Plan, state: &State, request: Request) -> Change
+    requires request { Has plan.now request }
+    requires accepted { refusal plan.now state.now request ≡ None }
+    ensures { result ≡ the_change plan.now request }
+{
+    match request {
+        Request::Idle {
+            cpu,
+            state,
+            tolerance,
+        } => Change::Vote {
+            cpu,
+            vote: Vote {
+                state: state as u8,
+                tolerance,
+            },
+        },
+        Request::Wake { cpu } => Change::Vote { cpu, vote: RUNNING },
+        Request::Perf { cpu, index } => Change::Ask {
+            kind: DomainKind::Perf,
+            cpu,
+            index: index as u8,
+        },
+        Request::Throttle { cpu, index } => Change::Ask {
+            kind: DomainKind::Throttle,
+            cpu,
+            index: index as u8,
+        },
+        Request::PerfLimit { cpu, n } => Change::Limit {
+            kind: DomainKind::Perf,
+            cpu,
+            n: capped(plan, DomainKind::Perf, cpu, n),
+        },
+        Request::ThrottleLimit { cpu, n } => Change::Limit {
+            kind: DomainKind::Throttle,
+            cpu,
+            n: capped(plan, DomainKind::Throttle, cpu, n),
+        },
+    }
+}
+
+/// Changes one entry.
+pub fn make(state: &mut State, change: Change)
+    requires { CanChange state.old change }
+    ensures { state.new ≡ with_change state.old change }
+{
+    match change {
+        Change::Nothing => {}
+        Change::Vote { cpu, vote } => state.votes.set(cpu as usize, vote),
+        Change::Ask { kind, cpu, index } => match kind {
+            DomainKind::Perf => state.perf_asks.set(cpu as usize, index),
+            DomainKind::Throttle => state.throttle_asks.set(cpu as usize, index),
+            DomainKind::Idle => {}
+        },
+        Change::Limit { kind, cpu, n } => match kind {
+            DomainKind::Perf => state.perf_limits.set(cpu as usize, n),
+            DomainKind::Throttle => state.throttle_limits.set(cpu as usize, n),
+            DomainKind::Idle => {}
+        },
+    }
+}

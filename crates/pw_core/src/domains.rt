@@ -1,0 +1,45 @@
+ghost use Rattle.std.specs.Prelude.{◌≡◌, ◌<◌, length, map, All};
+ghost use Rattle.pw_model.specs.States.{IsState, ask_of as the_ask, limit_of as the_limit};
+ghost use Rattle.pw_model.specs.States.{with_change};
+ghost use Rattle.pw_model.specs.Domains.{standing as the_standing, stands_at as the_level};
+
+use crate::reads::{ask_under, limit_under};
+use acpi_values::Coord;
+use pw_model::{Change, State};
+use pw_plan::{DomainKind, Plan};
+
+/// Where these members, which software coordinates, stand together.
+fn stands_at(plan: &Plan, state: &State, change: Change, kind: DomainKind, members: &[u32]) -> u8
+    requires members { All (λ p. p < length plan.now.cpus) members.now }
+    requires fits { IsState plan.now state.now }
+    ensures { let after = with_change state.now change in
+        result ≡ the_level (map (the_ask kind after) members.now)
+        (map (the_limit kind after) members.now) }
+{
+    let mut limit = 0;
+    let mut ask = u8::MAX;
+    for member in members {
+        limit = limit_under(kind, state, change, *member).max(limit);
+        ask = ask_under(kind, state, change, *member).min(ask);
+    }
+    limit.max(ask)
+}
+
+/// Where a domain, or in a domain that hardware coordinates this member, stands in the changed
+/// state.
+pub fn standing(plan: &Plan, state: &State, change: Change, place: usize, cpu: u32) -> u8
+    requires place { place < length plan.now.domains }
+    requires cpu { cpu < length plan.now.cpus }
+    requires fits { IsState plan.now state.now }
+    ensures { result ≡ the_standing plan.now (with_change state.now change) place cpu }
+{
+    let domain = plan.domain(place);
+    let kind = domain.kind;
+    match domain.coord {
+        Coord::SwAll => stands_at(plan, state, change, kind, domain.members.as_slice()),
+        Coord::SwAny => stands_at(plan, state, change, kind, domain.members.as_slice()),
+        Coord::HwAll => {
+            limit_under(kind, state, change, cpu).max(ask_under(kind, state, change, cpu))
+        }
+    }
+}

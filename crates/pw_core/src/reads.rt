@@ -1,0 +1,72 @@
+//! What stands in a state that a request changes, without writing it.
+ghost use Rattle.std.specs.Prelude.{◌≡◌, ◌<◌, length};
+ghost use Rattle.pw_model.specs.States.{ask_of as the_ask, limit_of as the_limit};
+ghost use Rattle.pw_model.specs.States.{vote_of as the_vote, with_change};
+
+use pw_model::{Change, State, Vote};
+use pw_plan::DomainKind;
+
+/// The vote of a processor in the changed state.
+pub fn vote_under(state: &State, change: Change, cpu: u32) -> Vote
+    requires { cpu < length state.now.votes }
+    ensures { result ≡ the_vote (with_change state.now change) cpu }
+{
+    match change {
+        Change::Vote { cpu: changed, vote } if changed == cpu => vote,
+        _ => state.votes.as_slice()[cpu as usize],
+    }
+}
+
+/// What a processor asks for in the changed state.
+pub fn ask_under(kind: DomainKind, state: &State, change: Change, cpu: u32) -> u8
+    requires perf_asks { cpu < length state.now.perf_asks }
+    requires throttle_asks { cpu < length state.now.throttle_asks }
+    ensures { result ≡ the_ask kind (with_change state.now change) cpu }
+{
+    match kind {
+        DomainKind::Perf => match change {
+            Change::Ask {
+                kind: DomainKind::Perf,
+                cpu: changed,
+                index,
+            } if changed == cpu => index,
+            _ => state.perf_asks.as_slice()[cpu as usize],
+        },
+        DomainKind::Throttle => match change {
+            Change::Ask {
+                kind: DomainKind::Throttle,
+                cpu: changed,
+                index,
+            } if changed == cpu => index,
+            _ => state.throttle_asks.as_slice()[cpu as usize],
+        },
+        DomainKind::Idle => 0,
+    }
+}
+
+/// The limit of a processor in the changed state.
+pub fn limit_under(kind: DomainKind, state: &State, change: Change, cpu: u32) -> u8
+    requires perf_limits { cpu < length state.now.perf_limits }
+    requires throttle_limits { cpu < length state.now.throttle_limits }
+    ensures { result ≡ the_limit kind (with_change state.now change) cpu }
+{
+    match kind {
+        DomainKind::Perf => match change {
+            Change::Limit {
+                kind: DomainKind::Perf,
+                cpu: changed,
+                n,
+            } if changed == cpu => n,
+            _ => state.perf_limits.as_slice()[cpu as usize],
+        },
+        DomainKind::Throttle => match change {
+            Change::Limit {
+                kind: DomainKind::Throttle,
+                cpu: changed,
+                n,
+            } if changed == cpu => n,
+            _ => state.throttle_limits.as_slice()[cpu as usize],
+        },
+        DomainKind::Idle => 0,
+    }
+}

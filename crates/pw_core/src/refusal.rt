@@ -1,0 +1,168 @@
+ghost use Rattle.std.specs.Prelude.{◌≡◌, ◌<◌, length};
+ghost use Rattle.std.specs.List.{position_or_len};
+ghost use Rattle.pw_plan.specs.Parts.{scale_of as the_scale};
+ghost use Rattle.pw_plan.specs.Places.{cpu_at};
+ghost use Rattle.pw_plan.specs.Requests.{Has};
+ghost use Rattle.pw_model.specs.States.{IsState};
+ghost use Rattle.pw_model.specs.Refusals.{above_limit as the_limit_test, ask_refusal as the_ask_refusal};
+ghost use Rattle.pw_model.specs.Refusals.{domain_refusal as the_domain_refusal};
+ghost use Rattle.pw_model.specs.Refusals.{fixed_refusal as the_fixed_refusal};
+ghost use Rattle.pw_model.specs.Refusals.{idle_refusal as the_idle_refusal, is_unfit as the_unfit};
+ghost use Rattle.pw_model.specs.Refusals.{refusal as the_refusal, unfit_refusal as the_unfit_refusal};
+
+use crate::counts::in_32_bits;
+use crate::reads::limit_under;
+use crate::tree::row;
+use acpi_values::IdleKind;
+use pw_model::{Change, Reply, State};
+use pw_plan::{Domain, DomainKind, Plan, Request, covers};
+
+/// Whether it is an idle domain of the processor that can't be coordinated.
+fn is_unfit(cpu: u32, domain: &Domain) -> bool
+    ensures { result ≡ the_unfit cpu domain.now }
+{
+    covers(DomainKind::Idle, cpu, domain) && domain.unfit != 0
+}
+
+/// The place of the first such domain, or how many domains there are.
+fn unfit_of(plan: &Plan, cpu: u32) -> usize
+    ensures { result ≡ position_or_len (the_unfit cpu) plan.now.domains }
+{
+    let domains = plan.domains.as_slice();
+    for (place, domain) in domains.iter().enumerate() {
+        if is_unfit(cpu, domain) {
+            return place;
+        }
+    }
+    domains.len()
+}
+
+/// The refusal for the first such domain.
+fn unfit_refusal(plan: &Plan, cpu: u32) -> Option<Reply>
+    ensures { result ≡ the_unfit_refusal plan.now cpu }
+{
+    let place = unfit_of(plan, cpu);
+    if place < plan.domains.as_slice().len() {
+        Some(Reply::Unfit {
+            domain: in_32_bits(place),
+            why: plan.domain(place).unfit,
+        })
+    } else {
+        None
+    }
+}
+
+/// The refusal of an idle request.
+fn idle_refusal(plan: &Plan, cpu: u32, state: u32, tolerance: u32) -> Option<Reply>
+    requires { cpu < length plan.now.cpus }
+    ensures { result ≡ the_idle_refusal plan.now cpu state tolerance }
+{
+    let table = &plan.cpu(cpu).idle;
+    if matches!(table.kind, IdleKind::Absent) {
+        return Some(Reply::NoTable);
+    }
+    if let Some(reply) = unfit_refusal(plan, cpu) {
+        return Some(reply);
+    }
+    let count = table.states().len() as u32;
+    if state == 0 || state > count {
+        return Some(Reply::NoState { count });
+    }
+    let found = row(table, state as u8);
+    if !found.enabled {
+        return Some(Reply::Disabled);
+    }
+    if found.latency > tolerance {
+        return Some(Reply::TooSlow {
+            latency: found.latency,
+        });
+    }
+    None
+}
+
+/// The refusal of a request on the processor's domain of this kind.
+fn domain_refusal(plan: &Plan, kind: DomainKind, cpu: u32) -> Option<Reply>
+    requires { cpu < length plan.now.cpus }
+    ensures { result ≡ the_domain_refusal plan.now kind cpu (the_scale kind (cpu_at plan.now cpu)) }
+{
+    if plan.cpu(cpu).scale(kind).is_none() {
+        return Some(Reply::NoTable);
+    }
+    let place = plan.domain_of(kind, cpu);
+    let why = plan.domain(place).unfit;
+    if why == 0 {
+        None
+    } else {
+        Some(Reply::Unfit {
+            domain: place as u32,
+            why,
+        })
+    }
+}
+
+/// The refusal of a request for a state of this kind.
+fn ask_refusal(plan: &Plan, kind: DomainKind, cpu: u32, index: u32) -> Option<Reply>
+    requires { cpu < length plan.now.cpus }
+    ensures { result ≡ the_ask_refusal plan.now kind cpu index }
+{
+    if let Some(reply) = domain_refusal(plan, kind, cpu) {
+        return Some(reply);
+    }
+    let count = plan.cpu(cpu).state_count(kind) as u32;
+    if index < count {
+        None
+    } else {
+        Some(Reply::NoState { count })
+    }
+}
+
+/// The refusal that comes in every state.
+fn fixed_refusal(plan: &Plan, request: Request) -> Option<Reply>
+    requires { Has plan.now request }
+    ensures { result ≡ the_fixed_refusal plan.now request }
+{
+    match request {
+        Request::Idle {
+            cpu,
+            state,
+            tolerance,
+        } => idle_refusal(plan, cpu, state, tolerance),
+        Request::Wake { .. } => None,
+        Request::Perf { cpu, index } => ask_refusal(plan, DomainKind::Perf, cpu, index),
+        Request::Throttle { cpu, index } => ask_refusal(plan, DomainKind::Throttle, cpu, index),
+        Request::PerfLimit { cpu, .. } => domain_refusal(plan, DomainKind::Perf, cpu),
+        Request::ThrottleLimit { cpu, .. } => domain_refusal(plan, DomainKind::Throttle, cpu),
+    }
+}
+
+/// The refusal of a state that is faster than the processor's own limit.
+fn above_limit(plan: &Plan, state: &State, kind: DomainKind, cpu: u32, index: u32) -> Option<Reply>
+    requires cpu { cpu < length plan.now.cpus }
+    requires fits { IsState plan.now state.now }
+    ensures { result ≡ the_limit_test state.now kind cpu index }
+{
+    let limit = u32::from(limit_under(kind, state, Change::Nothing, cpu));
+    if index < limit {
+        Some(Reply::AboveLimit { limit })
+    } else {
+        None
+    }
+}
+
+/// The refusal of the request in this state.
+pub fn refusal(plan: &Plan, state: &State, request: Request) -> Option<Reply>
+    requires request { Has plan.now request }
+    requires fits { IsState plan.now state.now }
+    ensures { result ≡ the_refusal plan.now state.now request }
+{
+    if let Some(reply) = fixed_refusal(plan, request) {
+        return Some(reply);
+    }
+    match request {
+        Request::Perf { cpu, index } => above_limit(plan, state, DomainKind::Perf, cpu, index),
+        Request::Throttle { cpu, index } => {
+            above_limit(plan, state, DomainKind::Throttle, cpu, index)
+        }
+        _ => None,
+    }
+}

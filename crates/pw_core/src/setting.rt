@@ -1,0 +1,121 @@
+ghost use Rattle.std.specs.Prelude.{◌≡◌, ◌<◌, ◌++◌, length, map, All};
+ghost use Rattle.pw_plan.specs.Parts.{scale_of as the_scale};
+ghost use Rattle.pw_plan.specs.Requests.{domain_bound};
+ghost use Rattle.pw_plan.specs.Places.{domain_of as the_place};
+ghost use Rattle.pw_model.specs.States.{IsState, with_change};
+ghost use Rattle.pw_model.specs.Answers.{stands};
+ghost use Rattle.pw_model.specs.Operations.{control_of as the_control, domain_ops as the_ops};
+ghost use Rattle.pw_model.specs.Operations.{register_of as the_register, set_on as the_set};
+ghost use Rattle.pw_core.specs.Rooms.{HasRoom};
+
+use crate::composite::own_register;
+use crate::domains::standing;
+use crate::ops::Ops;
+use acpi_values::{Coord, EntryMethod, Op, Register};
+use pw_model::{Change, Reply, State};
+use pw_plan::{CpuParts, DomainKind, Plan};
+
+/// The control register of a processor's states of this kind.
+fn register_of(kind: DomainKind, cpu: &CpuParts) -> Register
+    ensures { result ≡ the_register (the_scale kind cpu.now) }
+{
+    match cpu.scale(kind) {
+        None => own_register(EntryMethod::Integer(0)),
+        Some(found) => match found.register {
+            None => own_register(EntryMethod::Integer(0)),
+            Some(register) => register,
+        },
+    }
+}
+
+/// The control value of a processor's state of this kind.
+fn control_of(kind: DomainKind, cpu: &CpuParts, state: u8) -> u32
+    ensures { result ≡ the_control (the_scale kind cpu.now) state }
+{
+    match cpu.scale(kind) {
+        None => 0,
+        Some(found) => {
+            let controls = found.controls.as_slice();
+            if (state as usize) < controls.len() {
+                controls[state as usize]
+            } else {
+                0
+            }
+        }
+    }
+}
+
+/// Sets a state on a processor, by its own register and control value.
+pub fn set_on(plan: &Plan, kind: DomainKind, state: u8, cpu: u32) -> Op
+    requires { cpu < length plan.now.cpus }
+    ensures { result ≡ the_set plan.now kind state cpu }
+{
+    let parts = plan.cpu(cpu);
+    Op::Set {
+        cpu,
+        register: register_of(kind, parts),
+        value: u64::from(control_of(kind, parts, state)),
+    }
+}
+
+/// Sets a state on each of these processors, in their order.
+pub fn set_each(plan: &Plan, kind: DomainKind, state: u8, members: &[u32], ops: &mut Ops)
+    requires members { All (λ p. p < length plan.now.cpus) members.now }
+    requires room { HasRoom ops.old (length members.now) }
+    ensures { ops.new ≡ record ops.old {
+      elements = ops.old.elements ++ map (the_set plan.now kind state) members.now;
+    } }
+{
+    for member in members {
+        ops.push(set_on(plan, kind, state, *member));
+    }
+}
+
+/// Where the processor's domain of this kind stands in the changed state.
+pub fn stands_under(plan: &Plan, state: &State, change: Change, kind: DomainKind, cpu: u32) -> Reply
+    requires cpu { cpu < length plan.now.cpus }
+    requires place { the_place plan.now kind cpu < length plan.now.domains }
+    requires fits { IsState plan.now state.now }
+    ensures { result ≡ stands plan.now (with_change state.now change) kind cpu }
+{
+    let place = plan.domain_of(kind, cpu);
+    Reply::Stands {
+        index: u32::from(standing(plan, state, change, place, cpu)),
+    }
+}
+
+/// Appends the operations of an accepted request on the processor's domain of this kind, and says
+/// where the domain then stands.
+pub fn set_domain(
+    plan: &Plan,
+    state: &State,
+    change: Change,
+    kind: DomainKind,
+    cpu: u32,
+    ops: &mut Ops,
+) -> Reply
+    requires cpu { cpu < length plan.now.cpus }
+    requires place { the_place plan.now kind cpu < length plan.now.domains }
+    requires fits { IsState plan.now state.now }
+    requires room { HasRoom ops.old (domain_bound plan.now kind cpu) }
+    ensures reply { result ≡ stands plan.now (with_change state.now change) kind cpu }
+    ensures list { ops.new ≡ record ops.old {
+      elements = ops.old.elements
+          ++ the_ops plan.now state.now (with_change state.now change) kind cpu;
+    } }
+{
+    let place = plan.domain_of(kind, cpu);
+    let before = standing(plan, state, Change::Nothing, place, cpu);
+    let after = standing(plan, state, change, place, cpu);
+    if before != after {
+        let domain = plan.domain(place);
+        match domain.coord {
+            Coord::SwAll => set_each(plan, kind, after, domain.members.as_slice(), ops),
+            Coord::SwAny => ops.push(set_on(plan, kind, after, cpu)),
+            Coord::HwAll => ops.push(set_on(plan, kind, after, cpu)),
+        }
+    }
+    Reply::Stands {
+        index: u32::from(after),
+    }
+}

@@ -1,0 +1,129 @@
+use crate::accepting::{accept, accepted_reply};
+use crate::changing::{change_of, make};
+use crate::opening::{open_all, opened};
+use crate::ops::Ops;
+use crate::refusal::refusal;
+use pw_base::Memory;
+use pw_model::{Reply, State as Lists};
+use pw_plan::{Plan, Request};
+use std::alloc::Global;
+use std::marker::Model;
+
+/// What the processors of a plan last asked for. Contracts see the lists of votes, asks and limits.
+#[derive(Debug, Drop)]
+pub struct State {
+    lists: Lists,
+}
+
+impl Model for State {
+    ghost use Rattle.pw_model.specs.declared.state.State.{State as plain};
+
+    ghost Value = { plain };
+
+    ghost view = { λ s. s.lists };
+}
+
+impl State {
+    ghost use Rattle.std.specs.Prelude.{◌≡◌, ◌++◌, IfOk};
+    ghost use Rattle.pw_plan.specs.Requests.{Has, opening_bound, ops_bound};
+    ghost use Rattle.pw_model.specs.States.{IsState, opening as the_opening};
+    ghost use Rattle.pw_model.specs.Answers.{after, answer as the_answer};
+    ghost use Rattle.pw_model.specs.Operations.{opening_ops, ops_of};
+    ghost use Rattle.pw_core.specs.Rooms.{HasRoom};
+
+    /// The state at the start: everyone runs, the limits are those of the tables, and each processor
+    /// asks for the fastest state that its limit allows.
+    pub fn open(alloc: Global, plan: &Plan) -> Result<State, Memory>
+        ensures opening { IfOk result (λ state. state ≡ the_opening plan.now) }
+        ensures fits { IfOk result (λ state. IsState plan.now state) }
+    {
+        Ok(State {
+            lists: opened(alloc, plan)?,
+        })
+    }
+
+    /// The votes, asks and limits.
+    pub fn lists(&self) -> &Lists
+        ensures { result.now ≡ self.now }
+    {
+        &self.lists
+    }
+
+    /// What the request would be answered.
+    #[tactic(auto, unfolding(pw_model::specs::Answers::answer))]
+    pub fn answer(&self, plan: &Plan, request: Request) -> Reply
+        requires request { Has plan.now request }
+        requires fits { IsState plan.now self.now }
+        ensures { result ≡ the_answer plan.now self.now request }
+    {
+        let lists = &self.lists;
+        match refusal(plan, lists, request) {
+            Some(reply) => reply,
+            None => accepted_reply(plan, lists, change_of(plan, lists, request), request),
+        }
+    }
+
+    /// Appends the operations that the request would have.
+    #[tactic(auto, unfolding(pw_model::specs::Operations::ops_of))]
+    pub fn operations(&self, plan: &Plan, request: Request, ops: &mut Ops)
+        requires request { Has plan.now request }
+        requires fits { IsState plan.now self.now }
+        requires room { HasRoom ops.old (ops_bound plan.now request) }
+        ensures { ops.new ≡ record ops.old {
+          elements = ops.old.elements
+              ++ ops_of plan.now self.now request;
+        } }
+    {
+        let lists = &self.lists;
+        if refusal(plan, lists, request).is_none() {
+            let _reply = accept(plan, lists, change_of(plan, lists, request), request, ops);
+        }
+    }
+
+    /// Appends the operations at the start, whatever was asked since.
+    pub fn opening(&self, plan: &Plan, ops: &mut Ops)
+        requires { HasRoom ops.old (opening_bound plan.now) }
+        ensures { ops.new ≡ record ops.old { elements = ops.old.elements ++ opening_ops plan.now } }
+    {
+        open_all(plan, ops);
+    }
+
+    /// Notes what the request asks for. A refusal changes nothing.
+    #[tactic(auto, unfolding(pw_model::specs::Answers::after))]
+    pub fn apply(&mut self, plan: &Plan, request: Request)
+        requires request { Has plan.now request }
+        requires fits { IsState plan.now self.old }
+        ensures after { self.new ≡ after plan.now self.old request }
+        ensures fits { IsState plan.now self.new }
+    {
+        if refusal(plan, &self.lists, request).is_none() {
+            let change = change_of(plan, &self.lists, request);
+            make(&mut self.lists, change);
+        }
+    }
+
+    /// Answers the request, appends its operations and notes what it asks for.
+    #[tactic(auto, unfolding(pw_model::specs::Answers::after, pw_model::specs::Answers::answer, pw_model::specs::Operations::ops_of))]
+    pub fn step(&mut self, plan: &Plan, request: Request, ops: &mut Ops) -> Reply
+        requires request { Has plan.now request }
+        requires fits { IsState plan.now self.old }
+        requires room { HasRoom ops.old (ops_bound plan.now request) }
+        ensures reply { result ≡ the_answer plan.now self.old request }
+        ensures list { ops.new ≡ record ops.old {
+          elements = ops.old.elements
+              ++ ops_of plan.now self.old request;
+        } }
+        ensures after { self.new ≡ after plan.now self.old request }
+        ensures fits { IsState plan.now self.new }
+    {
+        match refusal(plan, &self.lists, request) {
+            Some(reply) => reply,
+            None => {
+                let change = change_of(plan, &self.lists, request);
+                let reply = accept(plan, &self.lists, change, request, ops);
+                make(&mut self.lists, change);
+                reply
+            }
+        }
+    }
+}

@@ -1,0 +1,11 @@
+pub mod Maps
+pub mod Greatest
+pub mod Votes
+pub mod Enabling
+pub mod Idleness
+pub mod Bounds
+pub mod LastSets
+pub mod Standings
+pub mod Registers
+pub mod Histories
+pub mod Gathering

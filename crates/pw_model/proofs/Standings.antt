@@ -1,0 +1,97 @@
+-- Where a domain stands changes only by a request on itself.
+use Rattle.std.proofs.Common.{◌≡◌, ◌≢◌, ◌==◌, ℕ, Bool, true, false, cond, List, [], ◌∷◌, map, max, refl, ap, ◌∙◌, arith}
+use Rattle.std.specs.List.{AllByRecursion}
+use Rattle.std.proofs.lemmas.List.{get_or-set_other}
+use Rattle.std.proofs.lemmas.Bool.Decides.{nat_tests}
+use Rattle.pw_plan.specs.declared.domain.DomainKind.{DomainKind}
+use Rattle.pw_plan.specs.declared.domain.DomainKind.TheVariants.{Perf, Throttle, Idle}
+use Rattle.pw_plan.specs.declared.plan.Plan.{Plan}
+use Rattle.pw_plan.specs.Groups.{has_member, is_software}
+use Rattle.pw_plan.specs.Places.{domain_at}
+use Rattle.pw_plan.proofs.Lists.{or_left, or_right}
+use Rattle.pw_model.specs.declared.state.Change.{Change}
+use Rattle.pw_model.specs.declared.state.Change.TheVariants as changes
+use Rattle.pw_model.specs.declared.state.State.{State}
+use Rattle.pw_model.specs.States.{ask_of, limit_of, with_change}
+use Rattle.pw_model.specs.Domains.{standing, stands_at}
+use Rattle.pw_model.proofs.Maps.{map_agree}
+
+-- the change is of no ask and no limit of this kind of processor q
+abbrev pub Spares : Change → DomainKind → ℕ → Type 0
+Spares changes.Nothing kind q = Unit {0}
+Spares (changes.Vote p v) kind q = Unit {0}
+Spares (changes.Ask k p i) kind q = kind ≡ k → q ≢ p
+Spares (changes.Limit k p n) kind q = kind ≡ k → q ≢ p
+
+pub ask_spared : (S : State) (c : Change) (kind : DomainKind) (q : ℕ) → Spares c kind q → ask_of kind (with_change S c) q ≡ ask_of kind S q
+ask_spared S changes.Nothing kind q h = refl
+ask_spared S (changes.Vote p v) Perf q h = refl
+ask_spared S (changes.Vote p v) Throttle q h = refl
+ask_spared S (changes.Vote p v) Idle q h = refl
+ask_spared S (changes.Ask Perf p i) Perf q h = get_or-set_other S.perf_asks p q i 0 (h refl)
+ask_spared S (changes.Ask Perf p i) Throttle q h = refl
+ask_spared S (changes.Ask Perf p i) Idle q h = refl
+ask_spared S (changes.Ask Throttle p i) Perf q h = refl
+ask_spared S (changes.Ask Throttle p i) Throttle q h = get_or-set_other S.throttle_asks p q i 0 (h refl)
+ask_spared S (changes.Ask Throttle p i) Idle q h = refl
+ask_spared S (changes.Ask Idle p i) kind q h = refl
+ask_spared S (changes.Limit Perf p n) Perf q h = refl
+ask_spared S (changes.Limit Perf p n) Throttle q h = refl
+ask_spared S (changes.Limit Perf p n) Idle q h = refl
+ask_spared S (changes.Limit Throttle p n) Perf q h = refl
+ask_spared S (changes.Limit Throttle p n) Throttle q h = refl
+ask_spared S (changes.Limit Throttle p n) Idle q h = refl
+ask_spared S (changes.Limit Idle p n) kind q h = refl
+
+pub limit_spared : (S : State) (c : Change) (kind : DomainKind) (q : ℕ) → Spares c kind q → limit_of kind (with_change S c) q ≡ limit_of kind S q
+limit_spared S changes.Nothing kind q h = refl
+limit_spared S (changes.Vote p v) Perf q h = refl
+limit_spared S (changes.Vote p v) Throttle q h = refl
+limit_spared S (changes.Vote p v) Idle q h = refl
+limit_spared S (changes.Ask Perf p i) Perf q h = refl
+limit_spared S (changes.Ask Perf p i) Throttle q h = refl
+limit_spared S (changes.Ask Perf p i) Idle q h = refl
+limit_spared S (changes.Ask Throttle p i) Perf q h = refl
+limit_spared S (changes.Ask Throttle p i) Throttle q h = refl
+limit_spared S (changes.Ask Throttle p i) Idle q h = refl
+limit_spared S (changes.Ask Idle p i) kind q h = refl
+limit_spared S (changes.Limit Perf p n) Perf q h = get_or-set_other S.perf_limits p q n 0 (h refl)
+limit_spared S (changes.Limit Perf p n) Throttle q h = refl
+limit_spared S (changes.Limit Perf p n) Idle q h = refl
+limit_spared S (changes.Limit Throttle p n) Perf q h = refl
+limit_spared S (changes.Limit Throttle p n) Throttle q h = get_or-set_other S.throttle_limits p q n 0 (h refl)
+limit_spared S (changes.Limit Throttle p n) Idle q h = refl
+limit_spared S (changes.Limit Idle p n) kind q h = refl
+
+each_member : (Q : ℕ → Type 0) (ms : List ℕ) → ((q : ℕ) → has_member ms q ≡ true → Q q) → AllByRecursion Q ms
+each_member Q [] h = tt
+each_member Q (m ∷ ms) h = (h m (or_left (m == m) (has_member ms m) (grind (arith, nat_tests))), each_member Q ms (λ q e. h q (or_right (m == q) (has_member ms q) e)))
+
+-- # Domains that software coordinates
+
+-- the domain stands alike for whoever asks
+pub standing-any : (P : Plan) (S : State) (d p q : ℕ) → is_software (domain_at P d).coord ≡ true → standing P S d p ≡ standing P S d q
+standing-any P S d p q e = rw e refl
+
+-- what spares all members leaves where they stand
+pub standing-spared : (P : Plan) (S : State) (c : Change) (d p : ℕ) → is_software (domain_at P d).coord ≡ true → ((q : ℕ) → has_member (domain_at P d).members q ≡ true → Spares c (domain_at P d).kind q)
+    → standing P (with_change S c) d p ≡ standing P S d p
+standing-spared P S c d p e spares =
+    let each = each_member (Spares c (domain_at P d).kind) (domain_at P d).members spares in
+    let asks : map (ask_of (domain_at P d).kind (with_change S c)) (domain_at P d).members ≡ map (ask_of (domain_at P d).kind S) (domain_at P d).members =
+    map_agree (Spares c (domain_at P d).kind) (ask_of (domain_at P d).kind (with_change S c)) (ask_of (domain_at P d).kind S) (ask_spared S c (domain_at P d).kind) (domain_at P d).members each in
+    let limits : map (limit_of (domain_at P d).kind (with_change S c)) (domain_at P d).members ≡ map (limit_of (domain_at P d).kind S) (domain_at P d).members =
+    map_agree (Spares c (domain_at P d).kind) (limit_of (domain_at P d).kind (with_change S c)) (limit_of (domain_at P d).kind S) (limit_spared S c (domain_at P d).kind) (domain_at P d).members each in
+    by (is_software (domain_at P d).coord) e asks limits
+  where
+    by : (b : Bool) → b ≡ true
+        → map (ask_of (domain_at P d).kind (with_change S c)) (domain_at P d).members ≡ map (ask_of (domain_at P d).kind S) (domain_at P d).members
+        → map (limit_of (domain_at P d).kind (with_change S c)) (domain_at P d).members ≡ map (limit_of (domain_at P d).kind S) (domain_at P d).members
+        → cond b (stands_at (map (ask_of (domain_at P d).kind (with_change S c)) (domain_at P d).members) (map (limit_of (domain_at P d).kind (with_change S c)) (domain_at P d).members))
+        (max (limit_of (domain_at P d).kind (with_change S c) p) (ask_of (domain_at P d).kind (with_change S c) p))
+        ≡ cond b (stands_at (map (ask_of (domain_at P d).kind S) (domain_at P d).members) (map (limit_of (domain_at P d).kind S) (domain_at P d).members))
+        (max (limit_of (domain_at P d).kind S p) (ask_of (domain_at P d).kind S p))
+    by true h asks limits =
+        ap (λ xs. stands_at xs (map (limit_of (domain_at P d).kind (with_change S c)) (domain_at P d).members)) asks
+        ∙ ap (stands_at (map (ask_of (domain_at P d).kind S) (domain_at P d).members)) limits
+    by false h asks limits = cc

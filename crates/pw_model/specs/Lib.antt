@@ -1,0 +1,9 @@
+pub mod States
+pub mod Containers
+pub mod Domains
+pub mod Refusals
+pub mod Answers
+pub mod Composites
+pub mod Operations
+pub mod History
+pub mod Laws
