@@ -1,7 +1,8 @@
 """Measures `show` and `rewrite` of blocks: time, peak memory, bytes read and written, and growth.
 
-usage: measure.py PROGRAM
-Times are the least of several runs, as the program's own processor time and as wall time.
+usage: measure.py PROGRAM [PLAIN]
+Times are the least of several runs, as the program's own processor time and as wall time. PLAIN is a program that
+rewrites in plain Rust: it is measured beside `rewrite`, and is to write the same bytes.
 """
 
 import itertools
@@ -62,7 +63,14 @@ def each(size, value):
 
 
 def tables(size):
-    """Names of four packages of six numbers, as tables of performance states have them."""
+    """Names of tables of eight performance states as firmware fills them in: six double words each."""
+    numbers = (2400, 15000, 10, 10, 0x1800, 0x1800)
+    state = package(b"".join(b"\x0c" + n.to_bytes(4, "little") for n in numbers), 6)
+    return each(size, package(8 * state, 8))
+
+
+def short_tables(size):
+    """Names of tables of four performance states in their shortest spelling, 17 bytes each."""
     state = package(b"\x0b\x60\x09\x0b\x98\x3a\x0a\x0a\x0a\x0a\x0a\x10\x0a\x10", 6)
     return each(size, package(4 * state, 4))
 
@@ -97,7 +105,7 @@ def run(program, command, path):
     wall = time.perf_counter() - start
     after = resource.getrusage(resource.RUSAGE_CHILDREN)
     busy = after.ru_utime + after.ru_stime - before.ru_utime - before.ru_stime
-    return wall, busy, len(done.stdout)
+    return wall, busy, done.stdout
 
 
 def peak_memory(program, command, path):
@@ -110,15 +118,33 @@ def peak_memory(program, command, path):
     return int(done.stderr)
 
 
+def beside(plain, path, written):
+    """What the plain program takes for the same rewriting: milliseconds and peak KiB."""
+    runs = [run(plain, "rewrite", path) for _ in range(RUNS)]
+    if any(r[2] != written for r in runs):
+        raise SystemExit(f"{plain} writes other bytes")
+    return min(r[0] for r in runs) * 1e3, peak_memory(plain, "rewrite", path)
+
+
 def main():
     program = sys.argv[1]
+    plain = sys.argv[2] if len(sys.argv) > 2 else None
     cases = [("show", "42 bytes", block(b"\x08_PPC\x00"))]
-    kinds = [("names", names), ("tables", tables), ("one flat package", flat), ("one buffer", buffer), ("nested packages", nested)]
+    kinds = [
+        ("names", names),
+        ("tables", tables),
+        ("short tables", short_tables),
+        ("one flat package", flat),
+        ("one buffer", buffer),
+        ("nested packages", nested),
+    ]
     for what, made in kinds:
         for command in ("show", "rewrite"):
             cases += [(command, f"{n} MiB of {what}", made(n << 20)) for n in (1, 2, 4)]
-    print("| work | block, bytes | output, bytes | time, ms | processor, ms | ns a byte | peak memory, KiB | memory a byte | time against half |")
-    print("|---|---|---|---|---|---|---|---|---|")
+    heads = ["work", "block, bytes", "output, bytes", "time, ms", "processor, ms", "ns a byte", "peak memory, KiB", "memory a byte"]
+    heads += ["time against half", "plain Rust, ms", "plain Rust, memory a byte"]
+    print("| " + " | ".join(heads) + " |")
+    print("|---" * len(heads) + "|")
     before = None
     with tempfile.TemporaryDirectory() as folder:
         for command, name, content in cases:
@@ -133,7 +159,13 @@ def main():
             large = size > 1 << 16
             a_byte = f"{wall * 1e6 / size:.0f}" if large else ""
             memory = f"{peak * 1024 / size:.1f}" if large and peak else ""
-            print(f"| {command}, {name} | {size} | {runs[0][2]} | {wall:.1f} | {busy:.1f} | {a_byte} | {peak or 'no GNU time'} | {memory} | {growth} |")
+            row = [f"{command}, {name}", size, len(runs[0][2]), f"{wall:.1f}", f"{busy:.1f}", a_byte, peak or "no GNU time", memory, growth]
+            if plain and command == "rewrite":
+                took, space = beside(plain, str(path), runs[0][2])
+                row += [f"{took:.1f}", f"{space * 1024 / size:.1f}" if space else ""]
+            else:
+                row += ["", ""]
+            print("| " + " | ".join(str(cell) for cell in row) + " |")
             before = wall
 
 

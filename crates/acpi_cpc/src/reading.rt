@@ -67,6 +67,6 @@ pub fn read_cpc(alloc: Global, object: &Data, width: Width) -> Result<Cpc, ReadF
     }
     Ok(Cpc {
         revision: revision as u8,
-        entries: List::from_vec(entries),
+        entries: List::from_vec(alloc, entries)?,
     })
 }

@@ -22,7 +22,7 @@ fn object_of(alloc: Global, count: u64, revision: u64, behind: u8) -> Result<Dat
     }
     Ok(Data::VarPackage {
         count,
-        elements: List::from_vec(elements),
+        elements: List::from_vec(alloc, elements)?,
     })
 }
 
@@ -73,7 +73,7 @@ fn both_ways(rt: HostRuntime) -> Result<(), Fail> {
     assert!(rt; entries.len() <= 250);
     let cpc = Cpc {
         revision: 3,
-        entries: List::from_vec(entries),
+        entries: List::from_vec(rt.alloc(), entries)?,
     };
     let object = write_cpc(rt.alloc(), &cpc)?;
     let read = read_cpc(rt.alloc(), &object, Width::W64)?;

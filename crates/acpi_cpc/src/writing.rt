@@ -28,5 +28,5 @@ pub fn write_cpc(alloc: Global, cpc: &Cpc) -> Result<Data, Memory>
     for entry in entries {
         elements.push(entry_of(alloc, entry)?)?;
     }
-    Ok(package_object(elements))
+    package_object(alloc, elements)
 }

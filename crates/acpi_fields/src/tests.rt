@@ -14,7 +14,7 @@ const FIXED: [u8; 17] = [
 ];
 
 fn buffer(alloc: Global, size: u64, bytes: &[u8]) -> Result<Data, Fail> {
-    let bytes = List::from_vec(Vec::from_slice(alloc, bytes)?);
+    let bytes = List::from_vec(alloc, Vec::from_slice(alloc, bytes)?)?;
     Ok(Data::Buffer { size, bytes })
 }
 
@@ -79,7 +79,7 @@ fn packages(rt: HostRuntime) -> Result<(), Fail> {
     let elements = vec![in rt.alloc(); Data::Int(7)]?;
     let object = Data::VarPackage {
         count: 3,
-        elements: List::from_vec(elements),
+        elements: List::from_vec(rt.alloc(), elements)?,
     };
     let whole = elements_at(&object, WHOLE);
     assert!(rt; whole.is_ok_and(|elements| elements.len() == 1));

@@ -15,19 +15,19 @@ pub fn register_object(alloc: Global, register: &Register) -> Result<Data, Memor
     let bytes = Vec::from_slice(alloc, &register.to_bytes())?;
     Ok(Data::Buffer {
         size: 17,
-        bytes: List::from_vec(bytes),
+        bytes: List::from_vec(alloc, bytes)?,
     })
 }
 
 /// A package of these elements, which counts them.
-pub fn package_object(elements: Vec<Data>) -> Data
+pub fn package_object(alloc: Global, elements: Vec<Data>) -> Result<Data, Memory>
     requires { length elements.items < 256 }
-    ensures { result ≡ the_package elements.items }
+    ensures { IfOk result (λ object. object ≡ the_package elements.items) }
 {
-    Data::Package {
+    Ok(Data::Package {
         count: elements.len() as u8,
-        elements: List::from_vec(elements),
-    }
+        elements: List::from_vec(alloc, elements)?,
+    })
 }
 
 /// The number of a coordination type (ACPI 6.5, 8.3).

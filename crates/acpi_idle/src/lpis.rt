@@ -66,7 +66,7 @@ fn lpi_state(alloc: Global, object: &Data, width: Width, outer: u32) -> Result<L
         entry,
         residency,
         usage,
-        name: List::from_vec(name),
+        name: List::from_vec(alloc, name)?,
     })
 }
 
@@ -105,6 +105,6 @@ pub fn read_lpi(alloc: Global, object: &Data, width: Width) -> Result<Lpi, ReadF
     }
     Ok(Lpi {
         level,
-        states: List::from_vec(states),
+        states: List::from_vec(alloc, states)?,
     })
 }

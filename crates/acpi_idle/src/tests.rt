@@ -73,10 +73,10 @@ fn c_states_both_ways(rt: HostRuntime) -> Result<(), Fail> {
 #[test]
 fn counts_of_c_states(rt: HostRuntime) -> Result<(), Fail> {
     let elements = vec![in rt.alloc(); Data::Int(1), Data::Ones, Data::Ones]?;
-    let object = package_object(elements);
+    let object = package_object(rt.alloc(), elements)?;
     let fault = read_cst(rt.alloc(), &object, Width::W64).err();
     assert_eq!(rt; fault, shape(1, 0, Why::Count));
-    let nothing = package_object(Vec::new(rt.alloc()));
+    let nothing = package_object(rt.alloc(), Vec::new(rt.alloc()))?;
     let fault = read_cst(rt.alloc(), &nothing, Width::W64).err();
     assert_eq!(rt; fault, shape(0, 0, Why::Count));
     Ok(())
@@ -92,8 +92,8 @@ fn dependencies(rt: HostRuntime) -> Result<(), Fail> {
         Data::Int(2),
         Data::Int(1),
     ]?;
-    let elements = vec![in rt.alloc(); package_object(fields)]?;
-    let object = package_object(elements);
+    let elements = vec![in rt.alloc(); package_object(rt.alloc(), fields)?]?;
+    let object = package_object(rt.alloc(), elements)?;
     let entry = CDependency {
         domain: 0,
         coord: Coord::SwAll,
@@ -121,11 +121,11 @@ fn one_state(alloc: Global) -> Result<Lpi, Fail> {
         entry: EntryMethod::Integer(0x10),
         residency: NONE,
         usage: NONE,
-        name: List::from_vec(Vec::from_slice(alloc, b"S1")?),
+        name: List::from_vec(alloc, Vec::from_slice(alloc, b"S1")?)?,
     })?;
     Ok(Lpi {
         level: 0,
-        states: List::from_vec(states),
+        states: List::from_vec(alloc, states)?,
     })
 }
 
@@ -151,7 +151,7 @@ fn low_power_idle_states(rt: HostRuntime) -> Result<(), Fail> {
 #[test]
 fn revision_of_low_power_idle_states(rt: HostRuntime) -> Result<(), Fail> {
     let elements = vec![in rt.alloc(); Data::Int(1), Data::Int(0), Data::Int(0)]?;
-    let object = package_object(elements);
+    let object = package_object(rt.alloc(), elements)?;
     let fault = read_lpi(rt.alloc(), &object, Width::W64).err();
     assert_eq!(rt; fault, shape(1, 0, Why::Revision));
     Ok(())

@@ -19,7 +19,7 @@ fn cst_state(alloc: Global, state: &CState) -> Result<Data, Memory>
         Data::Int(u64::from(state.latency)),
         Data::Int(u64::from(state.power)),
     ]?;
-    Ok(package_object(fields))
+    package_object(alloc, fields)
 }
 
 /// The object of `_CST` for these C states (ACPI 6.5, 8.4.1.1).
@@ -32,7 +32,7 @@ pub fn write_cst(alloc: Global, states: &[CState]) -> Result<Data, Memory>
     for state in states {
         elements.push(cst_state(alloc, state)?)?;
     }
-    Ok(package_object(elements))
+    package_object(alloc, elements)
 }
 
 fn csd_entry(alloc: Global, entry: &CDependency) -> Result<Data, Memory>
@@ -46,7 +46,7 @@ fn csd_entry(alloc: Global, entry: &CDependency) -> Result<Data, Memory>
         Data::Int(u64::from(entry.processors)),
         Data::Int(u64::from(entry.index)),
     ]?;
-    Ok(package_object(fields))
+    package_object(alloc, fields)
 }
 
 /// The object of `_CSD` for these dependencies (ACPI 6.5, 8.4.1.2).
@@ -58,7 +58,7 @@ pub fn write_csd(alloc: Global, entries: &[CDependency]) -> Result<Data, Memory>
     for entry in entries {
         elements.push(csd_entry(alloc, entry)?)?;
     }
-    Ok(package_object(elements))
+    package_object(alloc, elements)
 }
 
 /// An entry method (ACPI 6.5, 8.4.3.3).
@@ -76,7 +76,7 @@ fn text_of(alloc: Global, text: &List<u8>) -> Result<Data, Memory>
     ensures { IfOk result (λ object. object ≡ string text.now) }
 {
     let text = Vec::from_slice(alloc, text.as_slice())?;
-    Ok(Data::Text(List::from_vec(text)))
+    Ok(Data::Text(List::from_vec(alloc, text)?))
 }
 
 fn lpi_state(alloc: Global, state: &LpiState) -> Result<Data, Memory>
@@ -98,7 +98,7 @@ fn lpi_state(alloc: Global, state: &LpiState) -> Result<Data, Memory>
         usage,
         name,
     ]?;
-    Ok(package_object(fields))
+    package_object(alloc, fields)
 }
 
 /// The object of `_LPI` for these states (ACPI 6.5, 8.4.3.3).
@@ -114,5 +114,5 @@ pub fn write_lpi(alloc: Global, lpi: &Lpi) -> Result<Data, Memory>
     for state in states {
         elements.push(lpi_state(alloc, state)?)?;
     }
-    Ok(package_object(elements))
+    package_object(alloc, elements)
 }

@@ -17,8 +17,8 @@ fn domain_of(alloc: Global, revision: u64, coord: u64) -> Result<Data, Fail> {
         Data::Int(coord),
         Data::Int(2),
     ]?;
-    let elements = vec![in alloc; package_object(fields)]?;
-    Ok(package_object(elements))
+    let elements = vec![in alloc; package_object(alloc, fields)?]?;
+    Ok(package_object(alloc, elements)?)
 }
 
 fn shape(outer: u32, inner: u32, why: Why) -> Shape {
@@ -99,10 +99,10 @@ fn performance_states(rt: HostRuntime) -> Result<(), Fail> {
         Data::Int(0x10),
         Data::Int(0x10),
     ]?;
-    let elements = vec![in rt.alloc(); package_object(fields)]?;
+    let elements = vec![in rt.alloc(); package_object(rt.alloc(), fields)?]?;
     let object = Data::VarPackage {
         count: 1,
-        elements: List::from_vec(elements),
+        elements: List::from_vec(rt.alloc(), elements)?,
     };
     let read = read_pss(rt.alloc(), &object, Width::W64)?;
     assert_eq!(rt; read.as_slice(), [state].as_slice());
@@ -125,7 +125,7 @@ fn throttling_states(rt: HostRuntime) -> Result<(), Fail> {
     let read = read_tss(rt.alloc(), &written, Width::W64)?;
     assert_eq!(rt; read.as_slice(), [state].as_slice());
     let elements = vec![in rt.alloc(); Data::Int(1)]?;
-    let object = package_object(elements);
+    let object = package_object(rt.alloc(), elements)?;
     let kind = ReadFault::Shape {
         place: Place { outer: 1, inner: 0 },
         why: Why::Kind,

@@ -20,7 +20,7 @@ fn pss_state(alloc: Global, state: &PState) -> Result<Data, Memory>
         Data::Int(u64::from(state.control)),
         Data::Int(u64::from(state.status)),
     ]?;
-    Ok(package_object(fields))
+    package_object(alloc, fields)
 }
 
 /// The object of `_PSS` for these performance states (ACPI 6.5, 8.4.5.2).
@@ -32,7 +32,7 @@ pub fn write_pss(alloc: Global, states: &[PState]) -> Result<Data, Memory>
     for state in states {
         elements.push(pss_state(alloc, state)?)?;
     }
-    Ok(package_object(elements))
+    package_object(alloc, elements)
 }
 
 fn tss_state(alloc: Global, state: &TState) -> Result<Data, Memory>
@@ -45,7 +45,7 @@ fn tss_state(alloc: Global, state: &TState) -> Result<Data, Memory>
         Data::Int(u64::from(state.control)),
         Data::Int(u64::from(state.status)),
     ]?;
-    Ok(package_object(fields))
+    package_object(alloc, fields)
 }
 
 /// The object of `_TSS` for these throttling states (ACPI 6.5, 8.4.4.2).
@@ -57,7 +57,7 @@ pub fn write_tss(alloc: Global, states: &[TState]) -> Result<Data, Memory>
     for state in states {
         elements.push(tss_state(alloc, state)?)?;
     }
-    Ok(package_object(elements))
+    package_object(alloc, elements)
 }
 
 /// The object of `_PCT` or `_PTC` for these registers (ACPI 6.5, 8.4.5.1 and 8.4.4.1).
@@ -67,7 +67,7 @@ pub fn write_control(alloc: Global, pair: &ControlPair) -> Result<Data, Memory>
     let control = register_object(alloc, &pair.control)?;
     let status = register_object(alloc, &pair.status)?;
     let elements = vec![in alloc; control, status]?;
-    Ok(package_object(elements))
+    package_object(alloc, elements)
 }
 
 /// The object of `_PPC` or `_TPC` for this limit (ACPI 6.5, 8.4.5.3 and 8.4.4.3).
@@ -88,6 +88,6 @@ pub fn write_dependency(alloc: Global, domain: &Dependency) -> Result<Data, Memo
         Data::Int(coord_number(domain.coord)),
         Data::Int(u64::from(domain.processors)),
     ]?;
-    let elements = vec![in alloc; package_object(fields)]?;
-    Ok(package_object(elements))
+    let elements = vec![in alloc; package_object(alloc, fields)?]?;
+    package_object(alloc, elements)
 }

@@ -14,7 +14,7 @@ fn name_of(alloc: Global, root: bool, names: &[[u8; 4]], number: u64) -> Result<
         path: Path {
             root,
             ups: 0,
-            segs: List::from_vec(segs),
+            segs: List::from_vec(alloc, segs)?,
         },
         value: Data::Int(number),
     })
@@ -26,7 +26,7 @@ fn event_of(alloc: Global, name: [u8; 4]) -> Result<Term, Fail> {
         path: Path {
             root: false,
             ups: 0,
-            segs: List::from_vec(segs),
+            segs: List::from_vec(alloc, segs)?,
         },
     })
 }

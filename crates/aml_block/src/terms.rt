@@ -73,5 +73,5 @@ pub(crate) fn terms_of(alloc: Global, bytes: &[u8], end: usize) -> Result<List<T
         terms.push(term)?;
         rest = after;
     }
-    Ok(List::from_vec(terms))
+    Ok(List::from_vec(alloc, terms)?)
 }

@@ -44,10 +44,10 @@ wide64 = record {
 }
 
 -- a number is its bytes
-abbrev NumberOf : Width → ℕ → ℕ → List ℕ → Type 0
+abbrev pub NumberOf : Width → ℕ → ℕ → List ℕ → Type 0
 NumberOf w limit n c = (c ≡ to_le_bytes w n) × (n < limit)
 
-number_takes : (w : Width) (limit : ℕ) → IsWide w limit → (end : ℕ) (bytes : List ℕ) (x : ℕ × List ℕ) → IsBytes bytes → number_at w end bytes ≡ Ok x → Takes (NumberOf w limit) bytes x
+pub number_takes : (w : Width) (limit : ℕ) → IsWide w limit → (end : ℕ) (bytes : List ℕ) (x : ℕ × List ℕ) → IsBytes bytes → number_at w end bytes ≡ Ok x → Takes (NumberOf w limit) bytes x
 number_takes w limit wide end bytes x fits e =
     elim (chosen (ltb (length bytes) (byte_len w)) (failed (Short end)) (done (from_le_bytes w (take (byte_len w) bytes), drop (byte_len w) bytes)) (Ok x) e) [
       | inl h ↦ absurd (no_err_ok x (Short end) h.1)
@@ -64,20 +64,20 @@ number_takes w limit wide end bytes x fits e =
           })
     ]
 
-number_again : (w : Width) (limit : ℕ) → IsWide w limit → (end n : ℕ) (rest : List ℕ) → n < limit → number_at w end (to_le_bytes w n ++ rest) ≡ Ok (n, rest)
+pub number_again : (w : Width) (limit : ℕ) → IsWide w limit → (end n : ℕ) (rest : List ℕ) → n < limit → number_at w end (to_le_bytes w n ++ rest) ≡ Ok (n, rest)
 number_again w limit wide end n rest lt =
     let len = wide.len n in
     let long : ltb (length (to_le_bytes w n ++ rest)) (byte_len w) ≡ false = le-ltb _ _ (omega (arith, length-append (to_le_bytes w n) rest)) in
     rw (long, take_at (to_le_bytes w n) rest (byte_len w) len, drop_at (to_le_bytes w n) rest (byte_len w) len, wide.again n lt) refl
 
-number_fails : (w : Width) (end : ℕ) (bytes : List ℕ) (fault : DataFault) → number_at w end bytes ≡ Err fault → (length bytes < byte_len w) × (Short end ≡ fault)
+pub number_fails : (w : Width) (end : ℕ) (bytes : List ℕ) (fault : DataFault) → number_at w end bytes ≡ Err fault → (length bytes < byte_len w) × (Short end ≡ fault)
 number_fails w end bytes fault e =
     elim (chosen (ltb (length bytes) (byte_len w)) (failed (Short end)) (done (from_le_bytes w (take (byte_len w) bytes), drop (byte_len w) bytes)) (Err fault) e) [
       | inl h ↦ (ltb-true _ _ h.0, err_is {A = ℕ × List ℕ} (Short end) fault h.1)
       | inr h ↦ absurd (no_ok_err (from_le_bytes w (take (byte_len w) bytes), drop (byte_len w) bytes) fault h.1)
     ]
 
-number_refused : (w : Width) (end : ℕ) (bytes : List ℕ) → length bytes < byte_len w → number_at w end bytes ≡ Err (Short end)
+pub number_refused : (w : Width) (end : ℕ) (bytes : List ℕ) → length bytes < byte_len w → number_at w end bytes ≡ Err (Short end)
 number_refused w end bytes lt = rw (lt-ltb (length bytes) (byte_len w) lt) refl
 
 -- ---- constants by their lead byte

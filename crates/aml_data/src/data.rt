@@ -36,7 +36,7 @@ pub enum Width {
 fn copy_bytes(alloc: Global, bytes: &List<u8>) -> Result<List<u8>, Memory>
     ensures { IfOk result (λ copy. copy ≡ bytes.now) }
 {
-    Ok(List::from_vec(Vec::from_slice(alloc, bytes.as_slice())?))
+    List::from_vec(alloc, Vec::from_slice(alloc, bytes.as_slice())?)
 }
 
 /// A data object equal to this one.
@@ -85,5 +85,5 @@ fn copy_elements(alloc: Global, elements: &[Data]) -> Result<List<Data>, Memory>
     for element in elements {
         copies.push(copy_data(alloc, element)?)?;
     }
-    Ok(List::from_vec(copies))
+    List::from_vec(alloc, copies)
 }

@@ -16,13 +16,10 @@ pub(crate) const TOO_LONG: u64 = 0x1000_0000;
 pub fn constant_len(number: u64) -> u64
     ensures { result ≡ length (written_constant number) }
 {
-    match number {
-        0..=1 => 1,
-        2..=0xFF => 2,
-        0x100..=0xFFFF => 3,
-        0x1_0000..=0xFFFF_FFFF => 5,
-        _ => 9,
-    }
+    1 + u64::from(number > 1)
+        + u64::from(number > 0xFF)
+        + 2 * u64::from(number > 0xFFFF)
+        + 4 * u64::from(number > 0xFFFF_FFFF)
 }
 
 /// How many bytes the shortest PkgLength before so many bytes has (ACPI 6.5, 20.2.4).
@@ -75,10 +72,25 @@ fn sized_len(content: u64) -> u64
     TOO_LONG.min(1 + length_len(content) + content)
 }
 
-/// How many bytes the written form of an object has, counted up to `TOO_LONG`.
+/// How many bytes the written form of an object has, counted up to `TOO_LONG`. Most elements are
+/// integers, which take no further call.
 #[cycle(lengths)]
+#[inline]
 #[tactic(auto, using(crate::proofs::WrittenLengths::lengths))]
 pub(crate) fn object_len(value: &Data, depth: u32) -> u64
+    requires { IsWritableWithin depth value.now }
+    ensures { result ≡ min (2 ^ 28) (length (written value.now)) }
+{
+    if let Data::Int(number) = value {
+        return constant_len(*number);
+    }
+    any_len(value, depth)
+}
+
+#[cycle(lengths)]
+#[inline(never)]
+#[tactic(auto, using(crate::proofs::WrittenLengths::lengths))]
+fn any_len(value: &Data, depth: u32) -> u64
     requires { IsWritableWithin depth value.now }
     ensures { result ≡ min (2 ^ 28) (length (written value.now)) }
 {

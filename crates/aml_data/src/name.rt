@@ -102,6 +102,6 @@ pub fn name_of(alloc: Global, bytes: &[u8], end: usize) -> Result<(Path, &[u8]),
 {
     let (root, ups, rest) = prefix_of(bytes);
     let (segs, after) = segments_of(alloc, rest, end)?;
-    let segs = List::from_vec(segs);
+    let segs = List::from_vec(alloc, segs)?;
     Ok((Path { root, ups, segs }, after))
 }

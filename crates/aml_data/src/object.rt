@@ -18,6 +18,9 @@ use std::alloc::Global;
 /// How deep packages nest at most: a limit of this project's profile.
 const DEEPEST: u32 = 32;
 
+/// As many elements as most packages have at most.
+const FEW: u64 = 8;
+
 /// Whether this byte begins a name that is a data object: one with a prefix or a segment.
 fn begins_name(byte: u8) -> bool
     ensures { result ≡ begins_name byte }
@@ -50,7 +53,7 @@ fn buffer_of(alloc: Global, bytes: &[u8], end: usize) -> Result<(Data, &[u8]), D
 {
     let (inside, after) = window_of(bytes, end)?;
     let (size, content) = constant_of(inside, end - after.len())?;
-    let bytes = List::from_vec(Vec::from_slice(alloc, content)?);
+    let bytes = List::from_vec(alloc, Vec::from_slice(alloc, content)?)?;
     Ok((Data::Buffer { size, bytes }, after))
 }
 
@@ -107,6 +110,12 @@ fn var_package_of(
     Ok((Data::VarPackage { count, elements }, after))
 }
 
+/// How much room is taken at first for the elements of a package: as much as its count says where they
+/// can be so many, and are few.
+fn room_for(bytes: &[u8], count: u64) -> usize {
+    bytes.len().min(FEW.min(count) as usize)
+}
+
 /// The elements of a package, to the end of its bytes: at most so many, each nesting at most so deep.
 #[cycle(objects)]
 fn elements_of(
@@ -120,7 +129,7 @@ fn elements_of(
     requires small { end < 2 ^ 32 }
     ensures { Gives (λ x. x) result (elements_at (object_within depth) count end bytes.now) }
 {
-    let mut elements = Vec::new(alloc);
+    let mut elements = Vec::with_capacity(alloc, room_for(bytes, count))?;
     let mut rest = bytes;
     let mut left = count;
     while !rest.is_empty() {
@@ -133,7 +142,7 @@ fn elements_of(
         rest = after;
         left -= 1;
     }
-    Ok(List::from_vec(elements))
+    Ok(List::from_vec(alloc, elements)?)
 }
 
 /// The data object that stands first, nesting at most so deep, and the bytes after it.

@@ -139,7 +139,7 @@ fn integers(rt: HostRuntime) -> Result<(), Fail> {
         Some(0xFFFF_FFFF_FFFF_FFFF)
     );
     assert_eq!(rt; integer(&Data::Revision, Width::W64), None);
-    let text = List::from_vec(Vec::from_slice(rt.alloc(), b"1")?);
+    let text = List::from_vec(rt.alloc(), Vec::from_slice(rt.alloc(), b"1")?)?;
     assert_eq!(rt; integer(&Data::Text(text), Width::W64), None);
     Ok(())
 }
@@ -153,14 +153,14 @@ fn copies(rt: HostRuntime) -> Result<(), Fail> {
     let full = copy_full_path(rt.alloc(), &full).ok().ok_or("memory")?;
     assert!(rt; are_segs(full.segs.as_slice(), &[*b"_PPC"]));
 
-    let bytes = List::from_vec(Vec::from_slice(rt.alloc(), &[1, 2])?);
+    let bytes = List::from_vec(rt.alloc(), Vec::from_slice(rt.alloc(), &[1, 2])?)?;
     let mut elements = Vec::new(rt.alloc());
     elements
         .push(Data::Buffer { size: 3, bytes })
         .ok()
         .ok_or("memory")?;
     elements.push(Data::Path(path)).ok().ok_or("memory")?;
-    let elements = List::from_vec(elements);
+    let elements = List::from_vec(rt.alloc(), elements)?;
     let package = Data::Package { count: 2, elements };
     match copy_data(rt.alloc(), &package).ok().ok_or("memory")? {
         Data::Package { count: 2, elements } => match elements.as_slice() {

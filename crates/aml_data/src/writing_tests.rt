@@ -34,7 +34,7 @@ fn object_is(alloc: Global, value: &Data, want: &[u8]) -> bool {
 fn package(alloc: Global, count: u8, element: Data) -> Result<Data, Memory> {
     let mut elements = Vec::new(alloc);
     elements.push(element)?;
-    let elements = List::from_vec(elements);
+    let elements = List::from_vec(alloc, elements)?;
     Ok(Data::Package { count, elements })
 }
 
@@ -100,7 +100,7 @@ fn written_leaves(rt: HostRuntime) {
 
 #[test]
 fn written_text(rt: HostRuntime) -> Result<(), Fail> {
-    let text = Data::Text(List::from_vec(Vec::from_slice(rt.alloc(), b"ACPI0007")?));
+    let text = Data::Text(List::from_vec(rt.alloc(), Vec::from_slice(rt.alloc(), b"ACPI0007")?)?);
     assert!(rt; object_is(rt.alloc(), &text, b"\x0DACPI0007\x00"));
     Ok(())
 }
@@ -114,7 +114,7 @@ fn written_path(rt: HostRuntime) -> Result<(), Fail> {
 
 /// How many bytes a buffer of so many zeros is written in, if they begin so.
 fn buffer_len(alloc: Global, size: usize, front: &[u8]) -> Result<Option<usize>, Memory> {
-    let bytes = List::from_vec(vec![in alloc; 0u8; size]?);
+    let bytes = List::from_vec(alloc, vec![in alloc; 0u8; size]?)?;
     let buffer = Data::Buffer {
         size: size as u64,
         bytes,
@@ -137,10 +137,11 @@ fn written_buffers(rt: HostRuntime) -> Result<(), Fail> {
 }
 
 #[test]
-fn written_empty_package(rt: HostRuntime) {
-    let elements = List::from_vec(Vec::new(rt.alloc()));
+fn written_empty_package(rt: HostRuntime) -> Result<(), Fail> {
+    let elements = List::from_vec(rt.alloc(), Vec::new(rt.alloc()))?;
     let empty = Data::Package { count: 0, elements };
     assert!(rt; object_is(rt.alloc(), &empty, &[0x12, 0x02, 0x00]));
+    Ok(())
 }
 
 #[test]
@@ -156,7 +157,7 @@ fn pair(alloc: Global, count: u8) -> Result<Data, Memory> {
     let mut elements = Vec::new(alloc);
     elements.push(Data::Ones)?;
     elements.push(Data::Ones)?;
-    let elements = List::from_vec(elements);
+    let elements = List::from_vec(alloc, elements)?;
     Ok(Data::Package { count, elements })
 }
 
@@ -171,20 +172,21 @@ fn package_of_more_than_its_count(rt: HostRuntime) -> Result<(), Fail> {
 
 #[test]
 fn text_of_no_ascii(rt: HostRuntime) -> Result<(), Fail> {
-    let text = Data::Text(List::from_vec(Vec::from_slice(rt.alloc(), &[0x41, 0x80])?));
+    let text = Data::Text(List::from_vec(rt.alloc(), Vec::from_slice(rt.alloc(), &[0x41, 0x80])?)?);
     assert!(rt; !is_writable(&text));
     Ok(())
 }
 
 #[test]
-fn name_of_no_part(rt: HostRuntime) {
-    let segs = List::from_vec(Vec::new(rt.alloc()));
+fn name_of_no_part(rt: HostRuntime) -> Result<(), Fail> {
+    let segs = List::from_vec(rt.alloc(), Vec::new(rt.alloc()))?;
     let path = Path {
         root: false,
         ups: 0,
         segs,
     };
     assert!(rt; !is_writable(&Data::Path(path)));
+    Ok(())
 }
 
 #[test]

@@ -4,7 +4,7 @@ use std::{env, fs, process};
 
 #[test]
 fn list_keeps_its_elements(rt: HostRuntime) -> Result<(), Fail> {
-    let mut list = List::from_vec([1, 2, 3].to_vec(rt.alloc())?);
+    let mut list = List::from_vec(rt.alloc(), [1, 2, 3].to_vec(rt.alloc())?)?;
     assert_eq!(rt; list.as_slice().len(), 3);
     list.set(1, 9);
     assert_eq!(rt; list.into_vec().as_slice(), [1, 9, 3].as_slice());

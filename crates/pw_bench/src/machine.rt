@@ -19,6 +19,10 @@ fn digit(number: u32) -> u8 {
     }
 }
 
+fn list<T: Drop>(alloc: Global, items: Vec<T>) -> anyhow::Result<List<T>> {
+    List::from_vec(alloc, items).ok().context("memory")
+}
+
 fn path(alloc: Global, letter: u8, number: u32) -> anyhow::Result<FullPath> {
     let text = [
         letter,
@@ -29,7 +33,7 @@ fn path(alloc: Global, letter: u8, number: u32) -> anyhow::Result<FullPath> {
     let mut segs = Vec::new(alloc);
     segs.push(Seg::new(text).context("a segment")?)?;
     Ok(FullPath {
-        segs: List::from_vec(segs),
+        segs: list(alloc, segs)?,
     })
 }
 
@@ -63,7 +67,7 @@ fn cpu_table(alloc: Global, kind: IdleKind) -> anyhow::Result<IdleTable> {
     }
     Ok(IdleTable {
         kind,
-        rows: List::from_vec(rows),
+        rows: list(alloc, rows)?,
     })
 }
 
@@ -76,7 +80,7 @@ fn cluster(alloc: Global, number: u32) -> anyhow::Result<ContainerParts> {
         parent: None,
         idle: IdleTable {
             kind: IdleKind::Lpi,
-            rows: List::from_vec(rows),
+            rows: list(alloc, rows)?,
         },
     })
 }
@@ -88,7 +92,7 @@ fn scale(alloc: Global, number: u32, port: u64) -> anyhow::Result<Scale> {
         controls.push(control)?;
     }
     Ok(Scale {
-        controls: List::from_vec(controls),
+        controls: list(alloc, controls)?,
         register: Some(Register {
             space: 1,
             width: 8,
@@ -122,7 +126,7 @@ fn cpu(alloc: Global, number: u32, kind: IdleKind) -> anyhow::Result<CpuParts> {
         path: path(alloc, b'P', number)?,
         parent,
         idle: cpu_table(alloc, kind)?,
-        csd: List::from_vec(csd),
+        csd: list(alloc, csd)?,
         perf: Some(scale(alloc, number, 0xB2)?),
         throttle: Some(scale(alloc, number, 0xB4)?),
         cpc: None,

@@ -14,6 +14,7 @@ use aml_block::{Block, WriteFault, read, write};
 use pw_base::{Files, Sink};
 use pw_text::Page;
 use std::alloc::Global;
+use std::mem::forget;
 
 /// Does `rewrite BLOCK`: the block of a file in its shortest spelling.
 pub fn rewrite<F: Files, K: Sink>(
@@ -36,7 +37,12 @@ pub fn rewrite<F: Files, K: Sink>(
         return without_memory(err);
     };
     match read(alloc, files, name) {
-        Ok(block) => rewrite_block(alloc, &block, out, err),
+        Ok(block) => {
+            let outcome = rewrite_block(alloc, &block, out, err);
+            // The process ends now: to give the tree back, piece by piece, takes a fifth of its time.
+            forget(block);
+            outcome
+        }
         Err(fault) => refuse(&mut page, err, fault),
     }
 }

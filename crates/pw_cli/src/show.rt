@@ -18,6 +18,7 @@ use pw_base::{Failed, Files, Sink};
 use pw_show::put_objects;
 use pw_text::Page;
 use std::alloc::Global;
+use std::mem::forget;
 
 /// Does `show BLOCK`: a line on the output for each object that the block of a file places.
 pub fn show<F: Files, K: Sink>(
@@ -40,7 +41,12 @@ pub fn show<F: Files, K: Sink>(
         return without_memory(err);
     };
     match read(alloc, files, name) {
-        Ok(block) => show_block(alloc, &block, &mut page, out, err),
+        Ok(block) => {
+            let outcome = show_block(alloc, &block, &mut page, out, err);
+            // The process ends now: to give the tree back, piece by piece, takes a fifth of its time.
+            forget(block);
+            outcome
+        }
         Err(fault) => refuse(&mut page, err, fault),
     }
 }

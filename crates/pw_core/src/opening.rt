@@ -36,7 +36,7 @@ fn opening_limits(alloc: Global, plan: &Plan, kind: DomainKind) -> Result<List<u
     for cpu in 0..plan.cpus.as_slice().len() {
         limits.push(opening_limit(plan, kind, cpu as u32))?;
     }
-    Ok(List::from_vec(limits))
+    List::from_vec(alloc, limits)
 }
 
 /// The votes that processors open with.
@@ -48,7 +48,7 @@ fn opening_votes(alloc: Global, plan: &Plan) -> Result<List<Vote>, Memory>
     for _cpu in plan.cpus.as_slice() {
         votes.push(RUNNING)?;
     }
-    Ok(List::from_vec(votes))
+    List::from_vec(alloc, votes)
 }
 
 /// The state that a plan opens with.

@@ -130,7 +130,7 @@ fn group_with(alloc: Global, labels: &[u32], cpu: u32) -> Result<Group, Memory>
         }
     }
     Ok(Group {
-        members: List::from_vec(members),
+        members: List::from_vec(alloc, members)?,
     })
 }
 
@@ -146,7 +146,7 @@ fn groups_with(alloc: Global, domains: &[Domain], labels: &[u32]) -> Result<List
             groups.push(group_with(alloc, labels, cpu as u32)?)?;
         }
     }
-    Ok(List::from_vec(groups))
+    List::from_vec(alloc, groups)
 }
 
 /// The groups of so many processors.

@@ -66,10 +66,12 @@ impl Plan {
         let children = all_children(alloc, containers.as_slice(), cpus.as_slice())?;
         let domains = all_domains(alloc, cpus.as_slice())?;
         let groups = groups_of(alloc, domains.as_slice(), cpus.len() as u32)?;
+        let containers = List::from_vec(alloc, containers)?;
+        let cpus = List::from_vec(alloc, cpus)?;
         Ok(Plan {
-            containers: List::from_vec(containers),
+            containers,
             children,
-            cpus: List::from_vec(cpus),
+            cpus,
             domains,
             groups,
         })

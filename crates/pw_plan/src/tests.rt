@@ -18,7 +18,7 @@ fn path(alloc: Global, number: u32) -> Result<FullPath, Fail> {
     let mut segs = Vec::new(alloc);
     segs.push(segment(number)?)?;
     Ok(FullPath {
-        segs: List::from_vec(segs),
+        segs: List::from_vec(alloc, segs)?,
     })
 }
 
@@ -35,7 +35,7 @@ fn table(alloc: Global, kind: IdleKind, states: u32) -> Result<IdleTable, Fail> 
     }
     Ok(IdleTable {
         kind,
-        rows: List::from_vec(rows),
+        rows: List::from_vec(alloc, rows)?,
     })
 }
 
@@ -64,7 +64,7 @@ fn cpu(
         path: path(alloc, number)?,
         parent,
         idle: table(alloc, IdleKind::Cst, states)?,
-        csd: List::from_vec(Vec::from_slice(alloc, csd)?),
+        csd: List::from_vec(alloc, Vec::from_slice(alloc, csd)?)?,
         perf: None,
         throttle: None,
         cpc: None,
@@ -82,7 +82,7 @@ fn scale(
         controls.push(number)?;
     }
     Ok(Some(Scale {
-        controls: List::from_vec(controls),
+        controls: List::from_vec(alloc, controls)?,
         register: if register {
             Some(Register {
                 space: 1,

@@ -57,7 +57,7 @@ fn children_of(
             children.push(Child::Cpu(number as u32))?;
         }
     }
-    Ok(List::from_vec(children))
+    List::from_vec(alloc, children)
 }
 
 /// The children of each container.
@@ -75,5 +75,5 @@ pub fn all_children(
     for node in 0..containers.len() {
         lists.push(children_of(alloc, containers, cpus, node as u32)?)?;
     }
-    Ok(List::from_vec(lists))
+    List::from_vec(alloc, lists)
 }

@@ -14,16 +14,16 @@ fn path_of(alloc: Global, root: bool, ups: u32, names: &[[u8; 4]]) -> Result<Pat
     Ok(Path {
         root,
         ups,
-        segs: List::from_vec(segs),
+        segs: List::from_vec(alloc, segs)?,
     })
 }
 
 fn bytes_of(alloc: Global, bytes: &[u8]) -> Result<List<u8>, Fail> {
-    Ok(List::from_vec(Vec::from_slice(alloc, bytes)?))
+    Ok(List::from_vec(alloc, Vec::from_slice(alloc, bytes)?)?)
 }
 
 fn elements_of<const N: usize>(alloc: Global, elements: [Data; N]) -> Result<List<Data>, Fail> {
-    Ok(List::from_vec(Vec::from_array(alloc, elements)?))
+    Ok(List::from_vec(alloc, Vec::from_array(alloc, elements)?)?)
 }
 
 fn shown(alloc: Global, value: &Data) -> Result<MemorySink, Fail> {

@@ -17,7 +17,7 @@ fn segs_of(alloc: Global, names: &[[u8; 4]]) -> Result<List<Seg>, Fail> {
     for name in names {
         segs.push(Seg::new(*name).ok_or("no segment")?)?;
     }
-    Ok(List::from_vec(segs))
+    Ok(List::from_vec(alloc, segs)?)
 }
 
 #[test]

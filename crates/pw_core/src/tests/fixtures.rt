@@ -16,14 +16,14 @@ pub fn path(alloc: Global, number: u8) -> Result<FullPath, Fail> {
     let mut segs = Vec::new(alloc);
     segs.push(Seg::new([b'C', b'P', b'U', b'A' + number % 26]).ok_or("a segment")?)?;
     Ok(FullPath {
-        segs: List::from_vec(segs),
+        segs: List::from_vec(alloc, segs)?,
     })
 }
 
 pub fn table(alloc: Global, kind: IdleKind, rows: &[IdleRow]) -> Result<IdleTable, Fail> {
     Ok(IdleTable {
         kind,
-        rows: List::from_vec(Vec::from_slice(alloc, rows)?),
+        rows: List::from_vec(alloc, Vec::from_slice(alloc, rows)?)?,
     })
 }
 
@@ -68,7 +68,7 @@ pub fn lpi_cpu(alloc: Global, number: u8, parent: u32) -> Result<CpuParts, Fail>
         path: path(alloc, number)?,
         parent: Some(parent),
         idle: table(alloc, IdleKind::Lpi, &rows)?,
-        csd: List::from_vec(Vec::new(alloc)),
+        csd: List::from_vec(alloc, Vec::new(alloc))?,
         perf: None,
         throttle: None,
         cpc: None,
@@ -143,9 +143,9 @@ pub fn perf_cpu(
         path: path(alloc, number)?,
         parent: None,
         idle: table(alloc, IdleKind::Absent, &[])?,
-        csd: List::from_vec(Vec::new(alloc)),
+        csd: List::from_vec(alloc, Vec::new(alloc))?,
         perf: Some(Scale {
-            controls: List::from_vec(Vec::from_slice(alloc, &[0x10, 0x11, 0x12, 0x13])?),
+            controls: List::from_vec(alloc, Vec::from_slice(alloc, &[0x10, 0x11, 0x12, 0x13])?)?,
             register: Some(CONTROL),
             limit: 0,
             dependency: Some(Dependency {
@@ -200,7 +200,7 @@ pub fn cst_cpu(alloc: Global, number: u8) -> Result<CpuParts, Fail> {
         path: path(alloc, number)?,
         parent: None,
         idle: table(alloc, IdleKind::Cst, &rows)?,
-        csd: List::from_vec(Vec::from_slice(alloc, &csd)?),
+        csd: List::from_vec(alloc, Vec::from_slice(alloc, &csd)?)?,
         perf: None,
         throttle: None,
         cpc: None,

@@ -1,10 +1,8 @@
-use Rattle.std.proofs.Common.{refl}
 use Rattle.acpi_idle.proofs.writing.lpi_state.Goals as goal
 
 pub returns : goal.returns
 returns c =
     rw (
-      c.package_object.ensures,
       c.in_ok-fields.ensures.items,
       c.in_ok-entry.ensures,
       c.in_ok-residency.ensures,
@@ -16,4 +14,4 @@ returns c =
       c.from-4.ensures,
       c.from-5.ensures,
       c.from-6.ensures,
-    ) refl
+    ) at c.package_object.ensures

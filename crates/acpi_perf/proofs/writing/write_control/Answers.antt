@@ -1,5 +1,4 @@
-use Rattle.std.proofs.Common.{refl}
 use Rattle.acpi_perf.proofs.writing.write_control.Goals as goal
 
 pub returns : goal.returns
-returns c = rw (c.package_object.ensures, c.in_ok-elements.ensures.items, c.in_ok-control.ensures, c.in_ok-status.ensures) refl
+returns c = rw (c.in_ok-elements.ensures.items, c.in_ok-control.ensures, c.in_ok-status.ensures) at c.package_object.ensures

@@ -20,23 +20,23 @@ elements_len-loop-element-preserved t c =
       short = c.if-total-ge-TOO_LONG.false;
     }
 
-pub object_len-overflow_sub-depth : goal.object_len-overflow_sub-depth
-object_len-overflow_sub-depth t c =
+pub any_len-overflow_sub-depth : goal.any_len-overflow_sub-depth
+any_len-overflow_sub-depth t c =
     let parts = package_parts c.args.depth c.in-Package.count c.in-Package.elements c.args.value.now c.in-Package.is c.requires in omega arith
 
-pub object_len-elements_len-requires : goal.object_len-elements_len-requires
-object_len-elements_len-requires t c =
+pub any_len-elements_len-requires : goal.any_len-elements_len-requires
+any_len-elements_len-requires t c =
     let parts = package_parts c.args.depth c.in-Package.count c.in-Package.elements c.args.value.now c.in-Package.is c.requires in
     (omega arith, rw c.as_slice-in-Package.ensures parts.inner)
 
-pub object_len-overflow_sub-depth-in-VarPackage : goal.object_len-overflow_sub-depth-in-VarPackage
-object_len-overflow_sub-depth-in-VarPackage t c =
+pub any_len-overflow_sub-depth-in-VarPackage : goal.any_len-overflow_sub-depth-in-VarPackage
+any_len-overflow_sub-depth-in-VarPackage t c =
     let parts = var_package_parts c.args.depth c.in-VarPackage.count c.in-VarPackage.elements c.args.value.now c.in-VarPackage.is c.requires in omega arith
 
-pub object_len-elements_len-requires-in-VarPackage : goal.object_len-elements_len-requires-in-VarPackage
-object_len-elements_len-requires-in-VarPackage t c =
+pub any_len-elements_len-requires-in-VarPackage : goal.any_len-elements_len-requires-in-VarPackage
+any_len-elements_len-requires-in-VarPackage t c =
     let parts = var_package_parts c.args.depth c.in-VarPackage.count c.in-VarPackage.elements c.args.value.now c.in-VarPackage.is c.requires in
     (omega arith, rw c.as_slice-in-VarPackage.ensures parts.inner)
 
-pub object_len-name_len-requires : goal.object_len-name_len-requires
-object_len-name_len-requires t c = (path_parts c.args.depth c.in-Path.path c.args.value.now c.in-Path.is c.requires).0
+pub any_len-name_len-requires : goal.any_len-name_len-requires
+any_len-name_len-requires t c = (path_parts c.args.depth c.in-Path.path c.args.value.now c.in-Path.is c.requires).0

@@ -15,7 +15,7 @@ returns-in_default-clause-ran g c = λ words is. record {
 }
 
 pub returns-in-Ok-read-clause-ran : goal.returns-in-Ok-read-clause-ran
-returns-in-Ok-read-clause-ran g c = λ words is. ran_of to_rewrite c.args.name.now c.in-Ok-read.block is c.in-Ok-read.ensures.found c.rewrite_block.ensures.printed
+returns-in-Ok-read-clause-ran g c = λ words is. ran_of to_rewrite c.args.name.now c.in-Ok-read.block is c.in-Ok-read.ensures.found c.rewrite_block-outcome.ensures.printed
 
 pub returns-clause-ran : goal.returns-clause-ran
 returns-clause-ran g c = λ words is.

@@ -11,11 +11,11 @@ groups_of-requires-clause-members c =
     let size = rw c.as_slice-2.ensures.value at c.as_slice-2.ensures.len in
     rw (c.as_slice-6.ensures, domains, c.len.ensures, ← size) (members_exist c.args.containers.items c.args.cpus.items within)
 
-planned : (c : goal.After-from_vec-2) → IsPlanOf c.from_vec.result c.from_vec-2.result c.in_ok-children.children c.in_ok-domains.domains c.in_ok-groups.groups
+planned : (c : goal.In_ok-cpus) → IsPlanOf c.in_ok-containers.containers c.in_ok-cpus.cpus c.in_ok-children.children c.in_ok-domains.domains c.in_ok-groups.groups
 planned c =
     let within = rw (c.as_slice.ensures.value, c.as_slice-2.ensures.value) at (sym c.limit_passed.ensures ∙ c.in_default.is) in
     let size = rw c.as_slice-2.ensures.value at c.as_slice-2.ensures.len in
-    rw (c.from_vec.ensures, c.from_vec-2.ensures) (record {
+    rw (c.in_ok-containers.ensures, c.in_ok-cpus.ensures) (record {
       fit = c.requires;
       within = within;
       children_are = rw (c.as_slice-3.ensures.value, c.as_slice-4.ensures.value) at c.in_ok-children.ensures;
@@ -26,7 +26,7 @@ planned c =
 pub invariant_of-result : goal.invariant_of-result
 invariant_of-result c = record {
   planned = ∣ planned c ∣₁;
-  sound = is_sound c.from_vec.result c.from_vec-2.result c.in_ok-children.children c.in_ok-domains.domains c.in_ok-groups.groups (planned c);
+  sound = is_sound c.in_ok-containers.containers c.in_ok-cpus.cpus c.in_ok-children.children c.in_ok-domains.domains c.in_ok-groups.groups (planned c);
 }
 
 pub returns-clause-joined : goal.returns-clause-joined
