@@ -1,15 +1,15 @@
 -- What is written is read.
-use Rattle.std.proofs.Common.{◌≡◌, ◌<◌, ◌+◌, ◌==◌, ℕ, true, List, ◌∷◌, map, length, Ok, refl, arith}
+use Rattle.std.proofs.Common.{◌≡◌, ◌<◌, ◌+◌, ◌==◌, ℕ, true, ◌∷◌, map, length, Ok, refl, arith}
 use Rattle.std.proofs.lemmas.Bool.Decides.{nat_tests}
 use Rattle.std.proofs.lemmas.List.{length-map}
-use Rattle.aml_data.specs.declared.data.Data.{Data}
 use Rattle.aml_data.specs.declared.data.Data.TheVariants.{Int}
 use Rattle.aml_data.specs.declared.data.Width.{Width}
 use Rattle.acpi_values.specs.declared.performance.Cpc.{Cpc}
 use Rattle.acpi_values.specs.declared.performance.CpcEntry.{CpcEntry}
 use Rattle.acpi_values.specs.declared.performance.CpcEntry.TheVariants.{Number, Register}
-use Rattle.acpi_fields.specs.Reading.{place, counted}
+use Rattle.acpi_fields.specs.Reading.{place}
 use Rattle.acpi_fields.proofs.Fields.{back_small, meaning_back, register_back, register_meaning, rows_back, whole_back}
+use Rattle.acpi_fields.proofs.Inversion.{counted_read}
 use Rattle.acpi_cpc.specs.Cpcs.{cpc_of, element_count, entry_at, num_entries}
 use Rattle.acpi_cpc.specs.Written.{IsCpc, IsEntry, cpc_object, entry_object}
 
@@ -21,14 +21,9 @@ entry_back width k (Register r) lt = rw (register_meaning width r, register_back
 count_small : (revision n : ℕ) → element_count revision ≡ Ok n → n < 256
 count_small revision n e = grind (arith, nat_tests)
 
-num_back : (n : ℕ) → num_entries n n ≡ Ok n
+pub num_back : (n : ℕ) → num_entries n n ≡ Ok n
 num_back n =
     let same : (n == n) ≡ true = grind (arith, nat_tests) in
-    rw same refl
-
-counted_back : (n : ℕ) (elements : List Data) → length elements ≡ n → counted (place 0 0) n elements ≡ Ok elements
-counted_back n elements e =
-    let same : (length elements == n) ≡ true = grind (arith, nat_tests) in
     rw same refl
 
 pub cpc_back : (width : Width) (cpc : Cpc) → IsCpc width cpc → cpc_of width (cpc_object cpc) ≡ Ok cpc
@@ -44,6 +39,6 @@ cpc_back width cpc r =
       back_small width (place 2 0) cpc.revision r.revision,
       r.count,
       num_back n,
-      counted_back n elements long,
+      counted_read (place 0 0) n elements long,
       rows_back (IsEntry width) (entry_at width) entry_object (entry_back width) 3 cpc.entries r.entries,
     ) refl

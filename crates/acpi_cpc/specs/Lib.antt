@@ -1,2 +1,3 @@
 pub mod Cpcs
 pub mod Written
+pub mod Meaning

@@ -6,7 +6,7 @@ mod laws;
 mod reading;
 mod writing;
 
-pub use laws::written_cpc;
+pub use laws::{meant_cpc, one_cpc, writable_cpc, written_cpc};
 pub use reading::read_cpc;
 pub use writing::write_cpc;
 

@@ -27,7 +27,7 @@ integer_back width most at n fits le =
     rw (outs-Int n, fits_width width n fits, within) refl
 
 -- a number of 32 bits fits either width
-fits_32 : (width : Width) (n : ℕ) → n < 2 ^ 32 → FitsWidth width n
+pub fits_32 : (width : Width) (n : ℕ) → n < 2 ^ 32 → FitsWidth width n
 fits_32 W32 n lt = lt
 fits_32 W64 n lt = omega (arith, lt)
 
@@ -36,7 +36,7 @@ pub back_32 : (width : Width) (at : Place) (n : ℕ) → n < 2 ^ 32 → integer_
 unfolding most_32
 back_32 width at n lt = integer_back width 4294967295 at n (fits_32 width n lt) (omega (arith, lt))
 
-fits_64 : (width : Width) (n : ℕ) → FitsWidth width n → n < 2 ^ 64
+pub fits_64 : (width : Width) (n : ℕ) → FitsWidth width n → n < 2 ^ 64
 fits_64 W32 n lt = omega (arith, lt)
 fits_64 W64 n lt = lt
 

@@ -1,3 +1,4 @@
 pub mod Reading
 pub mod Dependencies
 pub mod Writing
+pub mod Meaning

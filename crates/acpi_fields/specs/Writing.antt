@@ -19,11 +19,3 @@ package_object elements = Package (length elements) elements
 abbrev pub FitsWidth : Width → ℕ → Type 0
 FitsWidth W32 n = n < 2 ^ 32
 FitsWidth W64 n = n < 2 ^ 64
-
--- a register whose fields are in their ranges
-pub record IsInRange (r : Register) : Type 0 where
-  pub space : r.space < 2 ^ 8
-  pub width : r.width < 2 ^ 8
-  pub offset : r.offset < 2 ^ 8
-  pub access : r.access < 2 ^ 8
-  pub address : r.address < 2 ^ 64

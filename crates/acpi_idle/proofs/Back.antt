@@ -24,7 +24,7 @@ use Rattle.acpi_idle.specs.Written.{IsCDependency, IsCState, IsEntryMethod, IsLp
 
 -- # C states
 
-kind_back : (at : Place) (n : ℕ) → 1 ≤ n → n ≤ 3 → kind_in at n ≡ Ok n
+pub kind_back : (at : Place) (n : ℕ) → 1 ≤ n → n ≤ 3 → kind_in at n ≡ Ok n
 kind_back at n low high =
     let known : (nat_le 1 n && nat_le n 3) ≡ true = grind (arith, nat_tests) in
     rw known refl

@@ -1,1 +1,4 @@
 pub mod Back
+pub mod MeantCStates
+pub mod MeantLpis
+pub mod Writable

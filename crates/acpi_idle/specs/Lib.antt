@@ -1,3 +1,4 @@
 pub mod CStates
 pub mod Lpis
 pub mod Written
+pub mod Meaning

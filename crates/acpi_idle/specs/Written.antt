@@ -1,6 +1,7 @@
 -- The objects that are written for idle tables.
-use Rattle.std.specs.Prelude.{◌<◌, ◌≤◌, ◌^◌, List, [], ◌∷◌, map, length}
+use Rattle.std.specs.Prelude.{◌<◌, ◌≤◌, ◌^◌, ℕ, List, [], ◌∷◌, map, length}
 use Rattle.std.specs.List.{AllByRecursion}
+use Rattle.aml_data.specs.Grammar.{IsAscii}
 use Rattle.aml_data.specs.declared.data.Data.{Data}
 use Rattle.aml_data.specs.declared.data.Data.TheVariants.{Int, Text}
 use Rattle.aml_data.specs.declared.data.Width.{Width}
@@ -81,3 +82,8 @@ pub record IsLpiState (width : Width) (s : LpiState) : Type 0 where
 pub record IsLpi (width : Width) (lpi : Lpi) : Type 0 where
   pub level : FitsWidth width lpi.level
   pub states : AllByRecursion (IsLpiState width) lpi.states
+
+-- A name that can be written: a string of bytes 1 to 7F, of which there are fewer than 65,536, a bound of this project's own.
+pub record IsName (name : List ℕ) : Type 0 where
+  pub ascii : AllByRecursion IsAscii name
+  pub short : length name < 2 ^ 16

@@ -1,3 +1,4 @@
 pub mod Scales
 pub mod Objects
 pub mod Written
+pub mod Meaning
