@@ -6,10 +6,10 @@ makes the machine and turns the same loop, is taken off.
 """
 
 import os
-import resource
 import subprocess
 import sys
-from pathlib import Path
+
+from machine import busy, processor
 
 RUNS = 5
 SIZES = (8, 64, 256)
@@ -28,12 +28,6 @@ LOADS = {
 }
 
 
-def busy():
-    """Processor seconds of the programs that ended so far."""
-    used = resource.getrusage(resource.RUSAGE_CHILDREN)
-    return used.ru_utime + used.ru_stime
-
-
 def run(program, size, load, steps):
     """Processor seconds of one run."""
     before = busy()
@@ -44,13 +38,6 @@ def run(program, size, load, steps):
 def least(program, size, load, steps):
     """Processor seconds of the fastest of several runs."""
     return min(run(program, size, load, steps) for _ in range(RUNS))
-
-
-def processor():
-    """The name of the processor, as Linux has it; none elsewhere."""
-    path = Path("/proc/cpuinfo")
-    lines = path.read_text().splitlines() if path.exists() else []
-    return next((line.split(":", 1)[1].strip() for line in lines if line.startswith("model name")), None)
 
 
 def main():

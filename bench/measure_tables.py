@@ -6,10 +6,10 @@ the table and its object, is taken off.
 """
 
 import os
-import resource
 import subprocess
 import sys
-from pathlib import Path
+
+from machine import busy, processor
 
 RUNS = 5
 ROUNDS = 20_000
@@ -28,12 +28,6 @@ WORKS = (
 )
 
 
-def busy():
-    """Processor seconds of the programs that ended so far."""
-    used = resource.getrusage(resource.RUSAGE_CHILDREN)
-    return used.ru_utime + used.ru_stime
-
-
 def run(program, table, states, work, rounds):
     """Processor seconds of one run."""
     before = busy()
@@ -46,13 +40,6 @@ def microseconds(program, table, states, work, rounds):
     whole = min(run(program, table, states, work, rounds) for _ in range(RUNS))
     empty = min(run(program, table, states, work, 0) for _ in range(RUNS))
     return (whole - empty) * 1e6 / rounds
-
-
-def processor():
-    """The name of the processor, as Linux has it; none elsewhere."""
-    path = Path("/proc/cpuinfo")
-    lines = path.read_text().splitlines() if path.exists() else []
-    return next((line.split(":", 1)[1].strip() for line in lines if line.startswith("model name")), None)
 
 
 def main():
