@@ -2,18 +2,21 @@
 
 usage: measure.py PROGRAM [PLAIN]
 Times are the least of several runs, as the program's own processor time and as wall time. PLAIN is a program that
-rewrites in plain Rust: it is measured beside `rewrite`, and is to write the same bytes.
+rewrites in plain Rust: it is measured beside `rewrite`, and is to write the same bytes. A second table is of blocks of
+scopes and devices, with the time of `iasl -d` beside `show` where iasl is installed.
 """
 
 import itertools
 import os
-import resource
+import shutil
 import string
 import subprocess
 import sys
 import tempfile
 import time
 from pathlib import Path
+
+from machine import busy
 
 RUNS = 7
 FIRST = string.ascii_uppercase + "_"
@@ -97,15 +100,84 @@ def nested(size):
     return each(size, value)
 
 
+def holder(opcode, name, content):
+    """A term of this opcode that holds terms: a Scope or a Device."""
+    return opcode + length(len(name + content)) + name + content
+
+
+SCOPE, DEVICE = b"\x10", b"\x5b\x82"
+
+
+def short_names(count):
+    """So many names of 0, each of another path."""
+    return b"".join(b"\x08" + s + b"\x00" for s in itertools.islice(paths(), count))
+
+
+def numbered_names(count):
+    """So many names of double words, each of another path."""
+    return b"".join(b"\x08" + s + b"\x0c" + i.to_bytes(4, "little") for i, s in enumerate(itertools.islice(paths(), count)))
+
+
+def devices(count, content):
+    """So many devices of this content in the scope of the system bus."""
+    return block(holder(SCOPE, b"\\_SB_", b"".join(holder(DEVICE, s, content) for s in itertools.islice(paths(), count))))
+
+
+def tree(count):
+    """So many devices with 64 names each."""
+    return devices(count, numbered_names(64))
+
+
+def one_scope(count):
+    """So many names in one scope."""
+    return block(holder(SCOPE, b"\\_SB_", numbered_names(count)))
+
+
+def performance(count):
+    """So many devices with a table of 255 performance states each, six double words a state."""
+    states = b"".join(
+        package(b"".join(b"\x0c" + n.to_bytes(4, "little") for n in (4000 - i, 15000, 10, 10, 0x1800 + i, 0x1800 + i)), 6)
+        for i in range(255)
+    )
+    return devices(count, b"\x08_PSS" + package(states, 255))
+
+
+def chain(count):
+    """So many names below 32 scopes around one another, each named by 255 segments."""
+    content = short_names(count)
+    for i in range(32):
+        content = holder(SCOPE, b"\x2f\xff" + b"".join(itertools.islice(paths(), 1000 * i, 1000 * i + 255)), content)
+    return block(content)
+
+
 def run(program, command, path):
     """One run: wall seconds, processor seconds, and bytes written."""
-    before = resource.getrusage(resource.RUSAGE_CHILDREN)
+    before = busy()
     start = time.perf_counter()
     done = subprocess.run([program, command, path], stdout=subprocess.PIPE, check=True)
     wall = time.perf_counter() - start
-    after = resource.getrusage(resource.RUSAGE_CHILDREN)
-    busy = after.ru_utime + after.ru_stime - before.ru_utime - before.ru_stime
-    return wall, busy, done.stdout
+    return wall, busy() - before, done.stdout
+
+
+def run_apart(words):
+    """One run whose output is let go: wall seconds, and processor seconds."""
+    before = busy()
+    start = time.perf_counter()
+    subprocess.run(words, stdout=subprocess.DEVNULL, stderr=subprocess.DEVNULL, check=True)
+    return time.perf_counter() - start, busy() - before
+
+
+def written_by(program, command, path):
+    """How many bytes a run writes."""
+    with subprocess.Popen([program, command, path], stdout=subprocess.PIPE) as running:
+        return sum(len(piece) for piece in iter(lambda: running.stdout.read(1 << 20), b""))
+
+
+def disassembly(folder, path):
+    """Milliseconds that one run of `iasl -d` on the block takes; none where iasl isn't installed."""
+    if not shutil.which("iasl"):
+        return None
+    return run_apart(["iasl", "-p", str(folder / "out"), "-d", str(path)])[0] * 1e3
 
 
 def peak_memory(program, command, path):
@@ -126,9 +198,12 @@ def beside(plain, path, written):
     return min(r[0] for r in runs) * 1e3, peak_memory(plain, "rewrite", path)
 
 
-def main():
-    program = sys.argv[1]
-    plain = sys.argv[2] if len(sys.argv) > 2 else None
+def row_of(cells):
+    return "| " + " | ".join(str(cell) for cell in cells) + " |"
+
+
+def objects(program, plain):
+    """The table of blocks of names of data objects."""
     cases = [("show", "42 bytes", block(b"\x08_PPC\x00"))]
     kinds = [
         ("names", names),
@@ -143,7 +218,7 @@ def main():
             cases += [(command, f"{n} MiB of {what}", made(n << 20)) for n in (1, 2, 4)]
     heads = ["work", "block, bytes", "output, bytes", "time, ms", "processor, ms", "ns a byte", "peak memory, KiB", "memory a byte"]
     heads += ["time against half", "plain Rust, ms", "plain Rust, memory a byte"]
-    print("| " + " | ".join(heads) + " |")
+    print(row_of(heads))
     print("|---" * len(heads) + "|")
     before = None
     with tempfile.TemporaryDirectory() as folder:
@@ -152,21 +227,59 @@ def main():
             path.write_bytes(content)
             runs = [run(program, command, str(path)) for _ in range(RUNS)]
             wall = min(r[0] for r in runs) * 1e3
-            busy = min(r[1] for r in runs) * 1e3
+            used = min(r[1] for r in runs) * 1e3
             peak = peak_memory(program, command, str(path))
             growth = f"{wall / before:.2f}" if before and "MiB" in name and not name.startswith("1 ") else ""
             size = len(content)
             large = size > 1 << 16
             a_byte = f"{wall * 1e6 / size:.0f}" if large else ""
             memory = f"{peak * 1024 / size:.1f}" if large and peak else ""
-            row = [f"{command}, {name}", size, len(runs[0][2]), f"{wall:.1f}", f"{busy:.1f}", a_byte, peak or "no GNU time", memory, growth]
+            row = [f"{command}, {name}", size, len(runs[0][2]), f"{wall:.1f}", f"{used:.1f}", a_byte, peak or "no GNU time", memory, growth]
             if plain and command == "rewrite":
                 took, space = beside(plain, str(path), runs[0][2])
                 row += [f"{took:.1f}", f"{space * 1024 / size:.1f}" if space else ""]
             else:
                 row += ["", ""]
-            print("| " + " | ".join(str(cell) for cell in row) + " |")
+            print(row_of(row))
             before = wall
+
+
+def scopes(program):
+    """The table of blocks of scopes and devices. The output goes to the null device."""
+    kinds = [
+        ("devices of 64 names", tree, (1600, 3200, 6400)),
+        ("names in one scope", one_scope, (62500, 125000, 250000)),
+        ("devices of 255 states", performance, (64, 128, 256)),
+        ("names below 32 scopes of 255 segments", chain, (25000, 50000, 100000)),
+    ]
+    heads = ["work", "block, bytes", "output, bytes", "time, ms", "processor, ms", "ns a byte in and out"]
+    heads += ["peak memory, KiB", "memory a byte", "time against half", "iasl -d, ms"]
+    print(row_of(heads))
+    print("|---" * len(heads) + "|")
+    with tempfile.TemporaryDirectory() as folder:
+        path = Path(folder) / "block.aml"
+        for what, made, counts in kinds:
+            for command in ("show", "rewrite"):
+                before = None
+                for count in counts:
+                    path.write_bytes(made(count))
+                    size, output = path.stat().st_size, written_by(program, command, str(path))
+                    runs = [run_apart([program, command, str(path)]) for _ in range(RUNS if output < 1 << 28 else 2)]
+                    wall, used = (min(r[i] for r in runs) * 1e3 for i in (0, 1))
+                    peak = peak_memory(program, command, str(path))
+                    row = [f"{command}, {count} {what}", size, output, f"{wall:.1f}", f"{used:.1f}", f"{wall * 1e6 / (size + output):.1f}"]
+                    row += [peak or "no GNU time", f"{peak * 1024 / size:.1f}" if peak else ""]
+                    row += [f"{wall / before:.2f}" if before else ""]
+                    told = disassembly(Path(folder), path) if command == "show" and made in (tree, performance) else None
+                    print(row_of(row + [f"{told:.0f}" if told else ""]), flush=True)
+                    before = wall
+
+
+def main():
+    program = sys.argv[1]
+    objects(program, sys.argv[2] if len(sys.argv) > 2 else None)
+    print()
+    scopes(program)
 
 
 main()

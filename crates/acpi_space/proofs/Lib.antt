@@ -1,2 +1,5 @@
 pub mod Seen
-pub mod Turns
+pub mod Trees
+pub mod Depths
+pub mod Known
+pub mod TermSteps

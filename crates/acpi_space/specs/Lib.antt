@@ -1,2 +1,7 @@
 pub mod Distinct
-pub mod Objects
+pub mod Places
+pub mod Things
+pub mod Steps
+pub mod Namespace
+pub mod Trees
+pub mod Standing

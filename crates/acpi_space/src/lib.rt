@@ -1,9 +1,16 @@
-//! The objects of a definition block at their places in the namespace (ACPI 6.5, 5.3).
+//! The objects of definition blocks at their places in the namespace (ACPI 6.5, 5.3).
 #![tactic(auto)]
 
-mod placing;
+mod building;
+mod fault;
+mod object;
+mod space;
+mod terms;
+mod tree;
 
-pub use placing::{first_repeat, placed};
+pub use fault::SpaceFault;
+pub use object::{Object, Placed};
+pub use space::Space;
 
 #[cfg(test)]
 mod tests;

@@ -3,26 +3,29 @@ use Rattle.std.proofs.Common.{◌≡◌, ◌≢◌, ℕ, List, length, drop, Res
 use Rattle.std.specs.Prelude.{IfOk, IfErr}
 use Rattle.aml_data.specs.declared.fault.DataFault.TheVariants.{Memory as no_data_memory}
 use Rattle.aml_data.proofs.Steps.{IsBytes, IsBytes-drop}
+use Rattle.aml_terms.specs.declared.fault.TermFault.{TermFault}
+use Rattle.aml_terms.specs.declared.fault.TermFault.TheVariants.{Data as in_part, BadTerm as bad_term}
+use Rattle.aml_terms.specs.Reading.{terms_at}
+use Rattle.aml_terms.proofs.Causes.{IsCause, IsTermCause, block_terms_cause}
+use Rattle.aml_terms.proofs.TermLists.{terms_take, terms_again, terms_fail, terms_refused}
 use Rattle.aml_block.specs.declared.block.Header.{Header}
 use Rattle.aml_block.specs.declared.block.Block.{Block}
 use Rattle.aml_block.specs.declared.fault.HeaderFault.{HeaderFault}
 use Rattle.aml_block.specs.declared.fault.HeaderFault.TheVariants.{Large, Short, Signature as no_signature, Length, Sum}
 use Rattle.aml_block.specs.declared.fault.BlockFault.{BlockFault}
 use Rattle.aml_block.specs.declared.fault.BlockFault.TheVariants.{Header as in_header, Data as in_data, BadTerm, ReadFault, Memory}
+use Rattle.aml_block.specs.Causes.{term_cause}
 use Rattle.aml_block.specs.Header.{IsHeader, HasSize, HasSignature, HasLength, HasSum}
 use Rattle.aml_block.specs.Spelling.{BlockSpells}
-use Rattle.aml_block.specs.Faults.{HeaderFails, TermFails, TermsFail, BlockFails, fails_in_header, fails_in_terms}
-use Rattle.aml_block.specs.Faults as terms
+use Rattle.aml_block.specs.Faults.{HeaderFails, BlockFails, fails_in_header, fails_in_terms}
 use Rattle.aml_block.specs.Answers.{IsUnlessMemory, FailsUnlessMemory}
-use Rattle.aml_block.specs.Reading.{◌>>=◌, Gives, header_part, header_at, terms_at, block_at}
-use Rattle.aml_block.proofs.Steps.{bind_ok, bind_err, done, ok_is, err_is}
-use Rattle.aml_block.proofs.Causes.{IsCause, name_cause, object_cause}
+use Rattle.aml_block.specs.Reading.{◌>>=◌, Gives, header_part, header_at, terms_part, block_at}
+use Rattle.aml_block.proofs.Steps.{bind_ok, bind_err, terms_ok, terms_err, done, ok_is, err_is}
 use Rattle.aml_block.proofs.Headers.{HeaderTold, header_told, header_again, header_refused}
-use Rattle.aml_block.proofs.TermLists.{terms_take, terms_again, terms_fail, terms_refused}
 
 -- what follows the header
 abbrev after_header : List ℕ → Header → Result Block BlockFault
-after_header bytes header = terms_at (length bytes) (drop 36 bytes) >>= λ terms. Ok (record { header = header; terms = terms })
+after_header bytes header = terms_part (terms_at (length bytes) (drop 36 bytes)) >>= λ terms. Ok (record { header = header; terms = terms })
 
 part_ok : (r : Result Header HeaderFault) (h : Header) → header_part r ≡ Ok h → r ≡ Ok h
 part_ok (Ok x) h e = let q : x ≡ h = cc in ap (λ z. Ok z) q
@@ -39,10 +42,10 @@ told_err : (bytes : List ℕ) (why : HeaderFault) → header_at bytes ≡ Err wh
 told_err bytes why e = subst (HeaderTold bytes) e (header_told bytes)
 
 pub block_takes : (bytes : List ℕ) (b : Block) → IsBytes bytes → block_at bytes ≡ Ok b → BlockSpells b bytes
-unfolding block_at terms_at
+unfolding block_at
 block_takes bytes b fits e =
     let h = bind_ok (header_part (header_at bytes)) (after_header bytes) b e in
-    let t = bind_ok (terms_at (length bytes) (drop 36 bytes)) (λ terms. Ok (record { header = h.0; terms = terms })) b h.2 in
+    let t = bind_ok (terms_part (terms_at (length bytes) (drop 36 bytes))) (λ terms. Ok (record { header = h.0; terms = terms })) b h.2 in
     let told = told_ok bytes h.0 (part_ok (header_at bytes) h.0 h.1) in
     let made : Block = record { header = h.0; terms = t.0 } in
     subst (λ (x : Block). BlockSpells x bytes) (ok_is made b t.2) (record {
@@ -50,18 +53,18 @@ block_takes bytes b fits e =
       header = told.4;
       length_field = told.2;
       checksum = told.3;
-      terms = terms_take (length (drop 36 bytes)) (length bytes) (drop 36 bytes) t.0 (omega arith) (IsBytes-drop 36 bytes fits) t.1;
+      terms = terms_take (length bytes) (drop 36 bytes) t.0 (IsBytes-drop 36 bytes fits) (terms_ok (terms_at (length bytes) (drop 36 bytes)) t.0 t.1);
     })
 
 pub block_again : (bytes : List ℕ) (b : Block) → BlockSpells b bytes → block_at bytes ≡ Ok b
-unfolding block_at terms_at
+unfolding block_at
 block_again bytes b s =
     let h = header_again b.header bytes s.size s.header s.length_field s.checksum in
-    let t = terms_again (length (drop 36 bytes)) (length bytes) b.terms (drop 36 bytes) (omega arith) s.terms in
+    let t = terms_again (length bytes) b.terms (drop 36 bytes) s.terms in
     rw (h, t) refl
 
 pub block_fails : (bytes : List ℕ) (f : BlockFault) → IsBytes bytes → block_at bytes ≡ Err f → BlockFails bytes f
-unfolding block_at terms_at
+unfolding block_at
 block_fails bytes f fits e =
     elim (bind_err (header_part (header_at bytes)) (after_header bytes) f e) [
       | inl h ↦
@@ -69,8 +72,11 @@ block_fails bytes f fits e =
           subst (λ (g : BlockFault). BlockFails bytes g) w.2 (fails_in_header (told_err bytes w.0 w.1))
       | inr a ↦
           let told = told_ok bytes a.0 (part_ok (header_at bytes) a.0 a.1) in
-          elim (bind_err (terms_at (length bytes) (drop 36 bytes)) (λ terms. Ok (record { header = a.0; terms = terms })) f a.2) [
-            | inl t ↦ fails_in_terms told.0 told.1 told.2 told.3 (terms_fail (length (drop 36 bytes)) (length bytes) (drop 36 bytes) f (omega arith) (IsBytes-drop 36 bytes fits) t)
+          elim (bind_err (terms_part (terms_at (length bytes) (drop 36 bytes))) (λ terms. Ok (record { header = a.0; terms = terms })) f a.2) [
+            | inl t ↦
+                let d = terms_err (terms_at (length bytes) (drop 36 bytes)) f t in
+                subst (λ (g : BlockFault). BlockFails bytes g) d.2
+                (fails_in_terms d.0 told.0 told.1 told.2 told.3 (terms_fail (length bytes) (drop 36 bytes) d.0 (IsBytes-drop 36 bytes fits) d.1))
             | inr t ↦ absurd (let impossible = t.2 in cc)
           ]
     ]
@@ -89,11 +95,11 @@ header_right : (bytes : List ℕ) → HasSize bytes → HasSignature bytes → H
 header_right bytes size signed long sums = right_or bytes (header_at bytes) (header_told bytes) size signed long sums
 
 pub block_refused : (bytes : List ℕ) (f : BlockFault) → BlockFails bytes f → block_at bytes ≡ Err f
-unfolding block_at terms_at
+unfolding block_at
 block_refused bytes _ (fails_in_header {why = why} h) = rw (header_refused bytes why h) refl
-block_refused bytes f (fails_in_terms size signed long sums t) =
+block_refused bytes _ (fails_in_terms f size signed long sums t) =
     let h = (header_right bytes size signed long sums).1 in
-    let e = terms_refused (length (drop 36 bytes)) (length bytes) (drop 36 bytes) f (omega arith) t in
+    let e = terms_refused (length bytes) (drop 36 bytes) f t in
     rw (h, e) refl
 
 -- a first fault is no failure of the outside
@@ -103,22 +109,14 @@ IsPlain ReadFault = ⊥
 IsPlain Memory = ⊥
 IsPlain other = Unit {0}
 
-term_plain : (end : ℕ) (bytes : List ℕ) (f : BlockFault) → TermFails end bytes f → IsPlain f
-term_plain end _ _ terms.fails_no_term = tt
-term_plain end _ _ terms.fails_no_second = tt
-term_plain end _ _ terms.fails_second = tt
-term_plain end _ _ (terms.fails_opcode m n) = tt
-term_plain end _ _ (terms.fails_in_name {rest = rest} {fault = d} h) = name_cause end rest d h
-term_plain end _ _ (terms.fails_no_segment p rest prefixed) = tt
-term_plain end _ _ (terms.fails_in_value {fault = d} p rest named has h) = object_cause end rest d h
-
-terms_plain : (end : ℕ) (bytes : List ℕ) (f : BlockFault) → TermsFail end bytes f → IsPlain f
-terms_plain end _ f (terms.fails_this_term t) = term_plain _ _ _ t
-terms_plain end _ f (terms.fails_later_term term b rest t ts) = terms_plain _ _ _ ts
+term_plain : (f : TermFault) → IsTermCause f → IsPlain (term_cause f)
+term_plain (in_part no_data_memory) c = absurd c
+term_plain (in_part other) c = c
+term_plain (bad_term at opcode) c = tt
 
 pub block_plain : (bytes : List ℕ) (f : BlockFault) → BlockFails bytes f → IsPlain f
 block_plain bytes _ (fails_in_header h) = tt
-block_plain bytes f (fails_in_terms a b c d t) = terms_plain _ _ _ t
+block_plain bytes _ (fails_in_terms f a b c d t) = term_plain f (block_terms_cause (length bytes) (drop 36 bytes) f t)
 
 -- What an answer that gives the reading says.
 pub is_found : (bytes : List ℕ) (r : Result Block BlockFault) → IsBytes bytes → Gives (λ x. x) r (block_at bytes) → IfOk r (λ b. BlockSpells b bytes)

@@ -1,9 +1,9 @@
 -- What a chain of steps says of its parts.
 use Rattle.std.proofs.Common.{◌≡◌, Result, Ok, Err, refl, ap, inl, inr, ◌⊎◌}
-use Rattle.aml_data.specs.declared.fault.DataFault.{DataFault}
+use Rattle.aml_terms.specs.declared.fault.TermFault.{TermFault}
 use Rattle.aml_block.specs.declared.fault.BlockFault.{BlockFault}
-use Rattle.aml_block.specs.Causes.{data_cause}
-use Rattle.aml_block.specs.Reading.{◌>>=◌, part}
+use Rattle.aml_block.specs.Causes.{term_cause}
+use Rattle.aml_block.specs.Reading.{◌>>=◌, terms_part}
 
 -- a chain that is read: its first step and the others are
 pub bind_ok : {A B : Type 0} (r : Result A BlockFault) (f : A → Result B BlockFault) (y : B) → (r >>= f) ≡ Ok y → (x : A) × (r ≡ Ok x) × (f x ≡ Ok y)
@@ -16,14 +16,14 @@ pub bind_err : {A B : Type 0} (r : Result A BlockFault) (f : A → Result B Bloc
 bind_err (Ok x) f d e = inr (x, refl, e)
 bind_err (Err c) f d e = inl (let q : c ≡ d = cc in ap (λ z. Err z) q)
 
--- a part that is read, and one that fails
-pub part_ok : {A : Type 0} (r : Result A DataFault) (x : A) → part r ≡ Ok x → r ≡ Ok x
-part_ok (Ok y) x e = let q : y ≡ x = cc in ap (λ z. Ok z) q
-part_ok (Err d) x e = absurd cc
+-- terms that are read, and terms that fail
+pub terms_ok : {A : Type 0} (r : Result A TermFault) (x : A) → terms_part r ≡ Ok x → r ≡ Ok x
+terms_ok (Ok y) x e = let q : y ≡ x = cc in ap (λ z. Ok z) q
+terms_ok (Err d) x e = absurd cc
 
-pub part_err : {A : Type 0} (r : Result A DataFault) (f : BlockFault) → part r ≡ Err f → (d : DataFault) × (r ≡ Err d) × (data_cause d ≡ f)
-part_err (Ok y) f e = absurd cc
-part_err (Err d) f e = (d, refl, cc)
+pub terms_err : {A : Type 0} (r : Result A TermFault) (f : BlockFault) → terms_part r ≡ Err f → (d : TermFault) × (r ≡ Err d) × (term_cause d ≡ f)
+terms_err (Ok y) f e = absurd cc
+terms_err (Err d) f e = (d, refl, cc)
 
 abbrev pub done : {A : Type 0} → A → Result A BlockFault
 done x = Ok x

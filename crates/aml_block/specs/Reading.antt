@@ -1,22 +1,17 @@
--- Reading from left to right, with the first fault that is met. `end` is the place where the bytes end, so the place
--- of a byte is `end` less the number of bytes from it on.
-use Rattle.std.specs.Prelude.{◌≡◌, ◌≢◌, ℕ, zero, suc, ◌+◌, ◌-◌, ◌%◌, ◌==◌, List, [], ◌∷◌, length, drop, slice_index, sum, Result, Ok, Err, nat_lt, if◌then◌else◌}
+-- Reading from left to right, with the first fault that is met.
+use Rattle.std.specs.Prelude.{◌≡◌, ◌≢◌, ℕ, ◌%◌, ◌==◌, List, length, drop, slice_index, sum, Result, Ok, Err, nat_lt, if◌then◌else◌}
 use Rattle.std.specs.Str.{bytes_eq}
-use Rattle.aml_data.specs.declared.fault.DataFault.{DataFault}
-use Rattle.aml_data.specs.declared.fault.DataFault.TheVariants as data_faults
-use Rattle.aml_data.specs.Reading.{name_at}
-use Rattle.aml_data.specs.ReadingObjects.{object_at}
+use Rattle.aml_terms.specs.declared.fault.TermFault.{TermFault}
+use Rattle.aml_terms.specs.Reading.{terms_at}
 use Rattle.aml_block.specs.declared.block.Signature.{Signature}
 use Rattle.aml_block.specs.declared.block.Signature.TheVariants.{Dsdt, Ssdt}
 use Rattle.aml_block.specs.declared.block.Header.{Header}
-use Rattle.aml_block.specs.declared.block.Term.{Term}
-use Rattle.aml_block.specs.declared.block.Term.TheVariants.{Name}
 use Rattle.aml_block.specs.declared.block.Block.{Block}
 use Rattle.aml_block.specs.declared.fault.HeaderFault.{HeaderFault}
 use Rattle.aml_block.specs.declared.fault.HeaderFault.TheVariants as header_faults
 use Rattle.aml_block.specs.declared.fault.BlockFault.{BlockFault}
-use Rattle.aml_block.specs.declared.fault.BlockFault.TheVariants.{Header as in_header, Data as in_data, BadTerm, Memory}
-use Rattle.aml_block.specs.Causes.{data_cause}
+use Rattle.aml_block.specs.declared.fault.BlockFault.TheVariants.{Header as in_header, Memory}
+use Rattle.aml_block.specs.Causes.{term_cause}
 use Rattle.aml_block.specs.Header.{signature_text, field, number_field}
 
 -- one step and then the next, up to the first fault
@@ -30,14 +25,10 @@ abbrev pub Gives : {X Y : Type 0} → (X → Y) → Result X BlockFault → Resu
 Gives view (Ok x) read = read ≡ Ok (view x)
 Gives view (Err e) read = e ≢ Memory → read ≡ Err e
 
--- A part that is read is a value, and the bytes after it.
-abbrev pub Read : Type 0 → Type 0
-Read A = Result (A × List ℕ) BlockFault
-
--- what a part of a term gives, as a part of the block
-abbrev pub part : {A : Type 0} → Result A DataFault → Result A BlockFault
-part (Ok x) = Ok x
-part (Err fault) = Err (data_cause fault)
+-- what the terms give, as a part of the block
+abbrev pub terms_part : {A : Type 0} → Result A TermFault → Result A BlockFault
+terms_part (Ok x) = Ok x
+terms_part (Err fault) = Err (term_cause fault)
 
 -- the signature, where it is that of a definition block
 unfoldable pub signature_at : List ℕ → Result Signature HeaderFault
@@ -78,40 +69,9 @@ abbrev pub header_part : Result Header HeaderFault → Result Header BlockFault
 header_part (Ok header) = Ok header
 header_part (Err why) = Err (in_header why)
 
--- the name and the object of a Name
-unfoldable pub name_term_at : ℕ → List ℕ → Read Term
-name_term_at end bytes =
-    part (name_at end bytes) >>= λ name.
-    if length name.0.segs == 0 then Err (in_data (data_faults.BadName (end - length name.1 - 1)))
-    else (part (object_at end name.1) >>= λ value. Ok (Name name.0 value.0, value.1))
-
--- a term whose opcode begins with 5B
-abbrev pub second_at : ℕ → List ℕ → Read Term
-second_at end [] = Err (in_data (data_faults.Short end))
-second_at end (b ∷ rest) = Err (BadTerm (end - length (b ∷ rest) - 1) (23296 + b))
-
--- a term
-unfoldable pub term_at : ℕ → List ℕ → Read Term
-term_at end [] = Err (in_data (data_faults.Short end))
-term_at end (lead ∷ rest) =
-    if lead == 8 then name_term_at end rest
-    else (if lead == 91 then second_at end rest
-    else Err (BadTerm (end - length (lead ∷ rest)) lead))
-
--- at most so many terms, to the end of the bytes; the number is never used up, since a term has a byte
-abbrev pub terms_by : ℕ → ℕ → List ℕ → Result (List Term) BlockFault
-terms_by n end [] = Ok []
-terms_by zero end (b ∷ bytes) = Err (in_data (data_faults.Short end))
-terms_by (suc n) end (b ∷ bytes) =
-    term_at end (b ∷ bytes) >>= λ first. terms_by n end first.1 >>= λ others. Ok (first.0 ∷ others)
-
--- terms to the end of the bytes: no more than there are bytes
-unfoldable pub terms_at : ℕ → List ℕ → Result (List Term) BlockFault
-terms_at end bytes = terms_by (length bytes) end bytes
-
 -- a block
 unfoldable pub block_at : List ℕ → Result Block BlockFault
 block_at bytes =
     header_part (header_at bytes) >>= λ header.
-    terms_at (length bytes) (drop 36 bytes) >>= λ terms.
+    terms_part (terms_at (length bytes) (drop 36 bytes)) >>= λ terms.
     Ok (record { header = header; terms = terms })

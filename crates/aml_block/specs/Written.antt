@@ -1,27 +1,10 @@
 -- The written form of a block: of every part the shortest spelling, with the length and the checksum that fit it.
-use Rattle.std.specs.Prelude.{◌≡◌, ℕ, ◌+◌, ◌-◌, ◌%◌, ◌≤◌, ◌<◌, ◌^◌, List, [], ◌∷◌, ◌++◌, length, sum, All}
-use Rattle.std.specs.List.{flat_map}
+use Rattle.std.specs.Prelude.{◌≡◌, ℕ, ◌+◌, ◌-◌, ◌%◌, ◌≤◌, ◌<◌, ◌^◌, List, ◌∷◌, ◌++◌, length, sum}
 use Rattle.std.specs.Int.{w32, to_le_bytes}
-use Rattle.aml_data.specs.Written.{written, written_name, IsWritable, IsWritablePath}
+use Rattle.aml_terms.specs.Written.{written_terms, AreWritableTerms}
 use Rattle.aml_block.specs.declared.block.Block.{Block}
 use Rattle.aml_block.specs.declared.block.Header.{Header}
-use Rattle.aml_block.specs.declared.block.Term.{Term, Term-F, out-Term}
-use Rattle.aml_block.specs.declared.block.Term.TheOpen as layer
 use Rattle.aml_block.specs.Header.{signature_text}
-use Rattle.aml_block.specs.Spelling.{HasSegment}
-
--- one layer of a term: so far of a Name alone (ACPI 6.5, 20.2.5.1)
-abbrev pub written_layer : Term-F Term → List ℕ
-written_layer (layer.Name path value) = 8 ∷ written_name path ++ written value
-written_layer other = []
-
--- a term
-abbrev pub written_term : Term → List ℕ
-written_term term = written_layer (out-Term term)
-
--- terms one after the other
-abbrev pub written_terms : List Term → List ℕ
-written_terms terms = flat_map written_term terms
 
 -- a header with this length and checksum (ACPI 6.5, 5.2.6)
 abbrev pub written_header : Header → ℕ → ℕ → List ℕ
@@ -45,17 +28,9 @@ written_block block = written_behind block.header (written_terms block.terms)
 
 -- # What can be written
 
--- one layer of a term that can be written: so far a Name alone
-abbrev pub IsWritableLayer : Term-F Term → Type 0
-IsWritableLayer (layer.Name path value) = IsWritablePath path × HasSegment path × IsWritable value
-IsWritableLayer other = ⊥
-
-abbrev pub IsWritableTerm : Term → Type 0
-IsWritableTerm term = IsWritableLayer (out-Term term)
-
 -- A block that can be written: each of its terms can, and together with the header they have at most 4 MiB.
 pub record IsWritableBlock (block : Block) : Type 0 where
-  pub terms : All IsWritableTerm block.terms
+  pub terms : AreWritableTerms block.terms
   pub short : 36 + length (written_terms block.terms) ≤ 4194304
 
 -- A header whose fields are in their ranges, as those of each `Header` are.

@@ -1,6 +1,7 @@
 ghost use Rattle.std.specs.Prelude.{◌≡◌};
 
-use aml_data::{Data, Path, Width};
+use aml_data::Width;
+use aml_terms::Term;
 use pw_base::List;
 
 /// Which table a block is.
@@ -22,67 +23,6 @@ pub struct Header {
     pub oem_revision: u32,
     pub creator_id: [u8; 4],
     pub creator_revision: u32,
-}
-
-/// One term of a block: what it places in the namespace, or what is passed over (ACPI 6.5, 20.2.5).
-#[derive(Debug, Drop)]
-pub enum Term {
-    /// An object with a name.
-    Name {
-        path: Path,
-        value: Data,
-    },
-    /// Terms whose names are read from a place on that is there already.
-    Scope {
-        path: Path,
-        terms: List<Term>,
-    },
-    /// A device, and the terms in it.
-    Device {
-        path: Path,
-        terms: List<Term>,
-    },
-    /// A processor declared by a term of its own, as editions before 6.0 had it. The block is the
-    /// address and length of its registers.
-    Processor {
-        path: Path,
-        id: u8,
-        block: u32,
-        length: u8,
-        terms: List<Term>,
-    },
-    /// A term with a PkgLength whose body isn't read. An opcode behind 5B is 0x5B00 plus its byte.
-    Unread {
-        opcode: u16,
-        body: List<u8>,
-    },
-    /// A second name of an object.
-    Alias {
-        source: Path,
-        alias: Path,
-    },
-    /// A name that another block declares, with the type of its object and the number of arguments.
-    External {
-        path: Path,
-        kind: u8,
-        args: u8,
-    },
-    /// A mutex; the flags hold its level.
-    Mutex {
-        path: Path,
-        flags: u8,
-    },
-    /// An event.
-    Event {
-        path: Path,
-    },
-    /// An operation region: a range of an address space.
-    Region {
-        path: Path,
-        space: u8,
-        offset: u64,
-        length: u64,
-    },
 }
 
 /// A definition block.

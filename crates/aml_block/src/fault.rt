@@ -1,10 +1,11 @@
 ghost use Rattle.std.specs.Prelude.{◌≡◌};
 ghost use Rattle.aml_block.specs.declared.fault.BlockFault.TheVariants as faults;
 ghost use Rattle.aml_block.specs.declared.fault.WriteFault.TheVariants as write_faults;
-ghost use Rattle.aml_block.specs.Causes.{data_cause, file_cause};
+ghost use Rattle.aml_block.specs.Causes.{data_cause, term_cause, file_cause};
 
 use crate::file::FileFault;
 use aml_data::DataFault;
+use aml_terms::TermFault;
 use pw_base::{Failed, Memory};
 use std::alloc::{AllocError, AllocFailed};
 use thiserror::Error;
@@ -35,10 +36,11 @@ pub enum BlockFault {
     /// The header is wrong.
     #[error("header {why}")]
     Header { why: HeaderFault },
-    /// A name or an object in a term is at fault. It is never `DataFault::Memory`.
+    /// A name, a length, a constant or an object in a term is at fault, or a Scope, a Device or a
+    /// Processor is the 33rd of its nesting. It is never `DataFault::Memory`.
     #[error("{0}")]
     Data(DataFault),
-    /// This opcode begins no term that may stand here. One behind 5B is 0x5B00 plus its byte.
+    /// This opcode begins no term. One behind 5B is 0x5B00 plus its byte.
     #[error("at {at} term {opcode:#04X}")]
     BadTerm { at: usize, opcode: u16 },
     /// The file couldn't be read.
@@ -88,6 +90,17 @@ impl From<DataFault> for BlockFault {
         match e {
             DataFault::Memory => BlockFault::Memory,
             other => BlockFault::Data(other),
+        }
+    }
+}
+
+impl From<TermFault> for BlockFault {
+    ghost from_gives = { λ d e. e ≡ term_cause d };
+
+    fn from(e: TermFault) -> BlockFault {
+        match e {
+            TermFault::Data(d) => BlockFault::from(d),
+            TermFault::BadTerm { at, opcode } => BlockFault::BadTerm { at, opcode },
         }
     }
 }

@@ -1,4 +1,4 @@
-//! Definition blocks: the header, and the terms that follow it (ACPI 6.5, 5.2.6 and 20.2.5).
+//! Definition blocks: the header, and the terms that follow it (ACPI 6.5, 5.2.6 and 5.2.11).
 #![tactic(auto)]
 
 mod block;
@@ -8,10 +8,10 @@ mod header;
 mod laws;
 mod parsing;
 mod reading;
-mod terms;
 mod writing;
 
-pub use block::{Block, Header, Signature, Term};
+pub use aml_terms::Term;
+pub use block::{Block, Header, Signature};
 pub use fault::{BlockFault, HeaderFault, WriteFault};
 pub use file::{FileFault, read_all};
 pub use header::LARGEST;

@@ -155,10 +155,12 @@ fn fault_of(
 
 #[test]
 fn other_terms(rt: HostRuntime) -> Result<(), Fail> {
-    let rows: [(&[u8], u8, u8, usize, u16); 3] = [
+    let rows: [(&[u8], u8, u8, usize, u16); 4] = [
         (b"\xA3", 37, 0xCC, 36, 0xA3),
-        (b"\x5B\x82", 38, 0x91, 36, 0x5B82),
+        (b"\x5B\x31", 38, 0xE2, 36, 0x5B31),
         (b"\x08_PPC\x00\xA3", 43, 0x7C, 42, 0xA3),
+        // in a device: places count from the first byte of the block
+        (b"\x5B\x82\x06DEV0\xA3", 44, 0xD3, 43, 0xA3),
     ];
     for (body, length, checksum, at, opcode) in rows {
         let fault = fault_of(rt.alloc(), length, checksum, body)?;
@@ -169,12 +171,20 @@ fn other_terms(rt: HostRuntime) -> Result<(), Fail> {
 
 #[test]
 fn faults_in_terms(rt: HostRuntime) -> Result<(), Fail> {
-    let rows: [(&[u8], u8, u8, DataFault); 5] = [
+    let rows: [(&[u8], u8, u8, DataFault); 7] = [
         (b"\x5B", 37, 0x14, DataFault::Short { at: 37 }),
         (b"\x08\x00\x00", 39, 0x65, DataFault::BadName { at: 37 }),
         (b"\x08\\\x00\x00", 40, 0x08, DataFault::BadName { at: 38 }),
         (b"\x08_P", 39, 0xB6, DataFault::Short { at: 39 }),
         (b"\x08_PPC\x0B", 42, 0x15, DataFault::Short { at: 42 }),
+        // a device without its length, and one that reaches too far
+        (b"\x5B\x82", 38, 0x91, DataFault::Short { at: 38 }),
+        (
+            b"\x5B\x82\x06DEV0",
+            43,
+            0x77,
+            DataFault::BadLength { at: 38 },
+        ),
     ];
     for (body, length, checksum, why) in rows {
         let fault = fault_of(rt.alloc(), length, checksum, body)?;

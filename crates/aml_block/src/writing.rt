@@ -3,120 +3,25 @@ ghost use Rattle.std.specs.Prelude.{IsTrue, IfOk, OnOk, OnErr, All};
 ghost use Rattle.pw_base.specs.Outside.{Rose, KeepsSink, GrewByPart};
 ghost use Rattle.aml_block.specs.Header.{signature_text};
 ghost use Rattle.aml_block.specs.Written.{checksum_for, written_behind, written_block, written_header};
-ghost use Rattle.aml_block.specs.Written.{written_term, written_terms, IsWritableBlock, IsWritableTerm};
+ghost use Rattle.aml_block.specs.Written.{IsWritableBlock};
 
-use crate::block::{Block, Header, Signature, Term};
+use crate::block::{Block, Header, Signature};
 use crate::fault::WriteFault;
 use crate::header::{HEADER_SIZE, LARGEST, sum_of};
-use aml_data::{encode, encode_name, is_writable, is_writable_name, name_len, written_len};
+use aml_terms::{encode_terms, is_writable_terms, written_terms_len};
 use pw_base::{Memory, Sink, put_all};
 use std::alloc::Global;
 
 /// The place of the checksum (ACPI 6.5, 5.2.6).
 const CHECKSUM: usize = 9;
 
-/// Whether a term can be written: so far a Name alone, whose name has a segment.
-fn is_writable_term(term: &Term) -> bool
-    ensures { IsTrue result ↔ IsWritableTerm term.now }
-{
-    match term {
-        Term::Name { path, value } => {
-            is_writable_name(path) && !path.segs.as_slice().is_empty() && is_writable(value)
-        }
-        Term::Scope { .. }
-        | Term::Device { .. }
-        | Term::Processor { .. }
-        | Term::Unread { .. }
-        | Term::Alias { .. }
-        | Term::External { .. }
-        | Term::Mutex { .. }
-        | Term::Event { .. }
-        | Term::Region { .. } => false,
-    }
-}
-
-/// How many bytes the written form of a term has.
-fn term_len(term: &Term) -> u64
-    requires { IsWritableTerm term.now }
-    ensures value { result ≡ length (written_term term.now) }
-    ensures small { result < 2 ^ 34 }
-{
-    match term {
-        Term::Name { path, value } => 1 + name_len(path) + written_len(value),
-        Term::Scope { .. }
-        | Term::Device { .. }
-        | Term::Processor { .. }
-        | Term::Unread { .. }
-        | Term::Alias { .. }
-        | Term::External { .. }
-        | Term::Mutex { .. }
-        | Term::Event { .. }
-        | Term::Region { .. } => 0,
-    }
-}
-
-/// Whether a block can be written: so far one of Names alone, each with a name of at least one segment
-/// and a data object that can be written, of at most 4 MiB in all. It takes no memory.
+/// Whether a block can be written: each of its terms can, and together with the header they have at
+/// most 4 MiB. It takes no memory.
 pub fn is_writable_block(block: &Block) -> bool
     ensures { IsTrue result ↔ IsWritableBlock block.now }
 {
-    let mut whole = HEADER_SIZE as u64;
-    for term in block.terms.as_slice() {
-        if !is_writable_term(term) {
-            return false;
-        }
-        whole += term_len(term);
-        if whole > LARGEST as u64 {
-            return false;
-        }
-    }
-    true
-}
-
-/// Appends a term.
-fn put_term(alloc: Global, term: &Term, out: &mut Vec<u8>) -> Result<(), Memory>
-    requires { IsWritableTerm term.now }
-    ensures { OnOk result (out.new.items ≡ out.old.items ++ written_term term.now) }
-{
-    match term {
-        Term::Name { path, value } => {
-            out.push(0x08)?;
-            encode_name(alloc, path, out)?;
-            encode(alloc, value, out)
-        }
-        Term::Scope { .. }
-        | Term::Device { .. }
-        | Term::Processor { .. }
-        | Term::Unread { .. }
-        | Term::Alias { .. }
-        | Term::External { .. }
-        | Term::Mutex { .. }
-        | Term::Event { .. }
-        | Term::Region { .. } => Ok(()),
-    }
-}
-
-/// How many bytes the written forms of terms have together.
-fn terms_len(terms: &[Term]) -> u64
-    requires writable { All IsWritableTerm terms.now }
-    requires small { length (written_terms terms.now) ≤ 4194304 }
-    ensures { result ≡ length (written_terms terms.now) }
-{
-    let mut whole = 0;
-    for term in terms {
-        whole += term_len(term);
-    }
-    whole
-}
-
-fn put_terms(alloc: Global, terms: &[Term], out: &mut Vec<u8>) -> Result<(), Memory>
-    requires { All IsWritableTerm terms.now }
-    ensures { OnOk result (out.new.items ≡ out.old.items ++ written_terms terms.now) }
-{
-    for term in terms {
-        put_term(alloc, term, out)?;
-    }
-    Ok(())
+    let terms = block.terms.as_slice();
+    is_writable_terms(terms) && HEADER_SIZE as u64 + written_terms_len(terms) <= LARGEST as u64
 }
 
 fn signature_bytes(signature: Signature) -> [u8; 4]
@@ -159,10 +64,10 @@ pub fn encode_block(alloc: Global, block: &Block) -> Result<Vec<u8>, Memory>
     ensures { IfOk result (λ bytes. bytes.items ≡ written_block block.now) }
 {
     let terms = block.terms.as_slice();
-    let whole = HEADER_SIZE + terms_len(terms) as usize;
+    let whole = HEADER_SIZE + written_terms_len(terms) as usize;
     let mut bytes = Vec::with_capacity(alloc, whole)?;
     put_header(&block.header, whole as u32, &mut bytes)?;
-    put_terms(alloc, terms, &mut bytes)?;
+    encode_terms(alloc, terms, &mut bytes)?;
     let checksum = checksum_of(sum_of(bytes.as_slice()));
     bytes[CHECKSUM] = checksum;
     Ok(bytes)

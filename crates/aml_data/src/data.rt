@@ -36,7 +36,7 @@ pub enum Width {
 fn copy_bytes(alloc: Global, bytes: &List<u8>) -> Result<List<u8>, Memory>
     ensures { IfOk result (λ copy. copy ≡ bytes.now) }
 {
-    List::from_vec(alloc, Vec::from_slice(alloc, bytes.as_slice())?)
+    List::from_slice(alloc, bytes.as_slice())
 }
 
 /// A data object equal to this one.

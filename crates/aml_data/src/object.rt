@@ -53,7 +53,7 @@ fn buffer_of(alloc: Global, bytes: &[u8], end: usize) -> Result<(Data, &[u8]), D
 {
     let (inside, after) = window_of(bytes, end)?;
     let (size, content) = constant_of(inside, end - after.len())?;
-    let bytes = List::from_vec(alloc, Vec::from_slice(alloc, content)?)?;
+    let bytes = List::from_slice(alloc, content)?;
     Ok((Data::Buffer { size, bytes }, after))
 }
 

@@ -22,7 +22,7 @@ pub struct FullPath {
 fn copy_segs(alloc: Global, segs: &List<Seg>) -> Result<List<Seg>, Memory>
     ensures { IfOk result (λ copy. copy ≡ segs.now) }
 {
-    List::from_vec(alloc, Vec::from_slice(alloc, segs.as_slice())?)
+    List::from_slice(alloc, segs.as_slice())
 }
 
 /// A path equal to this one.

@@ -41,6 +41,6 @@ pub(crate) fn text_of(
     let count = text_length(bytes, end)?;
     let (text, _) = bytes.split_at(count);
     let (_, rest) = bytes.split_at(count + 1);
-    let text = List::from_vec(alloc, Vec::from_slice(alloc, text)?)?;
+    let text = List::from_slice(alloc, text)?;
     Ok((text, rest))
 }

@@ -1,4 +1,5 @@
 pub mod formers
+pub mod Block
 pub mod InMemory
 pub mod Outside
 pub mod Room

@@ -11,6 +11,7 @@ mod room;
 mod sink;
 mod std_files;
 mod std_sink;
+mod thin;
 
 pub use failure::{Failed, Memory};
 pub use files::Files;

@@ -1,4 +1,4 @@
-ghost use Rattle.std.specs.Prelude.{◌≡◌, ◌↔◌, IsTrue, ◌+◌, ◌≤◌, ◌<◌, ◌++◌, ◌∷◌, [], length, IfOk};
+ghost use Rattle.std.specs.Prelude.{◌≡◌, ◌↔◌, IsTrue, ◌+◌, ◌≤◌, ◌<◌, ◌++◌, ◌∷◌, [], length, reverse, IfOk};
 
 use crate::failure::Memory;
 use std::alloc::Global;
@@ -69,6 +69,13 @@ impl<T> Room<T> {
         ensures { result.now ≡ self.now.elements }
     {
         self.list.as_slice()
+    }
+
+    /// Puts the elements in the opposite order. It takes no memory.
+    pub fn reverse(&mut self)
+        ensures { self.new ≡ record self.old { elements = reverse self.old.elements } }
+    {
+        self.list.reverse();
     }
 
     /// Puts an element at the end. It takes no memory.

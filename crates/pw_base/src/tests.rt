@@ -7,8 +7,33 @@ fn list_keeps_its_elements(rt: HostRuntime) -> Result<(), Fail> {
     let mut list = List::from_vec(rt.alloc(), [1, 2, 3].to_vec(rt.alloc())?)?;
     assert_eq!(rt; list.as_slice().len(), 3);
     list.set(1, 9);
-    assert_eq!(rt; list.into_vec().as_slice(), [1, 9, 3].as_slice());
+    assert_eq!(rt; list.as_slice(), [1, 9, 3].as_slice());
     OpenGate.reached(0, 1);
+    Ok(())
+}
+
+#[test]
+fn list_has_the_elements_of_a_slice(rt: HostRuntime) -> Result<(), Fail> {
+    assert_eq!(rt; List::from_slice(rt.alloc(), b"")?.as_slice().len(), 0);
+    assert_eq!(rt;
+        List::from_slice(rt.alloc(), b"abcdefghi")?.as_slice(),
+        b"abcdefghi".as_slice()
+    );
+    // An element that is aligned to more than the count gets no memory.
+    assert!(rt; List::from_slice(rt.alloc(), &[1u128]).is_err());
+    Ok(())
+}
+
+#[test]
+fn lists_nest_and_may_be_long(rt: HostRuntime) -> Result<(), Fail> {
+    let mut lists = Vec::new(rt.alloc());
+    lists.push(List::from_vec(rt.alloc(), Vec::from_elem(rt.alloc(), 7u16, 9000)?)?)?;
+    lists.push(List::from_slice(rt.alloc(), &[8, 9])?)?;
+    let lists = List::from_vec(rt.alloc(), lists)?;
+    assert_eq!(rt; lists.as_slice().len(), 2);
+    for list in lists.as_slice() {
+        assert!(rt; list.as_slice().len() == 9000 || list.as_slice() == [8, 9].as_slice());
+    }
     Ok(())
 }
 
@@ -21,6 +46,8 @@ fn room_fills_and_empties(rt: HostRuntime) -> Result<(), Fail> {
     room.extend_from_slice(&[8, 9]);
     assert_eq!(rt; room.as_slice(), [7, 8, 9].as_slice());
     assert_eq!(rt; (room.len(), room.spare()), (3, 0));
+    room.reverse();
+    assert_eq!(rt; room.as_slice(), [9, 8, 7].as_slice());
     room.clear();
     assert_eq!(rt; (room.len(), room.spare()), (0, 3));
     Ok(())

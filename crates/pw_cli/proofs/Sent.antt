@@ -1,8 +1,8 @@
 -- What stands on a sink once a text was put by way of an empty page that is empty again.
-use Rattle.std.proofs.Common.{◌≡◌, ℕ, Bool, true, false, List, [], ◌++◌, Result, Ok, Err, OnOk, OnErr, is_ok, take, inl, inr, ◌⊎◌, refl, sym, ap, subst, ◌∙◌}
+use Rattle.std.proofs.Common.{◌≡◌, ℕ, Bool, true, false, List, [], ◌++◌, Result, Ok, Err, OnOk, OnErr, is_ok, take, inl, inr, refl, sym, ap, subst, ◌∙◌}
 use Rattle.std.proofs.lemmas.Bool.{false≢true}
 use Rattle.std.proofs.lemmas.List.{append-nil}
-use Rattle.pw_base.specs.Outside.{Rose, GrewByPart}
+use Rattle.pw_base.specs.Outside.{GrewByPart}
 use Rattle.pw_text.specs.Puts.{PutsText}
 use Rattle.pw_cli.specs.Seen.{sink_seen, Grew, GrewByLine}
 
@@ -35,8 +35,3 @@ nothing_said told written faults s = λ tells. inl (sym (append-nil (written s))
 -- nothing was printed on it
 pub nothing_printed : {S : Type 0} (told : S → Bool) (written : S → List ℕ) (faults : S → ℕ) (s : S) → Grew (sink_seen told written faults s) (sink_seen told written faults s) []
 nothing_printed told written faults s = λ tells. sym (append-nil (written s))
-
--- the same of a sink that a call left as it was
-pub nothing_printed_as : {S : Type 0} (told : S → Bool) (written : S → List ℕ) (faults : S → ℕ) (s t : S) → t ≡ s
-    → Grew (sink_seen told written faults s) (sink_seen told written faults t) []
-nothing_printed_as told written faults s t same = λ tells. ap written same ∙ sym (append-nil (written s))

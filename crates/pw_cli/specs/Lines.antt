@@ -1,11 +1,13 @@
 -- The lines of the error output.
-use Rattle.std.specs.Prelude.{ℕ, List, [], ◌∷◌, ◌++◌, codes, decimal}
+use Rattle.std.specs.Prelude.{ℕ, ◌==◌, List, ◌++◌, codes, decimal, if◌then◌else◌}
 use Rattle.aml_data.specs.declared.fault.DataFault.{DataFault}
 use Rattle.aml_data.specs.declared.fault.DataFault.TheVariants as data_faults
 use Rattle.aml_block.specs.declared.fault.HeaderFault.{HeaderFault}
 use Rattle.aml_block.specs.declared.fault.HeaderFault.TheVariants as header_faults
 use Rattle.aml_block.specs.declared.fault.BlockFault.{BlockFault}
 use Rattle.aml_block.specs.declared.fault.BlockFault.TheVariants as block_faults
+use Rattle.pw_blocks.specs.declared.fault.BlocksFault.{BlocksFault}
+use Rattle.pw_blocks.specs.declared.fault.BlocksFault.TheVariants as blocks_faults
 use Rattle.pw_text.specs.Text.{hex_text, place_text}
 
 -- what is wrong with a header
@@ -39,10 +41,21 @@ fault_words (block_faults.BadTerm at opcode) = at_place at (codes " term " ++ he
 fault_words block_faults.ReadFault = codes "read fault"
 fault_words block_faults.Memory = codes "no memory"
 
--- the line of a block's own fault
-abbrev pub fault_line : BlockFault → List ℕ
-fault_line fault = codes "block: " ++ fault_words fault ++ codes "\n"
+-- How the line of a block's own fault begins: with the number of the block, from 1, where several are named.
+abbrev pub block_start : ℕ → ℕ → List ℕ
+block_start many number = if many == 1 then codes "block: " else codes "block " ++ decimal number ++ codes ": "
 
--- the line of a path at which two objects are placed
+-- the line of a block's own fault, where so many are named
+abbrev pub fault_line : ℕ → ℕ → BlockFault → List ℕ
+fault_line many number fault = block_start many number ++ fault_words fault ++ codes "\n"
+
+-- the line of what is first at fault, where so many blocks are named
+abbrev pub blocks_line : ℕ → BlocksFault → List ℕ
+blocks_line many (blocks_faults.Block number fault) = fault_line many number fault
+blocks_line many blocks_faults.Large = codes "blocks: larger than 16777216\n"
+blocks_line many blocks_faults.ReadFault = codes "read fault\n"
+blocks_line many blocks_faults.Memory = codes "no memory\n"
+
+-- the line of a place at which two objects are placed
 abbrev pub twice_line : List (List ℕ) → List ℕ
-twice_line path = codes "block: " ++ place_text path ++ codes " given twice\n"
+twice_line place = codes "block: " ++ place_text place ++ codes " given twice\n"

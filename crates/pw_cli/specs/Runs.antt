@@ -1,44 +1,47 @@
 -- How a run of the program ends.
-use Rattle.std.specs.Prelude.{◌≡◌, ℕ, true, List, [], codes, take, Some}
+use Rattle.std.specs.Prelude.{◌≡◌, ℕ, true, List, [], length, codes, take, Option}
+use Rattle.std.specs.List.{flat_map}
 use Rattle.std.proofs.Common.{◌⊎◌}
 use Rattle.pw_base.specs.Outside.{Rose}
 use Rattle.aml_block.specs.declared.block.Block.{Block}
-use Rattle.aml_block.specs.declared.fault.BlockFault.{BlockFault}
-use Rattle.aml_block.specs.Spelling.{BlockSpells}
-use Rattle.aml_block.specs.Faults.{BlockFails}
 use Rattle.aml_block.specs.Written.{written_block}
 use Rattle.acpi_space.specs.Distinct.{IsDistinct, IsFirstRepeat}
-use Rattle.acpi_space.specs.Objects.{objects_of, paths_of}
+use Rattle.acpi_space.specs.Places.{Place}
+use Rattle.acpi_space.specs.Namespace.{entries_in, places_of}
+use Rattle.pw_blocks.specs.declared.fault.BlocksFault.{BlocksFault}
+use Rattle.pw_blocks.specs.Held.{HoldBlocks, FailFirst}
 use Rattle.pw_show.specs.Show.{show_text}
 use Rattle.pw_words.specs.Words.{AskFor, IsCommand, Task}
 use Rattle.pw_words.specs.Words.Task.{to_show, to_rewrite}
-use Rattle.pw_cli.specs.Lines.{fault_line, twice_line}
-use Rattle.pw_cli.specs.Seen.{FilesSeen, SinkSeen, OfFile, Grew, GrewByLine}
+use Rattle.pw_cli.specs.Lines.{blocks_line, twice_line}
+use Rattle.pw_cli.specs.Seen.{FilesSeen, SinkSeen, OfFiles, Grew, GrewByLine}
 
--- # What is printed of a block, or why it is refused
+-- # What is printed of blocks, or why they are refused
 
--- This is the text that the task makes of a block: to show it, the lines of its objects, if it places no path twice; to
--- rewrite it, its shortest spelling.
-abbrev pub IsTextOf : Task → Block → List ℕ → Type 0
-IsTextOf to_show block text = IsDistinct (paths_of (objects_of block.terms)) × (text ≡ show_text (objects_of block.terms))
-IsTextOf to_rewrite block text = text ≡ written_block block
+-- This is the text that the task makes of blocks: to show them, the lines of the objects that they place, if they place
+-- none where one was placed before; to rewrite them, their shortest spellings one after the other.
+abbrev pub IsTextOf : Task → List Block → List ℕ → Type 0
+IsTextOf to_show blocks text = IsDistinct (places_of (entries_in blocks)) × (text ≡ show_text (entries_in blocks))
+IsTextOf to_rewrite blocks text = text ≡ flat_map written_block blocks
 
--- This is the line by which the task refuses a block that is spelled: to show it, that of the first path that it places
--- twice; to rewrite it, none.
-abbrev pub IsRefusalOf : Task → Block → List ℕ → Type 0
-IsRefusalOf to_show block line = (path : List (List ℕ)) × IsFirstRepeat (paths_of (objects_of block.terms)) path × (line ≡ twice_line path)
-IsRefusalOf to_rewrite block line = ⊥
+-- This is the line by which the task refuses blocks that are spelled: to show them, that of the first place that is given
+-- a second object; to rewrite them, none.
+abbrev pub IsRefusalOf : Task → List Block → List ℕ → Type 0
+IsRefusalOf to_show blocks line = (place : Place) × IsFirstRepeat (places_of (entries_in blocks)) place × (line ≡ twice_line place)
+IsRefusalOf to_rewrite blocks line = ⊥
 
--- The bytes spell a block, and this is the task's text of it.
-pub record IsPrintedAs (task : Task) (bytes text : List ℕ) : Type 0 where
-  pub block : Block
-  pub spelled : BlockSpells block bytes
-  pub printed : IsTextOf task block text
+-- Files hold blocks under the names, and this is the task's text of them.
+pub record IsPrintedAs (task : Task) (names : List (List ℕ)) (text : List ℕ) (holds : List ℕ → Option (List ℕ)) : Type 0 where
+  pub blocks : List Block
+  pub held : HoldBlocks holds names blocks
+  pub printed : IsTextOf task blocks text
 
--- The bytes spell no block, or one that the task refuses, and this line says what is first at fault.
-pub data IsRefusedBy (task : Task) (bytes : List ℕ) : List ℕ → Type 0 where
-  unspelled : (fault : BlockFault) → BlockFails bytes fault → IsRefusedBy task bytes (fault_line fault)
-  unusable : {line : List ℕ} (block : Block) → BlockSpells block bytes → IsRefusalOf task block line → IsRefusedBy task bytes line
+-- Files hold no blocks under the names, or blocks that the task refuses, and this line says what is first at fault.
+pub data IsRefusedBy (task : Task) (names : List (List ℕ)) : List ℕ → (List ℕ → Option (List ℕ)) → Type 0 where
+  unspelled : {holds : List ℕ → Option (List ℕ)} (fault : BlocksFault) → FailFirst holds names fault
+      → IsRefusedBy task names (blocks_line (length names) fault) holds
+  unusable : {line : List ℕ} {holds : List ℕ → Option (List ℕ)} (blocks : List Block) → HoldBlocks holds names blocks → IsRefusalOf task blocks line
+      → IsRefusedBy task names line holds
 
 -- # The run
 
@@ -46,19 +49,19 @@ pub data IsRefusedBy (task : Task) (bytes : List ℕ) : List ℕ → Type 0 wher
 pub data Ends (words : List (List ℕ)) (files files' : FilesSeen) (out out' : SinkSeen) : ℕ → List ℕ → List ℕ → Type 0 where
   -- the words are no command
   ends_misworded : (IsCommand words → ⊥) → Ends words files files' out out' 2 [] (codes "words: refused\n")
-  -- the task's text of the block
-  ends_printed : (task : Task) {name text : List ℕ} → AskFor words task name → OfFile files name (λ bytes. IsPrintedAs task bytes text)
+  -- the task's text of the blocks
+  ends_printed : (task : Task) {names : List (List ℕ)} {text : List ℕ} → AskFor words task names → OfFiles files (IsPrintedAs task names text)
       → Ends words files files' out out' 0 text []
-  -- the bytes are refused
-  ends_refused : (task : Task) {name line : List ℕ} → AskFor words task name → OfFile files name (λ bytes. IsRefusedBy task bytes line)
+  -- what the files hold is refused
+  ends_refused : (task : Task) {names : List (List ℕ)} {line : List ℕ} → AskFor words task names → OfFiles files (IsRefusedBy task names line)
       → Ends words files files' out out' 1 [] line
-  -- the file couldn't be read
-  ends_unread : (task : Task) {name : List ℕ} → AskFor words task name → Rose files.faults files'.faults → Ends words files files' out out' 3 [] (codes "read fault\n")
+  -- a file couldn't be read
+  ends_unread : (task : Task) {names : List (List ℕ)} → AskFor words task names → Rose files.faults files'.faults → Ends words files files' out out' 3 [] (codes "read fault\n")
   -- the text couldn't be written whole
-  ends_unwritten : (task : Task) {name : List ℕ} (text : List ℕ) (n : ℕ) → AskFor words task name → OfFile files name (λ bytes. IsPrintedAs task bytes text)
+  ends_unwritten : (task : Task) {names : List (List ℕ)} (text : List ℕ) (n : ℕ) → AskFor words task names → OfFiles files (IsPrintedAs task names text)
       → Rose out.faults out'.faults → Ends words files files' out out' 4 (take n text) (codes "write fault\n")
   -- want of memory, before anything was written
-  ends_without_memory : (task : Task) {name : List ℕ} → AskFor words task name → Ends words files files' out out' 6 [] (codes "no memory\n")
+  ends_without_memory : (task : Task) {names : List (List ℕ)} → AskFor words task names → Ends words files files' out out' 6 [] (codes "no memory\n")
 
 -- One run: how it ended, and that the two sinks grew by just that.
 pub record Ran (words : List (List ℕ)) (files files' : FilesSeen) (out out' err err' : SinkSeen) (status : ℕ) : Type 0 where
@@ -68,10 +71,10 @@ pub record Ran (words : List (List ℕ)) (files files' : FilesSeen) (out out' er
   pub on_out : Grew out out' printed
   pub on_err : GrewByLine err err' line
 
--- With right words, bytes that the task prints, and no fault of the files and the output, the whole text is printed, or memory runs out.
+-- With right words, blocks that the task prints, and no fault of the files and the output, the whole text is printed, or memory runs out.
 pub record IsComplete (words : List (List ℕ)) (files files' : FilesSeen) (out out' : SinkSeen) (status : ℕ) : Type 0 where
-  pub prints : {task : Task} {name bytes text : List ℕ} → AskFor words task name → files.told ≡ true → files.holds name ≡ Some bytes → IsPrintedAs task bytes text
+  pub prints : {task : Task} {names : List (List ℕ)} {text : List ℕ} → AskFor words task names → files.told ≡ true → IsPrintedAs task names text files.holds
       → (Rose files.faults files'.faults → ⊥) → (Rose out.faults out'.faults → ⊥) → (status ≡ 0) ⊎ (status ≡ 6)
-  -- and bytes that the task refuses are refused with status 1, or memory runs out
-  pub refuses : {task : Task} {name bytes line : List ℕ} → AskFor words task name → files.told ≡ true → files.holds name ≡ Some bytes → IsRefusedBy task bytes line
+  -- and what the task refuses is refused with status 1, or memory runs out
+  pub refuses : {task : Task} {names : List (List ℕ)} {line : List ℕ} → AskFor words task names → files.told ≡ true → IsRefusedBy task names line files.holds
       → (Rose files.faults files'.faults → ⊥) → (status ≡ 1) ⊎ (status ≡ 6)

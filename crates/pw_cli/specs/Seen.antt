@@ -2,7 +2,6 @@
 use Rattle.std.specs.Prelude.{◌≡◌, ℕ, Bool, true, List, ◌++◌, Option}
 use Rattle.std.proofs.Common.{◌⊎◌}
 use Rattle.pw_base.specs.Outside.{Rose, GrewByPart}
-use Rattle.aml_block.specs.Answers.{IsHeldAnd}
 
 -- files at one moment: whether they tell, what each name holds, and how often they failed
 pub record FilesSeen : Type 0 where
@@ -22,9 +21,9 @@ files_seen told holds faults s = record { told = told s; holds = holds s; faults
 abbrev pub sink_seen : {S : Type 0} → (S → Bool) → (S → List ℕ) → (S → ℕ) → S → SinkSeen
 sink_seen told written faults s = record { told = told s; written = written s; faults = faults s }
 
--- where the files tell, there is a file of this name, and this holds of its bytes
-abbrev pub OfFile : FilesSeen → List ℕ → (List ℕ → Type 0) → Type 0
-OfFile files name P = IsHeldAnd files.told (files.holds name) P
+-- where the files tell, this holds of what they hold
+abbrev pub OfFiles : FilesSeen → ((List ℕ → Option (List ℕ)) → Type 0) → Type 0
+OfFiles files P = files.told ≡ true → P files.holds
 
 -- where the sink tells, it grew by a text
 abbrev pub Grew : SinkSeen → SinkSeen → List ℕ → Type 0

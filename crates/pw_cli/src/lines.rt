@@ -1,25 +1,44 @@
-ghost use Rattle.std.specs.Prelude.{◌≡◌, ◌++◌, codes, is_ok};
+ghost use Rattle.std.specs.Prelude.{◌≡◌, ◌++◌, codes, decimal, is_ok};
 ghost use Rattle.pw_text.specs.Puts.{PutsText};
 ghost use Rattle.pw_text.specs.Text.{hex_text};
-ghost use Rattle.pw_cli.specs.Lines.{header_word, at_place, data_words, fault_words, fault_line, twice_line};
+ghost use Rattle.pw_cli.specs.Lines.{header_word, at_place, data_words, fault_words, block_start, fault_line};
+ghost use Rattle.pw_cli.specs.Lines.{twice_line};
 
 use aml_block::{BlockFault, HeaderFault};
 use aml_data::{DataFault, Seg};
 use pw_base::{Failed, Sink};
 use pw_text::{Page, put_hex, put_number, put_place};
 
-/// Puts the line of a block's own fault.
+/// Puts the line of the own fault of the block of this number, where so many are named.
 pub fn put_fault_line<K: Sink>(
     page: &mut Page,
     sink: &mut K,
+    many: usize,
+    number: usize,
     fault: BlockFault,
 ) -> Result<(), Failed>
     ensures { PutsText K.told K.written K.faults sink.old sink.new page.old page.new
-        (fault_line fault) (is_ok result) }
+        (fault_line many number fault) (is_ok result) }
 {
-    page.put(sink, b"block: ")?;
+    put_block_start(page, sink, many, number)?;
     put_fault_words(page, sink, fault)?;
     page.put(sink, b"\n")
+}
+
+fn put_block_start<K: Sink>(
+    page: &mut Page,
+    sink: &mut K,
+    many: usize,
+    number: usize,
+) -> Result<(), Failed>
+    ensures { PutsText K.told K.written K.faults sink.old sink.new page.old page.new
+        (block_start many number) (is_ok result) }
+{
+    if many == 1 {
+        page.put(sink, b"block: ")
+    } else {
+        put_between(page, sink, b"block ", number, b": ")
+    }
 }
 
 /// Puts the line of a path at which two objects are placed.
@@ -86,13 +105,27 @@ fn put_data_words<K: Sink>(page: &mut Page, sink: &mut K, fault: DataFault) -> R
     }
 }
 
+/// Puts a number between two texts.
+fn put_between<K: Sink>(
+    page: &mut Page,
+    sink: &mut K,
+    before: &[u8],
+    number: usize,
+    after: &[u8],
+) -> Result<(), Failed>
+    ensures { PutsText K.told K.written K.faults sink.old sink.new page.old page.new
+        (before.now ++ decimal number ++ after.now) (is_ok result) }
+{
+    page.put(sink, before)?;
+    put_number(page, sink, number as u64)?;
+    page.put(sink, after)
+}
+
 fn put_at<K: Sink>(page: &mut Page, sink: &mut K, at: usize, what: &[u8]) -> Result<(), Failed>
     ensures { PutsText K.told K.written K.faults sink.old sink.new page.old page.new
         (at_place at what.now) (is_ok result) }
 {
-    page.put(sink, b"at ")?;
-    put_number(page, sink, at as u64)?;
-    page.put(sink, what)
+    put_between(page, sink, b"at ", at, what)
 }
 
 fn put_at_number<K: Sink>(

@@ -3,9 +3,9 @@
 /// | status | comes |
 /// |---|---|
 /// | 0 | all is done and written |
-/// | 1 | the block is refused |
+/// | 1 | the blocks are refused |
 /// | 2 | the words are refused |
-/// | 3 | the file can't be read |
+/// | 3 | a file can't be read |
 /// | 4 | the output can't be written |
 /// | 6 | want of memory |
 #[derive(Clone, Copy, Debug, PartialEq, Eq)]

@@ -64,7 +64,7 @@ fn do_command<F: Files, K: Sink>(
         (sink_seen K.told K.written K.faults err.new) result.status }
 {
     match command {
-        Command::Show { block } => show(alloc, block, files, out, err),
-        Command::Rewrite { block } => rewrite(alloc, block, files, out, err),
+        Command::Show { blocks } => show(alloc, blocks, files, out, err),
+        Command::Rewrite { blocks } => rewrite(alloc, blocks, files, out, err),
     }
 }

@@ -18,14 +18,21 @@ pub fn say<K: Sink>(err: &mut K, line: &[u8])
     let _ = put_all(err, line);
 }
 
-/// Writes the line of a block's own fault, by way of an empty page.
-pub fn say_fault<K: Sink>(page: &mut Page, err: &mut K, fault: BlockFault)
+/// Writes the line of the own fault of the block of this number, where so many are named, by way of an
+/// empty page.
+pub fn say_fault<K: Sink>(
+    page: &mut Page,
+    err: &mut K,
+    many: usize,
+    number: usize,
+    fault: BlockFault,
+)
     requires { page.old ≡ [] }
     ensures keeps { KeepsSink K.told K.faults err.old err.new }
     ensures line { GrewByLine (sink_seen K.told K.written K.faults err.old)
-        (sink_seen K.told K.written K.faults err.new) (fault_line fault) }
+        (sink_seen K.told K.written K.faults err.new) (fault_line many number fault) }
 {
-    if put_fault_line(page, err, fault).is_ok() {
+    if put_fault_line(page, err, many, number, fault).is_ok() {
         let _ = page.flush(err);
     }
 }

@@ -2,4 +2,16 @@
 #![tactic(auto)]
 
 #[cfg(test)]
-mod tests;
+mod clusters;
+#[cfg(test)]
+mod faults;
+#[cfg(test)]
+mod lists;
+#[cfg(test)]
+mod outside;
+#[cfg(test)]
+mod rewriting;
+#[cfg(test)]
+mod runs;
+#[cfg(test)]
+mod showing;

@@ -1,5 +1,5 @@
 -- Texts that are put in three parts, or one for each element of a list.
-use Rattle.std.proofs.Common.{◌≡◌, ◌+◌, ◌<◌, ℕ, suc, Bool, true, false, List, [], ◌∷◌, ◌++◌, map, refl, ap, ◌∙◌, Result, IsErr, is_ok, take, drop, get_or, length, sym, append_assoc, add-one}
+use Rattle.std.proofs.Common.{◌≡◌, ◌+◌, ◌<◌, ℕ, Bool, true, false, List, [], ◌∷◌, ◌++◌, map, refl, ap, ◌∙◌, Result, IsErr, is_ok, take, drop, get_or, length, sym, append_assoc, add-one}
 use Rattle.std.specs.List.{flat_map}
 use Rattle.pw_text.specs.Puts.{PutsText}
 use Rattle.pw_show.specs.Values.{behind, separated}

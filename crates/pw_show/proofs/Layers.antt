@@ -1,7 +1,7 @@
 -- The text of an object by its variant.
 use Rattle.std.proofs.Common.{◌≡◌, ℕ, List, ◌++◌, codes, decimal, map, ap, ◌∙◌}
 use Rattle.std.specs.List.{flat_map}
-use Rattle.aml_data.specs.declared.data.Data.{Data, Data-F, fold-Data, map-Data, out-Data, fold_out-Data}
+use Rattle.aml_data.specs.declared.data.Data.{Data, Data-F, map-Data, out-Data, fold_out-Data}
 use Rattle.aml_data.specs.declared.data.Data.TheOpen as layer
 use Rattle.aml_data.specs.declared.data.Data.TheVariants.{Int, Ones, Revision, Text, Buffer, Package, VarPackage, Path as at_path}
 use Rattle.aml_data.specs.declared.data.Data.TheViews.{outs-Int, outs-Ones, outs-Revision, outs-Text, outs-Buffer, outs-Package, outs-VarPackage, outs-Path}

@@ -1,11 +1,11 @@
-//! What `show` prints: a line for each object that a definition block places.
+//! What `show` prints: a line for each object that definition blocks place.
 #![tactic(auto)]
 
 mod show;
 mod strings;
 mod values;
 
-pub use show::put_objects;
+pub use show::{put_line, put_space};
 pub use values::put_value;
 
 #[cfg(test)]

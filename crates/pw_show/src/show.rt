@@ -1,57 +1,77 @@
-ghost use Rattle.std.specs.Prelude.{◌≡◌, ◌++◌, codes, is_ok};
-ghost use Rattle.std.specs.List.{flat_map};
-ghost use Rattle.acpi_space.specs.Objects.{placed_by, objects_of};
+ghost use Rattle.std.specs.Prelude.{◌≡◌, ◌≤◌, ◌++◌, length, codes, is_ok};
+ghost use Rattle.std.specs.List.{All};
+ghost use Rattle.acpi_space.specs.Things.{thing};
+ghost use Rattle.acpi_space.specs.Namespace.{Entry};
 ghost use Rattle.pw_text.specs.Puts.{PutsText};
-ghost use Rattle.pw_text.specs.Text.{place_text};
-ghost use Rattle.pw_show.specs.Show.{show_text};
+ghost use Rattle.pw_text.specs.Text.{path_text, place_text};
+ghost use Rattle.pw_show.specs.Show.{object_line, object_text, show_text};
 ghost use Rattle.pw_show.specs.Values.{value_text};
 
 use crate::values::put_value;
-use acpi_space::placed;
-use aml_block::Term;
-use aml_data::{Data, Seg};
-use pw_base::{Failed, Sink};
-use pw_text::{Page, put_place};
+use acpi_space::{Object, Space};
+use aml_data::{Data, Path, Seg};
+use pw_base::{Failed, Room, Sink};
+use pw_text::{Page, put_path, put_place};
 
-/// Puts a line for each object that the terms place, in their order.
-pub fn put_objects<K: Sink>(page: &mut Page, sink: &mut K, terms: &[Term]) -> Result<(), Failed>
+/// Puts a line for each object of a space, in their order. The buffer is filled anew with each path,
+/// and has room for the longest. It takes no memory.
+pub fn put_space<K: Sink>(
+    page: &mut Page,
+    sink: &mut K,
+    space: &Space<'_>,
+    path: &mut Room<Seg>,
+) -> Result<(), Failed>
+    requires { All (λ (e : Entry). length e.path ≤ path.old.capacity) space.now }
     ensures { PutsText K.told K.written K.faults sink.old sink.new page.old page.new
-        (show_text (objects_of terms.now)) (is_ok result) }
+        (show_text space.now) (is_ok result) }
 {
-    for term in terms {
-        put_term(page, sink, term)?;
+    for (index, placed) in space.placed().iter().enumerate() {
+        space.fill_path(index, path);
+        put_line(page, sink, path.as_slice(), placed.object)?;
     }
     Ok(())
 }
 
-fn put_term<K: Sink>(page: &mut Page, sink: &mut K, term: &Term) -> Result<(), Failed>
-    ensures { PutsText K.told K.written K.faults sink.old sink.new page.old page.new
-        (show_text (placed_by term.now)) (is_ok result) }
-{
-    match placed(term) {
-        None => Ok(()),
-        Some((path, object)) => put_line(page, sink, path.segs.as_slice(), object),
-    }
-}
-
-fn put_line<K: Sink>(
+/// Puts the line of an object: its full path, and what it is. It takes no memory.
+pub fn put_line<K: Sink>(
     page: &mut Page,
     sink: &mut K,
-    segs: &[Seg],
-    object: &Data,
+    path: &[Seg],
+    object: Object<'_>,
 ) -> Result<(), Failed>
     ensures { PutsText K.told K.written K.faults sink.old sink.new page.old page.new
-        (place_text segs.now ++ codes " = " ++ value_text object.now ++ codes "\n") (is_ok result) }
+        (object_line path.now (thing object.entry)) (is_ok result) }
 {
-    put_start(page, sink, segs)?;
-    put_value(page, sink, object)?;
+    put_place(page, sink, path)?;
+    put_object(page, sink, object)?;
     page.put(sink, b"\n")
 }
 
-fn put_start<K: Sink>(page: &mut Page, sink: &mut K, segs: &[Seg]) -> Result<(), Failed>
+fn put_object<K: Sink>(page: &mut Page, sink: &mut K, object: Object<'_>) -> Result<(), Failed>
     ensures { PutsText K.told K.written K.faults sink.old sink.new page.old page.new
-        (place_text segs.now ++ codes " = ") (is_ok result) }
+        (object_text (thing object.entry)) (is_ok result) }
 {
-    put_place(page, sink, segs)?;
-    page.put(sink, b" = ")
+    match object {
+        Object::Data(value) => put_data(page, sink, value),
+        Object::Device => page.put(sink, b" device"),
+        Object::Processor => page.put(sink, b" processor"),
+        Object::Method => page.put(sink, b" method"),
+        Object::Alias(target) => put_target(page, sink, target),
+    }
+}
+
+fn put_data<K: Sink>(page: &mut Page, sink: &mut K, value: &Data) -> Result<(), Failed>
+    ensures { PutsText K.told K.written K.faults sink.old sink.new page.old page.new
+        (codes " = " ++ value_text value.now) (is_ok result) }
+{
+    page.put(sink, b" = ")?;
+    put_value(page, sink, value)
+}
+
+fn put_target<K: Sink>(page: &mut Page, sink: &mut K, target: &Path) -> Result<(), Failed>
+    ensures { PutsText K.told K.written K.faults sink.old sink.new page.old page.new
+        (codes " alias " ++ path_text target.now) (is_ok result) }
+{
+    page.put(sink, b" alias ")?;
+    put_path(page, sink, target)
 }

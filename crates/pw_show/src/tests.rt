@@ -1,7 +1,8 @@
 use super::*;
-use aml_block::Term;
+use acpi_space::{Object, Space};
+use aml_block::{Block, parse};
 use aml_data::{Data, Path, Seg};
-use pw_base::{List, MemorySink};
+use pw_base::{List, MemorySink, Room};
 use pw_text::Page;
 use std::alloc::Global;
 use std::test::Fail;
@@ -120,29 +121,95 @@ fn packages(rt: HostRuntime) -> Result<(), Fail> {
     Ok(())
 }
 
+/// The line of an object at the place of these segments.
+fn line_of(alloc: Global, names: &[[u8; 4]], object: Object<'_>) -> Result<MemorySink, Fail> {
+    let mut page = Page::new(alloc)?;
+    let mut sink = MemorySink::new(alloc, 1000, Vec::new(alloc), 1000)?;
+    let path = path_of(alloc, true, 0, names)?;
+    put_line(&mut page, &mut sink, path.segs.as_slice(), object)
+        .ok()
+        .ok_or("line")?;
+    page.flush(&mut sink).ok().ok_or("flush")?;
+    Ok(sink)
+}
+
 #[test]
 fn lines_of_objects(rt: HostRuntime) -> Result<(), Fail> {
     let alloc = rt.alloc();
-    let terms = [
-        Term::Name {
-            path: path_of(alloc, false, 0, &[*b"_PPC"])?,
-            value: Data::Int(0),
-        },
-        Term::Event {
-            path: path_of(alloc, false, 0, &[*b"EVT0"])?,
-        },
-        Term::Name {
-            path: path_of(alloc, true, 0, &[*b"_SB_", *b"_HID"])?,
-            value: Data::Text(bytes_of(alloc, b"ACPI0010")?),
-        },
+    let five = Data::Int(5);
+    let near = path_of(alloc, false, 0, &[*b"_AAA"])?;
+    let from_root = path_of(alloc, true, 0, &[*b"_SB_", *b"LIMT"])?;
+    let above = path_of(alloc, false, 2, &[*b"_AAA"])?;
+    let nothing = path_of(alloc, false, 0, &[])?;
+    let rows: [(&[[u8; 4]], Object<'_>, &[u8]); 8] = [
+        (
+            &[*b"_SB_", *b"VAL0"],
+            Object::Data(&five),
+            b"\\_SB_.VAL0 = 5\n",
+        ),
+        (
+            &[*b"_SB_", *b"CLU0"],
+            Object::Device,
+            b"\\_SB_.CLU0 device\n",
+        ),
+        (&[*b"CPU0"], Object::Processor, b"\\CPU0 processor\n"),
+        (&[*b"_STA"], Object::Method, b"\\_STA method\n"),
+        (&[*b"_BBB"], Object::Alias(&near), b"\\_BBB alias _AAA\n"),
+        (
+            &[*b"_SB_", *b"CPU0", *b"_PPC"],
+            Object::Alias(&from_root),
+            b"\\_SB_.CPU0._PPC alias \\_SB_.LIMT\n",
+        ),
+        (&[*b"_BBB"], Object::Alias(&above), b"\\_BBB alias ^^_AAA\n"),
+        (&[*b"X___"], Object::Alias(&nothing), b"\\X___ alias \n"),
     ];
+    for (names, object, text) in rows {
+        assert_eq!(rt; line_of(alloc, names, object)?.written(), text);
+    }
+    Ok(())
+}
+
+/// A block of this body.
+fn block_of(alloc: Global, body: &[u8]) -> Result<Block, Fail> {
+    let length = u8::try_from(body.len()).map_err(|_| Fail::from("too long"))?;
+    let mut bytes = Vec::new(alloc);
+    bytes.extend_from_slice(b"SSDT")?;
+    bytes.extend_from_slice(&[length.wrapping_add(36), 0, 0, 0, 2])?;
+    let mut rest = Vec::new(alloc);
+    rest.extend_from_slice(b"POWER POWERTAB\x01\x00\x00\x00PWR \x01\x00\x00\x00")?;
+    rest.extend_from_slice(body)?;
+    let mut sum: u8 = 0;
+    for byte in bytes.iter().chain(&rest) {
+        sum = sum.wrapping_add(*byte);
+    }
+    bytes.push(0u8.wrapping_sub(sum))?;
+    bytes.extend_from_slice(&rest)?;
+    parse(alloc, &bytes).map_err(|_| Fail::from("no block"))
+}
+
+#[test]
+fn lines_of_a_space(rt: HostRuntime) -> Result<(), Fail> {
+    let alloc = rt.alloc();
+    let bodies: [&[u8]; 4] = [
+        b"\x5B\x83\x0BCPU0\x07\x00\x00\x00\x00\x00",
+        b"\x10\x0C\\CPU0\x08_PPC\x01",
+        b"\x14\x09_STA\x00\xA4\x0A\x0F\x06_AAA_BBB",
+        b"\x10\x1A\\_SB_\x5B\x82\x0CCLU0\x08VAL0\x0A\x05\x5B\x02EVT0",
+    ];
+    let mut blocks = Vec::new(alloc);
+    for body in bodies {
+        blocks.push(block_of(alloc, body)?)?;
+    }
+    let space = Space::build(alloc, &blocks).map_err(|_| Fail::from("no space"))?;
+    let mut path = Room::new(alloc, space.longest_path())?;
     let mut page = Page::new(alloc)?;
     let mut sink = MemorySink::new(alloc, 1000, Vec::new(alloc), 7)?;
-    put_objects(&mut page, &mut sink, &terms)
+    put_space(&mut page, &mut sink, &space, &mut path)
         .ok()
-        .ok_or("objects")?;
+        .ok_or("space")?;
     page.flush(&mut sink).ok().ok_or("flush")?;
-    let text = b"\\_PPC = 0\n\\_SB_._HID = \"ACPI0010\"\n";
+    let text = b"\\CPU0 processor\n\\CPU0._PPC = 1\n\\_STA method\n\\_BBB alias _AAA\n\
+        \\_SB_.CLU0 device\n\\_SB_.CLU0.VAL0 = 5\n";
     assert_eq!(rt; sink.written(), text.as_slice());
     Ok(())
 }

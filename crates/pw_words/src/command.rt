@@ -1,24 +1,29 @@
-ghost use Rattle.std.specs.Prelude.{◌≡◌, [], ◌∷◌, MatchOption};
+ghost use Rattle.std.specs.Prelude.{◌≡◌, ◌≤◌, ◌∷◌, length, MatchOption};
 ghost use Rattle.pw_words.specs.Words.{texts, task_word, IsCommand, Task};
 ghost use Rattle.pw_words.specs.Command.{MeansWords};
 
 /// What the words of a command line ask for.
 #[derive(Clone, Copy, Debug)]
 pub enum Command<'a> {
-    /// `show BLOCK`: a line for each object that the definition block in this file places.
-    Show { block: &'a str },
-    /// `rewrite BLOCK`: the definition block in this file in its shortest spelling.
-    Rewrite { block: &'a str },
+    /// `show BLOCK..`: a line for each object that the definition blocks in these files place.
+    Show { blocks: &'a [String] },
+    /// `rewrite BLOCK..`: the definition blocks in these files in their shortest spelling.
+    Rewrite { blocks: &'a [String] },
 }
 
-/// The command that a word asks for of the block in a file.
-fn command_on<'a>(word: &str, block: &'a str) -> Option<Command<'a>>
+/// So many blocks at most are named in one command: this project's own limit.
+const MOST_BLOCKS: usize = 64;
+
+/// The command that a word asks for of the blocks in files.
+fn command_on<'a>(word: &str, blocks: &'a [String]) -> Option<Command<'a>>
+    requires some { 1 ≤ length blocks.now }
+    requires few { length blocks.now ≤ 64 }
     ensures { MatchOption result ((task : Task) → word.now ≡ task_word task → ⊥)
-        (λ c. MeansWords c (word.now ∷ block.now ∷ [])) }
+        (λ c. MeansWords c (word.now ∷ texts blocks.now)) }
 {
     match word {
-        "show" => Some(Command::Show { block }),
-        "rewrite" => Some(Command::Rewrite { block }),
+        "show" => Some(Command::Show { blocks }),
+        "rewrite" => Some(Command::Rewrite { blocks }),
         _ => None,
     }
 }
@@ -28,7 +33,10 @@ pub fn command_of(words: &[String]) -> Option<Command<'_>>
     ensures { MatchOption result (IsCommand (texts words.now) → ⊥) (λ c. MeansWords c (texts words.now)) }
 {
     match words {
-        [word, block] => command_on(word.as_str(), block.as_str()),
+        [word, blocks @ ..] if !blocks.is_empty() && blocks.len() <= MOST_BLOCKS => command_on(
+            word.as_str(),
+            blocks,
+        ),
         _ => None,
     }
 }

@@ -1,6 +1,5 @@
 use Rattle.std.proofs.Common.{◌≡◌, ◌∙◌, sym, true, is_ok}
 use Rattle.std.proofs.lemmas.List.{append-nil}
-use Rattle.pw_text.specs.Puts.{PutsText}
 use Rattle.pw_text.proofs.Putting.{PutsText-as, PutsText-then}
 use Rattle.pw_cli.proofs.Sent.{sent_line}
 use Rattle.pw_cli.proofs.say.say_twice.Goals as goal

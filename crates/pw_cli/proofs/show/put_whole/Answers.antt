@@ -1,8 +1,7 @@
-use Rattle.std.proofs.Common.{append_assoc}
 use Rattle.std.proofs.lemmas.List.{append-nil}
 use Rattle.pw_text.proofs.Putting.{PutsText-as, PutsText-then}
 use Rattle.pw_cli.proofs.Sent.{sent_part}
 use Rattle.pw_cli.proofs.show.put_whole.Goals as goal
 
 pub returns-clause-part : goal.returns-clause-part
-returns-clause-part g c = sent_part c.flush.result c.requires (PutsText-as _ (append-nil _) (PutsText-then c.in_ok-put_objects.ensures c.flush.ensures.puts))
+returns-clause-part g c = sent_part c.flush.result c.requires.empty (PutsText-as _ (append-nil _) (PutsText-then c.in_ok-put_space.ensures c.flush.ensures.puts))

@@ -1,4 +1,4 @@
-use Rattle.pw_text.proofs.Putting.{PutsText-as, PutsText-stop, PutsText-then}
+use Rattle.pw_text.proofs.Putting.{PutsText-stop, PutsText-then}
 use Rattle.pw_show.specs.Values.{hex_pair}
 use Rattle.pw_show.proofs.values.put_behind_space.Goals as goal
 

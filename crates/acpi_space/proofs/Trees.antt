@@ -1,0 +1,354 @@
+-- The places of a tree of names.
+use Rattle.std.proofs.Common.{◌≡◌, ◌≢◌, ◌+◌, ◌-◌, ◌<◌, ◌≤◌, ℕ, zero, suc, Bool, true, false, List, [], ◌∷◌, ◌++◌, length, get_or, take, min, MatchOption}
+use Rattle.std.proofs.Common.{refl, sym, ap, subst, ◌∙◌, arith, inl, inr, ◌⊎◌, Ordering, Option, Some, None, append_assoc}
+use Rattle.std.specs.Prelude.{Contains}
+use Rattle.std.specs.Ordering.{is_eq, ordering_then}
+use Rattle.std.specs.declared.cmp.Ordering.TheVariants.{Less, Equal, Greater}
+use Rattle.std.specs.FinMap.{nat_cmp-IsAntisymmetric, slice_cmp-IsAntisymmetric}
+use Rattle.std.specs.BTreeMap.{BTreeMap, get, is_at, Updates}
+use Rattle.std.specs.Map.{lookup}
+use Rattle.std.proofs.lemmas.Bool.{false≢true, cases_lt}
+use Rattle.std.proofs.lemmas.List.{length_push, get_or_append_left, get_or_default, get_or_push, same_from_push, append-nil, take_all, take_more, take-append-le, length-take, length-take-le}
+use Rattle.std.proofs.lemmas.List.Elements.{Contains-get_or, Contains-append_cases, Contains-push_cases}
+use Rattle.acpi_space.specs.declared.tree.Name.{Name}
+use Rattle.acpi_space.specs.Distinct.{IsDistinct}
+use Rattle.acpi_space.specs.Places.{Place, up}
+use Rattle.acpi_space.specs.Trees.{Key, key_cmp, key_of, below, places_from, places_in, IsTree, IsAt, IsBeginning, IsClosed, IsNowhere, Reaches}
+use Rattle.acpi_space.proofs.Seen.{IsDistinct-push}
+
+-- ---- the list of places
+
+pub length_from : (ps : List Place) (ns : List Name) → length (places_from ps ns) ≡ length ps + length ns
+length_from ps [] = omega arith
+length_from ps (n ∷ ns) = let l = length_push ps (below ps n.above n.seg) in let e = length_from (ps ++ below ps n.above n.seg ∷ []) ns in omega arith
+
+pub early : (ps : List Place) (ns : List Name) (k : ℕ) (d : Place) → k < length ps → get_or (places_from ps ns) k d ≡ get_or ps k d
+early ps [] k d l = refl
+early ps (n ∷ ns) k d l =
+    let b = below ps n.above n.seg in
+    let more = length_push ps b in
+    let inside : k < length (ps ++ b ∷ []) = omega arith in
+    early (ps ++ b ∷ []) ns k d inside ∙ get_or_append_left ps (b ∷ []) d k l
+
+pub pushed : (ps : List Place) (ns : List Name) (n : Name) → places_from ps (ns ++ n ∷ []) ≡ places_from ps ns ++ below (places_from ps ns) n.above n.seg ∷ []
+pushed ps [] n = refl
+pushed ps (m ∷ ns) n = pushed (ps ++ below ps m.above m.seg ∷ []) ns n
+
+named_from : (ps : List Place) (ns : List Name) (i : ℕ) (d : Name) → i < length ns → (get_or ns i d).above < length ps + i
+    → get_or (places_from ps ns) (length ps + i) [] ≡ below (places_from ps ns) (get_or ns i d).above (get_or ns i d).seg
+named_from ps [] i d l a = absurd (let impossible = l in omega arith)
+named_from ps (n ∷ ns) zero d l a =
+    let b = below ps n.above n.seg in
+    let more = length_push ps b in
+    let inside : length ps + 0 < length (ps ++ b ∷ []) = omega arith in
+    let here : n.above < length ps = omega arith in
+    let end : length ps ≡ length ps + 0 = omega arith in
+    early (ps ++ b ∷ []) ns (length ps + 0) [] inside ∙ get_or_push ps b [] (length ps + 0) end
+    ∙ ap (λ (q : Place). q ++ n.seg ∷ []) (sym (early ps (n ∷ ns) n.above [] here))
+named_from ps (n ∷ ns) (suc i) d l a =
+    let b = below ps n.above n.seg in
+    let more = length_push ps b in
+    let shift : length ps + suc i ≡ length (ps ++ b ∷ []) + i = omega arith in
+    let inside : i < length ns = omega arith in
+    let before : (get_or ns i d).above < length (ps ++ b ∷ []) + i = omega arith in
+    ap (λ k. get_or (places_from ps (n ∷ ns)) k []) shift ∙ named_from (ps ++ b ∷ []) ns i d inside before
+
+-- the place of a name
+pub named : (ns : List Name) (i : ℕ) (d : Name) → i < length ns → (get_or ns i d).above ≤ i
+    → get_or (places_in ns) (i + 1) [] ≡ below (places_in ns) (get_or ns i d).above (get_or ns i d).seg
+named ns i d l a =
+    let shift : i + 1 ≡ 1 + i = omega arith in
+    let before : (get_or ns i d).above < 1 + i = omega arith in
+    ap (λ k. get_or (places_in ns) k []) shift ∙ named_from ([] ∷ []) ns i d l before
+
+pub length_in : (ns : List Name) → length (places_in ns) ≡ length ns + 1
+length_in ns = let e : length (places_in ns) ≡ 1 + length ns = length_from ([] ∷ []) ns in omega arith
+
+pub root_at : (ns : List Name) → IsAt (places_in ns) 0 []
+root_at ns = let e = length_in ns in (omega arith, early ([] ∷ []) ns 0 [] (omega arith))
+
+-- ---- lists in which nothing stands twice
+
+pub same_index : {X : Type 0} (xs : List X) (i j : ℕ) (d : X) → IsDistinct xs → i < length xs → j < length xs → get_or xs i d ≡ get_or xs j d → i ≡ j
+same_index xs i j d distinct li lj e =
+    elim (cases_lt i j) [
+      | inl less ↦ absurd (distinct i j d less lj e)
+      | inr more ↦ elim (cases_lt j i) [
+        | inl less ↦ absurd (distinct j i d less li (sym e))
+        | inr same ↦ omega arith
+      ]
+    ]
+
+-- ---- keys
+
+then_equal : (a b : Ordering) → ordering_then a b ≡ Equal → (a ≡ Equal) × (b ≡ Equal)
+then_equal Less b e = absurd (false≢true (ap is_eq e))
+then_equal Equal b e = (refl, e)
+then_equal Greater b e = absurd (false≢true (ap is_eq e))
+
+pub is_equal : (o : Ordering) → is_eq o ≡ true → o ≡ Equal
+is_equal Less e = absurd (false≢true e)
+is_equal Equal e = refl
+is_equal Greater e = absurd (false≢true e)
+
+pub equal_keys : (a b : Key) → is_at (key_cmp a) b ≡ true → a ≡ b
+equal_keys (x, s) (y, t) e =
+    let both = then_equal _ _ (is_equal _ e) in
+    rw (nat_cmp-IsAntisymmetric x y both.0, slice_cmp-IsAntisymmetric nat_cmp-IsAntisymmetric s t both.1) refl
+
+pub choice : (b : Bool) → (b ≡ true) ⊎ (b ≡ false)
+choice true = inl refl
+choice false = inr refl
+
+pub some_none : {X : Type 0} {o : Option X} {x : X} → o ≡ Some x → o ≡ None → ⊥
+some_none e f = absurd (let g = sym e ∙ f in cc)
+
+pub same_some : {X : Type 0} {x y : X} → Some x ≡ Some y → x ≡ y
+same_some e = cc
+
+-- ---- a tree
+
+pub no_name : Name
+no_name = record { above = 0; seg = [] }
+
+-- the place that the map tells
+pub child_there : (ns : List Name) (map : BTreeMap Key ℕ) (at : ℕ) (s : List ℕ) (k : ℕ) → IsTree ns map
+    → get key_cmp map (at, s) ≡ Some k → IsAt (places_in ns) k (below (places_in ns) at s)
+child_there ns map at s k tree e =
+    let (i, is, within, keyed) = tree.only (at, s) k e in
+    let size = length_in ns in
+    let stands = named ns i no_name within (tree.above i no_name within) in
+    (omega (arith, size, is, within), ap (λ j. get_or (places_in ns) j []) is ∙ stands ∙ ap (λ (q : Key). below (places_in ns) q.0 q.1) (keyed no_name))
+
+-- a place is the root, or stands below one
+pub root_or_below : (ns : List Name) (map : BTreeMap Key ℕ) (k : ℕ) → IsTree ns map → k < length (places_in ns)
+    → (k ≡ 0) ⊎ ((i : ℕ) × (k ≡ i + 1) × (i < length ns) × ((get_or ns i no_name).above ≤ i)
+    × (get_or (places_in ns) k [] ≡ below (places_in ns) (get_or ns i no_name).above (get_or ns i no_name).seg))
+root_or_below ns map zero tree l = inl refl
+root_or_below ns map (suc i) tree l =
+    let size = length_in ns in
+    let within : i < length ns = omega arith in
+    let up = tree.above i no_name within in
+    let shift : suc i ≡ i + 1 = omega arith in
+    inr (i, shift, within, up, rw shift (named ns i no_name within up))
+
+never_root : (q : Place) (s : List ℕ) → q ++ s ∷ [] ≡ [] → ⊥
+never_root q s e = let l = length_push q s in let f : length (q ++ s ∷ []) ≡ 0 = ap length e in omega arith
+
+-- what stands below a place that is one of the tree
+pub above_there : (ns : List Name) (map : BTreeMap Key ℕ) (q : Place) (s : List ℕ) → IsTree ns map → Contains (places_in ns) (q ++ s ∷ [])
+    → (i : ℕ) × (i < length ns) × ((get_or ns i no_name).above < length (places_in ns)) × (get_or (places_in ns) (get_or ns i no_name).above [] ≡ q) × ((get_or ns i no_name).seg ≡ s)
+above_there ns map q s tree (k, l, e) =
+    let f : get_or (places_in ns) k [] ≡ q ++ s ∷ [] = get_or_default (places_in ns) k [] (q ++ s ∷ []) l ∙ e in
+    elim (root_or_below ns map k tree l) [
+      | inl root ↦ absurd (never_root q s (sym f ∙ (rw root (root_at ns).1)))
+      | inr (i, is, within, up, stands) ↦
+          let both = same_from_push _ q _ s (sym stands ∙ f) in
+          let size = length_in ns in
+          (i, within, omega arith, both.0, both.1)
+    ]
+
+pub closed : (ns : List Name) (map : BTreeMap Key ℕ) → IsTree ns map → IsClosed (places_in ns)
+closed ns map tree q s among =
+    let (i, within, inside, is, seg) = above_there ns map q s tree among in
+    subst (Contains (places_in ns)) is (Contains-get_or (places_in ns) (get_or ns i no_name).above [] inside)
+
+-- a place of the tree is told by the map
+pub child_told : (ns : List Name) (map : BTreeMap Key ℕ) (at : ℕ) (s : List ℕ) → IsTree ns map → at < length (places_in ns)
+    → get key_cmp map (at, s) ≡ None → Contains (places_in ns) (below (places_in ns) at s) → ⊥
+child_told ns map at s tree inside none among =
+    let (i, within, up_inside, is, seg) = above_there ns map (get_or (places_in ns) at []) s tree among in
+    let same = same_index (places_in ns) (get_or ns i no_name).above at [] tree.distinct up_inside inside is in
+    let told = tree.all i no_name within in
+    let key : key_of (get_or ns i no_name) ≡ (at, s) = rw (same, seg) refl in
+    some_none (ap (get key_cmp map) (sym key) ∙ told) none
+
+-- one more place
+pub added : (ns : List Name) (map map' : BTreeMap Key ℕ) (n : Name) → IsTree ns map → n.above < length (places_in ns)
+    → (Contains (places_in ns) (below (places_in ns) n.above n.seg) → ⊥)
+    → Updates key_cmp map map' (n.above, n.seg) (Some (length ns + 1)) → IsTree (ns ++ n ∷ []) map'
+added ns map map' n tree inside fresh updates =
+    let size = length_in ns in
+    let more = length_push ns n in
+    let key : Key = (n.above, n.seg) in
+    let P = below (places_in ns) n.above n.seg in
+    let new : (k : ℕ) → get key_cmp map key ≡ Some k → ⊥ = λ k e. (let there = child_there ns map n.above n.seg k tree e in
+    fresh (subst (Contains (places_in ns)) there.1 (Contains-get_or (places_in ns) k [] there.0))) in
+    record {
+      above = λ i d l. elim (cases_lt i (length ns)) [
+        | inl old ↦ rw (get_or_append_left ns (n ∷ []) d i old) (tree.above i d old)
+        | inr end ↦ let e : length ns ≡ i = omega arith in rw (get_or_push ns n d i e) (omega arith)
+      ];
+      distinct = rw (pushed ([] ∷ []) ns n) (IsDistinct-push (places_in ns) P tree.distinct fresh);
+      all = λ i d l. elim (cases_lt i (length ns)) [
+        | inl old ↦
+            let told = tree.all i d old in
+            let other : is_at (key_cmp key) (key_of (get_or ns i d)) ≡ false = (elim (choice (is_at (key_cmp key) (key_of (get_or ns i d)))) [
+              | inl hit ↦ absurd (new (i + 1) (ap (get key_cmp map) (equal_keys key _ hit) ∙ told))
+              | inr miss ↦ miss
+            ]) in
+            rw (get_or_append_left ns (n ∷ []) d i old) (updates.2 (key_of (get_or ns i d)) other ∙ told)
+        | inr end ↦ let e : length ns ≡ i = omega arith in rw (get_or_push ns n d i e, ← e) updates.1
+      ];
+      only = λ q k e. elim (choice (is_at (key_cmp key) q)) [
+        | inl hit ↦
+            let is : Some (length ns + 1) ≡ Some k = sym (updates.0 q ∙ (rw hit refl)) ∙ e in
+            let number = same_some is in
+            (length ns, sym number, omega arith, λ d. rw (get_or_push ns n d (length ns) refl) (equal_keys key q hit))
+        | inr miss ↦
+            let (i, is, within, keyed) = tree.only q k (sym (updates.0 q ∙ (rw miss refl)) ∙ e) in
+            (i, is, omega arith, λ d. rw (get_or_append_left ns (n ∷ []) d i within) (keyed d))
+      ];
+    }
+
+-- ---- what the calls of a tree answer
+
+pub child_answer : (ns : List Name) (map : BTreeMap Key ℕ) (at : ℕ) (s : List ℕ) (places : List Place) → IsTree ns map → places_in ns ≡ places → at < length places
+    → (r : Option ℕ) → r ≡ get key_cmp map (at, s) → MatchOption r (Contains places (below places at s) → ⊥) (λ k. IsAt places k (below places at s))
+child_answer ns map at s places tree v inside None e = subst (λ t. Contains t (below t at s) → ⊥) v (child_told ns map at s tree (subst (λ t. at < length t) (sym v) inside) (sym e))
+child_answer ns map at s places tree v inside (Some k) e = subst (λ t. IsAt t k (below t at s)) v (child_there ns map at s k tree (sym e))
+
+pub above_answer : (ns : List Name) (map : BTreeMap Key ℕ) (at : ℕ) (n : Name) (places : List Place) → IsTree ns map → places_in ns ≡ places → at < length places → at ≢ 0
+    → n ≡ get_or ns (at - 1) n → (get_or places at [] ≡ below places n.above n.seg) × (n.above < at)
+above_answer ns map at n places tree v inside some is =
+    let size = length_in ns in
+    let same : length (places_in ns) ≡ length places = ap length v in
+    let i : ℕ = at - 1 in
+    let within : at - 1 < length ns = omega arith in
+    let back : at ≡ (at - 1) + 1 = omega arith in
+    let up = tree.above (at - 1) n within in
+    let lower : n.above ≤ at - 1 = subst (λ (m : Name). m.above ≤ at - 1) (sym is) up in
+    let stands : get_or (places_in ns) at [] ≡ below (places_in ns) n.above n.seg =
+    ap (λ k. get_or (places_in ns) k []) back ∙ named ns (at - 1) n within up ∙ ap (λ (m : Name). below (places_in ns) m.above m.seg) (sym is) in
+    (subst (λ t. get_or t at [] ≡ below t n.above n.seg) v stands, omega arith)
+
+pub same_map : (ns ms : List Name) (map map' : BTreeMap Key ℕ) → IsTree ns map → ms ≡ ns → map'.entries ≡ map.entries → IsTree ms map'
+same_map ns ms map map' tree same e = rw same (record {
+  above = tree.above;
+  distinct = tree.distinct;
+  all = λ i d l. ap (λ es. lookup (is_at (key_cmp (key_of (get_or ns i d)))) es) e ∙ tree.all i d l;
+  only = λ q k told. tree.only q k (sym (ap (λ es. lookup (is_at (key_cmp q)) es) e) ∙ told);
+})
+
+pub added_view : (ns ms : List Name) (n : Name) (places : List Place) → places_in ns ≡ places → ms ≡ ns ++ n ∷ [] → places_in ms ≡ places ++ below places n.above n.seg ∷ []
+added_view ns ms n places v e = ap places_in e ∙ pushed ([] ∷ []) ns n ∙ ap (λ t. t ++ below t n.above n.seg ∷ []) v
+
+pub added_tree : (ns ms : List Name) (map map' : BTreeMap Key ℕ) (n : Name) (places : List Place) (number : ℕ) → IsTree ns map → places_in ns ≡ places → n.above < length places
+    → (Contains places (below places n.above n.seg) → ⊥) → ms ≡ ns ++ n ∷ [] → number ≡ length ns + 1
+    → Updates key_cmp map map' (n.above, n.seg) (Some number) → IsTree ms map'
+added_tree ns ms map map' n places number tree v inside fresh e count updates =
+    rw e (added ns map map' n tree (subst (λ t. n.above < length t) (sym v) inside) (subst (λ t. Contains t (below t n.above n.seg) → ⊥) (sym v) fresh)
+    (subst (λ k. Updates key_cmp map map' (n.above, n.seg) (Some k)) count updates))
+
+pub reached_added : (old new : List Place) (k : ℕ) (place : Place) → (k ≡ length old) × (new ≡ old ++ place ∷ []) → Reaches old new k place
+reached_added old new k place e = record {
+  more = place ∷ [];
+  grown = e.1;
+  here = rw (e.1, e.0) (let l = length_push old place in omega arith, get_or_push old place [] (length old) refl);
+  fresh = λ q among. elim (Contains-push_cases [] place q among) [
+    | inl none ↦ absurd (let l = none.1 in omega arith)
+    | inr same ↦ rw (← same) (take_all (length place) place (omega arith))
+  ];
+}
+
+pub reached_there : (old : List Place) (k : ℕ) (place : Place) → IsAt old k place → Reaches old old k place
+reached_there old k place here = record {
+  more = [];
+  grown = sym (append-nil old);
+  here = here;
+  fresh = λ q among. absurd (let l = among.1 in omega arith);
+}
+
+longer : (place q : Place) (s : List ℕ) → IsBeginning q place → IsBeginning q (place ++ s ∷ [])
+longer place q s e =
+    let l : min (length q) (length place) ≡ length q = sym (length-take (length q) place) ∙ ap length e in
+    let fits : length q ≤ length place = omega (arith, l) in
+    take-append-le (length q) place (s ∷ []) fits ∙ e
+
+pub reached_on : (old mid new : List Place) (k k' : ℕ) (place whole : Place) (s : List ℕ) → Reaches old mid k place → Reaches mid new k' (below mid k s)
+    → whole ≡ place ++ s ∷ [] → Reaches old new k' whole
+reached_on old mid new k k' place whole s first next is =
+    let end : below mid k s ≡ whole = ap (λ (p : Place). p ++ s ∷ []) first.here.1 ∙ sym is in
+    record {
+      more = first.more ++ next.more;
+      grown = next.grown ∙ ap (λ m. m ++ next.more) first.grown ∙ append_assoc old first.more next.more;
+      here = subst (IsAt new k') end next.here;
+      fresh = λ q among. elim (Contains-append_cases first.more next.more q among) [
+        | inl was ↦ rw is (longer place q s (first.fresh q was))
+        | inr new' ↦ subst (IsBeginning q) end (next.fresh q new')
+      ];
+    }
+
+pub one_more : (base segs : Place) (i : ℕ) (s : List ℕ) → i < length segs → s ≡ get_or segs i s → base ++ take (i + 1) segs ≡ (base ++ take i segs) ++ s ∷ []
+one_more base segs i s l is =
+    ap (λ front. base ++ front) (take_more segs i s l ∙ ap (λ t. take i segs ++ t ∷ []) (sym is)) ∙ sym (append_assoc base (take i segs) (s ∷ []))
+
+-- ---- the search from a scope
+
+pub record Sought (places : List Place) (scope : Place) (seg : List ℕ) (at : ℕ) : Type 0 where
+  pub inside : at < length places
+  pub kept : ℕ
+  pub within : kept ≤ length scope
+  pub is : get_or places at [] ≡ take kept scope
+  pub missed : (n : ℕ) → kept < n → n ≤ length scope → Contains places (take n scope ++ seg ∷ []) → ⊥
+
+pub sought_first : (places : List Place) (at : ℕ) (seg : List ℕ) → at < length places → Sought places (get_or places at []) seg at
+sought_first places at seg inside = record {
+  inside = inside;
+  kept = length (get_or places at []);
+  within = omega arith;
+  is = sym (take_all (length (get_or places at [])) (get_or places at []) (omega arith));
+  missed = λ n more fits. absurd (omega (arith, more, fits));
+}
+
+missed_here : (places : List Place) (scope : Place) (seg : List ℕ) (at n : ℕ) → (sought : Sought places scope seg at) → (Contains places (below places at seg) → ⊥)
+    → sought.kept ≤ n → n ≤ length scope → Contains places (take n scope ++ seg ∷ []) → ⊥
+missed_here places scope seg at n sought none least fits among = elim (cases_lt sought.kept n) [
+  | inl more ↦ sought.missed n more fits among
+  | inr same ↦ let e : n ≡ sought.kept = omega arith in none (subst (λ (p : Place). Contains places (p ++ seg ∷ [])) (ap (λ k. take k scope) e ∙ sym sought.is) among)
+]
+
+pub sought_nowhere : (places : List Place) (scope : Place) (seg : List ℕ) (at : ℕ) → Sought places scope seg at → (Contains places (below places at seg) → ⊥)
+    → get_or places at [] ≡ [] → IsNowhere places scope seg
+sought_nowhere places scope seg at sought none root n fits =
+    let empty : length (take sought.kept scope) ≡ 0 = ap length (sym sought.is ∙ root) in
+    let l : sought.kept ≡ 0 = sym (length-take-le sought.kept scope sought.within) ∙ empty in
+    missed_here places scope seg at n sought none (omega arith) fits
+
+pub sought_above : (places : List Place) (scope : Place) (seg : List ℕ) (at above : ℕ) (s : List ℕ) → Sought places scope seg at → (Contains places (below places at seg) → ⊥)
+    → get_or places at [] ≡ below places above s → above < at → Sought places scope seg above
+sought_above places scope seg at above s sought none is less =
+    let fits = sought.within in
+    let q = get_or places above [] in
+    let whole : take sought.kept scope ≡ q ++ s ∷ [] = sym sought.is ∙ is in
+    let count : sought.kept ≡ length q + 1 = sym (length-take-le sought.kept scope fits) ∙ ap length whole ∙ length_push q s in
+    let shift : sought.kept ≡ length q + 1 = count in
+    let inside = sought.inside in
+    let split : take (length q + 1) scope ≡ take (length q) scope ++ get_or scope (length q) s ∷ [] = take_more scope (length q) s (omega arith) in
+    let both = same_from_push q (take (length q) scope) s (get_or scope (length q) s) (sym whole ∙ ap (λ k. take k scope) shift ∙ split) in
+    record {
+      inside = omega arith;
+      kept = length q;
+      within = omega arith;
+      is = both.0;
+      missed = λ n more within. missed_here places scope seg at n sought none (omega (arith, more, shift)) within;
+    }
+
+-- ---- the way down
+
+-- the first segments of a place, but for some at its end
+pub shorter_there : (places : List Place) (place : Place) (d : List ℕ) (n gap : ℕ) → IsClosed places → n + gap ≡ length place → Contains places place → Contains places (take n place)
+shorter_there places place d n zero closed e among = rw (take_all n place (omega arith)) among
+shorter_there places place d n (suc gap) closed e among =
+    let inside : n < length place = omega arith in
+    let further = shorter_there places place d (n + 1) gap closed (omega arith) among in
+    closed (take n place) (get_or place n d) (subst (Contains places) (take_more place n d inside) further)
+
+pub not_below : (places : List Place) (segs : Place) (at i : ℕ) (s : List ℕ) → IsClosed places → IsAt places at (take i segs) → i < length segs → s ≡ get_or segs i s
+    → (Contains places (below places at s) → ⊥) → Contains places segs → ⊥
+not_below places segs at i s closed here l is none among =
+    let more : take (i + 1) segs ≡ take i segs ++ s ∷ [] = take_more segs i s l ∙ ap (λ t. take i segs ++ t ∷ []) (sym is) in
+    let gap : ℕ = length segs - (i + 1) in
+    let sum : (i + 1) + gap ≡ length segs = omega arith in
+    let front = shorter_there places segs s (i + 1) gap closed sum among in
+    none (subst (Contains places) (more ∙ ap (λ (p : Place). p ++ s ∷ []) (sym here.1)) front)

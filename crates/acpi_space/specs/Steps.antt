@@ -1,0 +1,80 @@
+-- What terms do in the namespace, one step after the other: each step opens a place, or places an object at it
+-- (ACPI 6.5, 5.3 and 20.2.5).
+use Rattle.std.specs.Prelude.{ℕ, ◌==◌, List, [], ◌∷◌, ◌++◌, length, map, take, Option, Some, None, Ok, Err, if◌then◌else◌}
+use Rattle.aml_data.specs.declared.data.Width.{Width}
+use Rattle.aml_data.specs.declared.path.Path.{Path}
+use Rattle.aml_data.specs.Reading.{Read, name_at}
+use Rattle.aml_terms.specs.declared.term.Term.{Term, Term-F, fold-Term}
+use Rattle.aml_terms.specs.declared.term.Term.TheOpen as layer
+use Rattle.acpi_space.specs.Things.{Thing}
+use Rattle.acpi_space.specs.Things.Thing.{data_object, device, processor, method, alias_of}
+use Rattle.acpi_space.specs.Places.{Place, place_of, opened}
+
+-- an object, and the width of its integers
+pub record Sized : Type 0 where
+  pub object : Thing
+  pub width : Width
+
+-- a place, and what is placed there, or nothing where it is only opened
+pub record Step : Type 0 where
+  pub place : Place
+  pub given : Option Sized
+
+abbrev pub opens : Place → Step
+opens place = record { place = place; given = None }
+
+abbrev pub gives : Width → Place → Thing → Step
+gives width place object = record { place = place; given = Some (record { object = object; width = width }) }
+
+-- the places that were opened or given an object
+abbrev pub touched : List Step → List Place
+touched steps = map (λ (s : Step). s.place) steps
+
+-- what is done in a scope, after these steps
+abbrev pub Turn : Type 0
+Turn = Place → List Step → List Step
+
+-- one turn after the other in a scope
+abbrev pub in_order : List Turn → Turn
+in_order [] scope before = []
+in_order (t ∷ ts) scope before = t scope before ++ in_order ts scope (before ++ t scope before)
+
+-- a step, and then the turns inside: their scope is its place
+abbrev pub then_inside : Step → List Turn → List Step → List Step
+then_inside step inside before = step ∷ in_order inside step.place (before ++ step ∷ [])
+
+-- the name of a method is the one that its body begins with, where that has a segment (ACPI 6.5, 20.2.5.2)
+abbrev pub with_a_segment : Read Path → Option Path
+with_a_segment (Ok name) = if length name.0.segs == 0 then None else Some name.0
+with_a_segment (Err fault) = None
+
+-- the first 2 ^ 28 bytes of a body: no PkgLength counts more (ACPI 6.5, 20.2.4)
+abbrev pub front_of : List ℕ → List ℕ
+front_of body = take 268435456 body
+
+unfoldable pub method_name : List ℕ → Option Path
+method_name body = with_a_segment (name_at (length (front_of body)) (front_of body))
+
+-- a method is placed where its body has a name
+abbrev pub method_steps : Width → Place → Option Path → List Step
+method_steps width scope None = []
+method_steps width scope (Some path) = gives width (place_of scope path) method ∷ []
+
+-- One layer of a term, the terms in which are turns already. Names, devices, processors, methods and aliases are placed,
+-- a device or a processor before its content; a Scope opens a place; other terms do nothing.
+abbrev pub steps_layer : Width → Term-F Turn → Turn
+steps_layer width (layer.Name path value) scope before = gives width (place_of scope path) (data_object value) ∷ []
+steps_layer width (layer.Scope path inside) scope before = then_inside (opens (opened (touched before) scope path)) inside before
+steps_layer width (layer.Device path inside) scope before = then_inside (gives width (place_of scope path) device) inside before
+steps_layer width (layer.Processor path id block len inside) scope before = then_inside (gives width (place_of scope path) processor) inside before
+steps_layer width (layer.Unread opcode body) scope before = if opcode == 20 then method_steps width scope (method_name body) else []
+steps_layer width (layer.Alias source alias) scope before = gives width (place_of scope alias) (alias_of source) ∷ []
+steps_layer width other scope before = []
+
+-- what a term does, where integers have this width
+unfoldable pub steps_of : Width → Term → Turn
+steps_of width = fold-Term Turn (steps_layer width)
+
+-- what terms do
+abbrev pub steps_in : Width → List Term → Turn
+steps_in width terms = in_order (map (steps_of width) terms)

@@ -1,0 +1,12 @@
+pub mod TermLoop
+pub mod PartLaws
+pub mod Chains
+pub mod OpcodeCases
+pub mod TermParts
+pub mod Holders
+pub mod TermSteps
+pub mod WrittenTerms
+pub mod TermLengths
+pub mod ShortestTerms
+pub mod TermLists
+pub mod Causes

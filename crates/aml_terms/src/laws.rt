@@ -1,0 +1,33 @@
+//! What the definitions say of themselves.
+
+ghost use Rattle.std.specs.Prelude.{◌≡◌, ◌<◌, ◌≤◌, ◌^◌, ℕ, List, length};
+ghost use Rattle.aml_terms.specs.declared.term.Term.{Term as term_type};
+ghost use Rattle.aml_terms.specs.declared.fault.TermFault.{TermFault as fault_type};
+ghost use Rattle.aml_terms.specs.Grammar.{TermsSpell};
+ghost use Rattle.aml_terms.specs.Faults.{TermsFail};
+ghost use Rattle.aml_terms.specs.Written.{written_terms, AreWritableTerms};
+
+/// Bytes spell at most one list of terms.
+pub fn one_list_of_terms()
+    ensures { (a b : List term_type) (bytes : List ℕ) → TermsSpell a bytes → TermsSpell b bytes → a ≡ b }
+{}
+
+/// Bytes have at most one first fault as terms, and none where they spell terms.
+pub fn one_term_fault()
+    ensures one { (end : ℕ) (bytes : List ℕ) (f g : fault_type) → TermsFail end bytes f
+        → TermsFail end bytes g → f ≡ g }
+    ensures apart { (end : ℕ) (terms : List term_type) (bytes : List ℕ) (f : fault_type) →
+        TermsSpell terms bytes → TermsFail end bytes f → ⊥ }
+{}
+
+/// The written form of terms spells them, no spelling of them is shorter, and terms that are spelled in
+/// fewer than 2 ^ 28 bytes can be written, so all that are read from a definition block
+/// (ACPI 6.5, 20.2.5).
+pub fn shortest_terms()
+    ensures spelled { (terms : List term_type) → AreWritableTerms terms
+        → length (written_terms terms) < 2 ^ 28 → TermsSpell terms (written_terms terms) }
+    ensures least { (terms : List term_type) (b : List ℕ) → TermsSpell terms b
+        → length (written_terms terms) ≤ length b }
+    ensures writable { (terms : List term_type) (b : List ℕ) → TermsSpell terms b → length b < 2 ^ 28
+        → AreWritableTerms terms }
+{}

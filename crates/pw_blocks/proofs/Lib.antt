@@ -1,0 +1,4 @@
+pub mod OneReading
+pub mod Counted
+pub mod Progress
+pub mod WholeLists

@@ -1,0 +1,65 @@
+-- The definition blocks that files hold under names, in the order of the names, and what is first at fault there.
+use Rattle.std.specs.Prelude.{◌≡◌, ◌≤◌, ◌<◌, ℕ, ◌+◌, List, [], ◌∷◌, length, map, Option, Some}
+use Rattle.std.specs.List.{sum_by}
+use Rattle.aml_block.specs.declared.block.Block.{Block}
+use Rattle.aml_block.specs.declared.fault.BlockFault.{BlockFault}
+use Rattle.aml_block.specs.Spelling.{BlockSpells}
+use Rattle.aml_block.specs.Faults.{BlockFails}
+use Rattle.pw_blocks.specs.declared.fault.BlocksFault.{BlocksFault}
+use Rattle.pw_blocks.specs.declared.fault.BlocksFault.TheVariants.{Block as in_block, Large}
+
+-- What is held spells this block, by so many bytes.
+pub record IsBlock (held : Option (List ℕ)) (block : Block) (size : ℕ) : Type 0 where
+  pub bytes : List ℕ
+  pub is : held ≡ Some bytes
+  pub spelled : BlockSpells block bytes
+  pub counted : size ≡ length bytes
+
+-- What is held spells no block, for this first fault.
+pub record HasFault (held : Option (List ℕ)) (fault : BlockFault) : Type 0 where
+  pub bytes : List ℕ
+  pub is : held ≡ Some bytes
+  pub fails : BlockFails bytes fault
+
+-- These are the blocks under these names, each name's in its turn. Together with what was read before they have at most
+-- 16,777,216 bytes, which is this project's own limit.
+pub data AreBlocks (holds : List ℕ → Option (List ℕ)) : (before : ℕ) → List (List ℕ) → List Block → Type 0 where
+  no_block : {before : ℕ} → AreBlocks holds before [] []
+  one_block : {before size : ℕ} {name : List ℕ} {names : List (List ℕ)} {block : Block} {blocks : List Block}
+      → IsBlock (holds name) block size → before + size ≤ 16777216
+      → AreBlocks holds (before + size) names blocks → AreBlocks holds before (name ∷ names) (block ∷ blocks)
+
+-- This is first at fault under these names, the blocks of which are counted from this number on: a block, or that there
+-- are too many bytes. The bytes are added up behind each block, before the next one is looked at.
+pub data IsFirstFault (holds : List ℕ → Option (List ℕ)) : (number before : ℕ) → List (List ℕ) → BlocksFault → Type 0 where
+  in_this : {number before : ℕ} {name : List ℕ} {names : List (List ℕ)} {fault : BlockFault}
+      → HasFault (holds name) fault → IsFirstFault holds number before (name ∷ names) (in_block number fault)
+  too_large : {number before size : ℕ} {name : List ℕ} {names : List (List ℕ)} {block : Block}
+      → IsBlock (holds name) block size → 16777216 < before + size → IsFirstFault holds number before (name ∷ names) Large
+  behind_this : {number before size : ℕ} {name : List ℕ} {names : List (List ℕ)} {block : Block} {fault : BlocksFault}
+      → IsBlock (holds name) block size → before + size ≤ 16777216
+      → IsFirstFault holds (number + 1) (before + size) names fault → IsFirstFault holds number before (name ∷ names) fault
+
+-- files that hold these blocks under these names
+abbrev pub HoldBlocks : (List ℕ → Option (List ℕ)) → List (List ℕ) → List Block → Type 0
+HoldBlocks holds names blocks = AreBlocks holds 0 names blocks
+
+-- files in which this is first at fault under these names
+abbrev pub FailFirst : (List ℕ → Option (List ℕ)) → List (List ℕ) → BlocksFault → Type 0
+FailFirst holds names fault = IsFirstFault holds 1 0 names fault
+
+-- # The same in whole lists
+
+-- each of the blocks is spelled by the bytes at its place
+abbrev pub SpellEach : List Block → List (List ℕ) → Type 0
+SpellEach [] [] = Unit {0}
+SpellEach (block ∷ blocks) (bytes ∷ contents) = BlockSpells block bytes × SpellEach blocks contents
+SpellEach [] (bytes ∷ contents) = ⊥
+SpellEach (block ∷ blocks) [] = ⊥
+
+-- The names are held, what they hold spells the blocks in order, and all of it has at most 16,777,216 bytes.
+pub record AreHeld (holds : List ℕ → Option (List ℕ)) (names : List (List ℕ)) (blocks : List Block) : Type 0 where
+  pub contents : List (List ℕ)
+  pub held : map holds names ≡ map (λ c. Some c) contents
+  pub spelled : SpellEach blocks contents
+  pub few : sum_by length contents ≤ 16777216

@@ -1,0 +1,41 @@
+ghost use Rattle.std.specs.Prelude.{◌≡◌};
+ghost use Rattle.pw_blocks.specs.declared.fault.BlocksFault.TheVariants as faults;
+ghost use Rattle.pw_blocks.specs.Causes.{fault_in};
+
+use aml_block::BlockFault;
+use std::alloc::AllocFailed;
+
+/// Why the blocks of several files aren't read: the first fault in their order.
+#[derive(Clone, Copy, Debug, PartialEq, Eq)]
+pub enum BlocksFault {
+    /// The block of this number, counted from 1, is refused. It is never `BlockFault::ReadFault` nor
+    /// `BlockFault::Memory`.
+    Block { number: usize, fault: BlockFault },
+    /// The blocks that were read so far have more than 16,777,216 bytes.
+    Large,
+    /// A file couldn't be read.
+    ReadFault,
+    /// Want of memory.
+    Memory,
+}
+
+impl<T: Drop> From<AllocFailed<T>> for BlocksFault {
+    ghost from_gives = { λ _ e. e ≡ faults.Memory };
+
+    fn from(_e: AllocFailed<T>) -> BlocksFault {
+        BlocksFault::Memory
+    }
+}
+
+/// The fault of the block of this number.
+pub(crate) fn fault_in(number: usize, fault: BlockFault) -> BlocksFault
+    ensures { result ≡ fault_in number fault }
+{
+    match fault {
+        BlockFault::ReadFault => BlocksFault::ReadFault,
+        BlockFault::Memory => BlocksFault::Memory,
+        BlockFault::Header { .. } => BlocksFault::Block { number, fault },
+        BlockFault::Data(_) => BlocksFault::Block { number, fault },
+        BlockFault::BadTerm { .. } => BlocksFault::Block { number, fault },
+    }
+}

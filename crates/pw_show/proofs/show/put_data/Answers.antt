@@ -1,0 +1,9 @@
+use Rattle.pw_text.proofs.Putting.{PutsText-stop, PutsText-then}
+use Rattle.pw_show.specs.Values.{value_text}
+use Rattle.pw_show.proofs.show.put_data.Goals as goal
+
+pub returns-in_err-put : goal.returns-in_err-put
+returns-in_err-put g c = PutsText-stop (value_text c.args.value.now) c.from_residual.result c.from_residual.ensures.0 c.in_err-put.ensures
+
+pub returns : goal.returns
+returns g c = PutsText-then c.in_ok-put.ensures c.put_value.ensures

@@ -1,0 +1,8 @@
+use Rattle.std.proofs.Common.{◌≡◌, true, take}
+use Rattle.pw_text.specs.Puts.{PutsText}
+use Rattle.pw_show.specs.Show.{show_text}
+use Rattle.pw_show.proofs.show.put_space.Given as goal
+
+abbrev pub invariant-loop-index : goal.invariant-loop-index
+invariant-loop-index g l = (l.path.capacity ≡ l.initial.path.capacity)
+    × PutsText g.K.Sink.told g.K.Sink.written g.K.Sink.faults l.initial.sink l.sink l.initial.page l.page (show_text (take l.index l.space)) true
