@@ -20,10 +20,8 @@ fn object_of(alloc: Global, count: u64, revision: u64, behind: u8) -> Result<Dat
     for number in 0..behind {
         elements.push(Data::Int(u64::from(number)))?;
     }
-    Ok(Data::VarPackage {
-        count,
-        elements: List::from_vec(alloc, elements)?,
-    })
+    let elements = List::from_vec(alloc, elements)?;
+    Ok(Data::var_package(alloc, count, elements)?)
 }
 
 fn shape(outer: u32, why: Why) -> Option<ReadFault> {

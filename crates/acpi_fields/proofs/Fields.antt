@@ -7,6 +7,7 @@ use Rattle.std.proofs.lemmas.Nat.{from_le_bytes-to_le_bytes_8}
 use Rattle.aml_data.specs.declared.data.Data.{Data}
 use Rattle.aml_data.specs.declared.data.Data.TheViews.{outs-Int, outs-Buffer, outs-Package, outs-Text}
 use Rattle.aml_data.specs.declared.data.Data.TheVariants.{Int, Text}
+use Rattle.aml_data.specs.Objects.{buffer_of}
 use Rattle.aml_data.specs.declared.data.Width.{Width}
 use Rattle.aml_data.specs.declared.data.Width.TheVariants.{W32, W64}
 use Rattle.aml_data.specs.Meaning.{meaning, at_width}
@@ -56,7 +57,7 @@ back_small width at n lt = back_64 width at n (fits_small width n lt)
 -- what was written of a register is its bytes
 pub register_back : (at : Place) (r : Register) → r.address < 2 ^ 64 → register_at at (register_object r) ≡ Ok r
 unfolding register_of
-register_back at r lt = rw (outs-Buffer 17 (register_bytes r)) (ap (λ a. Ok (record r { address = a })) (from_le_bytes-to_le_bytes_8 r.address lt))
+register_back at r lt = rw (outs-Buffer (buffer_of 17 (register_bytes r))) (ap (λ a. Ok (record r { address = a })) (from_le_bytes-to_le_bytes_8 r.address lt))
 
 -- the elements of a package that was written
 pub elements_back : (at : Place) (elements : List Data) → elements_at at (package_object elements) ≡ Ok elements
@@ -74,7 +75,7 @@ meaning_back width n fits = rw (outs-Int n, fits_width width n fits) refl
 
 -- a register isn't a number
 pub register_meaning : (width : Width) (r : Register) → meaning (register_object r) width ≡ None
-register_meaning width r = rw (outs-Buffer 17 (register_bytes r)) refl
+register_meaning width r = rw (outs-Buffer (buffer_of 17 (register_bytes r))) refl
 
 -- a string that was written
 pub text_back : (at : Place) (text : List ℕ) → text_at at (Text text) ≡ Ok text

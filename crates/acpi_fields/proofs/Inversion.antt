@@ -8,6 +8,7 @@ use Rattle.aml_data.specs.declared.data.Data.TheOpen as layer
 use Rattle.aml_data.specs.declared.data.Data.TheViews.{outs-Int, outs-Ones, rolls-Int, rolls-Ones, outs-Buffer, outs-Package, outs-VarPackage}
 use Rattle.aml_data.specs.declared.data.Data.TheViews.{outs-Text, rolls-Buffer, rolls-Package, rolls-VarPackage, rolls-Text}
 use Rattle.aml_data.specs.declared.data.Data.TheVariants.{Int, Ones, Text}
+use Rattle.aml_data.specs.Objects.{buffer_of, counted_of}
 use Rattle.aml_data.specs.declared.data.Width.{Width}
 use Rattle.aml_data.specs.Meaning.{all_ones, at_width, layer_meaning, meaning}
 use Rattle.acpi_values.specs.Registers.{register_of}
@@ -66,9 +67,9 @@ layer_integer_means width object layer.Ones n is e =
     subst (λ o. IsInteger width o n) (sym (is ∙ rolls-Ones)) (subst (λ x. IsInteger width Ones x) same is_ones)
 layer_integer_means width object layer.Revision n is e = absurd cc
 layer_integer_means width object (layer.Text text) n is e = absurd cc
-layer_integer_means width object (layer.Buffer size bytes) n is e = absurd cc
+layer_integer_means width object (layer.Buffer b) n is e = absurd cc
 layer_integer_means width object (layer.Package count vs) n is e = absurd cc
-layer_integer_means width object (layer.VarPackage count vs) n is e = absurd cc
+layer_integer_means width object (layer.VarPackage c) n is e = absurd cc
 layer_integer_means width object (layer.Path path) n is e = absurd cc
 
 pub integer_means : (width : Width) (object : Data) (n : ℕ) → meaning object width ≡ Some n → IsInteger width object n
@@ -152,14 +153,14 @@ layer_elements_means : (at : Place) (object : Data) (l : Data-F Data) (elements 
 layer_elements_means at object (layer.Package count vs) elements is e =
     subst (λ o. IsPackageOf o elements) (sym is) (subst (λ es. IsPackageOf (roll-Data (layer.Package count vs)) es) (ok_same vs elements e)
     (subst (λ o. IsPackageOf o vs) (sym (rolls-Package count vs)) (is_package count vs)))
-layer_elements_means at object (layer.VarPackage count vs) elements is e =
-    subst (λ o. IsPackageOf o elements) (sym is) (subst (λ es. IsPackageOf (roll-Data (layer.VarPackage count vs)) es) (ok_same vs elements e)
-    (subst (λ o. IsPackageOf o vs) (sym (rolls-VarPackage count vs)) (is_var_package count vs)))
+layer_elements_means at object (layer.VarPackage c) elements is e =
+    subst (λ o. IsPackageOf o elements) (sym is) (subst (λ es. IsPackageOf (roll-Data (layer.VarPackage c)) es) (ok_same c.elements elements e)
+    (subst (λ o. IsPackageOf o c.elements) (sym (rolls-VarPackage c)) (is_var_package c.count c.elements)))
 layer_elements_means at object (layer.Int n) elements is e = absurd (err_ok _ elements e)
 layer_elements_means at object layer.Ones elements is e = absurd (err_ok _ elements e)
 layer_elements_means at object layer.Revision elements is e = absurd (err_ok _ elements e)
 layer_elements_means at object (layer.Text text) elements is e = absurd (err_ok _ elements e)
-layer_elements_means at object (layer.Buffer size bytes) elements is e = absurd (err_ok _ elements e)
+layer_elements_means at object (layer.Buffer b) elements is e = absurd (err_ok _ elements e)
 layer_elements_means at object (layer.Path path) elements is e = absurd (err_ok _ elements e)
 
 pub elements_means : (at : Place) (object : Data) (elements : List Data) → elements_at at object ≡ Ok elements → IsPackageOf object elements
@@ -167,7 +168,7 @@ elements_means at object elements e = layer_elements_means at object (out-Data o
 
 pub elements_read : (at : Place) (object : Data) (elements : List Data) → IsPackageOf object elements → elements_at at object ≡ Ok elements
 elements_read at object elements (is_package count vs) = rw (outs-Package count vs) refl
-elements_read at object elements (is_var_package count vs) = rw (outs-VarPackage count vs) refl
+elements_read at object elements (is_var_package count vs) = rw (outs-VarPackage (counted_of count vs)) refl
 
 pub counted_means : (at : Place) (n : ℕ) (elements got : List Data) → counted at n elements ≡ Ok got → (length elements ≡ n) × (elements ≡ got)
 counted_means at n elements got e = grind (arith, nat_tests)
@@ -207,34 +208,39 @@ register_in_means at (Ok x) r e = ap (λ y. Ok y) (ok_same x r e)
 register_in_means at (Err fault) r e = absurd (err_ok _ r e)
 
 layer_register_means : (at : Place) (object : Data) (l : Data-F Data) (r : Register) → object ≡ roll-Data l → layer_register at l ≡ Ok r → IsRegisterObject object r
-layer_register_means at object (layer.Buffer size bytes) r is e =
-    record { size = size; bytes = bytes; buffer = is ∙ rolls-Buffer size bytes; template = template_means (content size bytes) r (register_in_means at (register_of (content size bytes)) r e) }
+layer_register_means at object (layer.Buffer b) r is e =
+    record {
+      size = b.size;
+      bytes = b.bytes;
+      buffer = is ∙ rolls-Buffer b;
+      template = template_means (content b.size b.bytes) r (register_in_means at (register_of (content b.size b.bytes)) r e);
+    }
 layer_register_means at object (layer.Int n) r is e = absurd (err_ok _ r e)
 layer_register_means at object layer.Ones r is e = absurd (err_ok _ r e)
 layer_register_means at object layer.Revision r is e = absurd (err_ok _ r e)
 layer_register_means at object (layer.Text text) r is e = absurd (err_ok _ r e)
 layer_register_means at object (layer.Package count vs) r is e = absurd (err_ok _ r e)
-layer_register_means at object (layer.VarPackage count vs) r is e = absurd (err_ok _ r e)
+layer_register_means at object (layer.VarPackage c) r is e = absurd (err_ok _ r e)
 layer_register_means at object (layer.Path path) r is e = absurd (err_ok _ r e)
 
 pub register_means : (at : Place) (object : Data) (r : Register) → register_at at object ≡ Ok r → IsRegisterObject object r
 register_means at object r e = layer_register_means at object (out-Data object) r (sym (roll-out-Data object)) e
 
 pub register_read : (at : Place) (object : Data) (r : Register) → IsRegisterObject object r → register_at at object ≡ Ok r
-register_read at object r h = rw (h.buffer, outs-Buffer h.size h.bytes, template_read (content h.size h.bytes) r h.template) refl
+register_read at object r h = rw (h.buffer, outs-Buffer (buffer_of h.size h.bytes), template_read (content h.size h.bytes) r h.template) refl
 
 -- a register isn't an integer
 pub no_integer : (width : Width) (object : Data) (r : Register) → IsRegisterObject object r → meaning object width ≡ None
-no_integer width object r h = rw (h.buffer, outs-Buffer h.size h.bytes) refl
+no_integer width object r h = rw (h.buffer, outs-Buffer (buffer_of h.size h.bytes)) refl
 
 layer_text_means : (at : Place) (object : Data) (l : Data-F Data) (text : List ℕ) → object ≡ roll-Data l → layer_text at l ≡ Ok text → object ≡ Text text
 layer_text_means at object (layer.Text t) text is e = is ∙ rolls-Text t ∙ ap (λ x. Text x) (ok_same t text e)
 layer_text_means at object (layer.Int n) text is e = absurd (err_ok _ text e)
 layer_text_means at object layer.Ones text is e = absurd (err_ok _ text e)
 layer_text_means at object layer.Revision text is e = absurd (err_ok _ text e)
-layer_text_means at object (layer.Buffer size bytes) text is e = absurd (err_ok _ text e)
+layer_text_means at object (layer.Buffer b) text is e = absurd (err_ok _ text e)
 layer_text_means at object (layer.Package count vs) text is e = absurd (err_ok _ text e)
-layer_text_means at object (layer.VarPackage count vs) text is e = absurd (err_ok _ text e)
+layer_text_means at object (layer.VarPackage c) text is e = absurd (err_ok _ text e)
 layer_text_means at object (layer.Path path) text is e = absurd (err_ok _ text e)
 
 pub text_means : (at : Place) (object : Data) (text : List ℕ) → text_at at object ≡ Ok text → object ≡ Text text

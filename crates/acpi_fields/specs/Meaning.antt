@@ -3,7 +3,8 @@ use Rattle.std.specs.Prelude.{◌≡◌, ◌⊎◌, ◌<◌, ◌%◌, ◌^◌, �
 use Rattle.std.specs.Int.{w64, from_le_bytes}
 use Rattle.aml_data.specs.Meaning.{all_ones, at_width}
 use Rattle.aml_data.specs.declared.data.Data.{Data}
-use Rattle.aml_data.specs.declared.data.Data.TheVariants.{Int, Ones, Buffer, Package, VarPackage}
+use Rattle.aml_data.specs.declared.data.Data.TheVariants.{Int, Ones, Package}
+use Rattle.aml_data.specs.Objects.{Buffer, VarPackage}
 use Rattle.aml_data.specs.declared.data.Width.{Width}
 use Rattle.acpi_values.specs.declared.dependency.Dependency.{Dependency}
 use Rattle.acpi_values.specs.declared.register.Register.{Register}

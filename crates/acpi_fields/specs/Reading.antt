@@ -69,13 +69,13 @@ register_in at (Ok r) = Ok r
 register_in at (Err fault) = Err (shape at no_register)
 
 abbrev pub layer_register : Place → Data-F Data → Read Register
-layer_register at (layer.Buffer size bytes) = register_in at (register_of (content size bytes))
+layer_register at (layer.Buffer buffer) = register_in at (register_of (content buffer.size buffer.bytes))
 layer_register at (layer.Int n) = Err (shape at Kind)
 layer_register at layer.Ones = Err (shape at Kind)
 layer_register at layer.Revision = Err (shape at Kind)
 layer_register at (layer.Text text) = Err (shape at Kind)
 layer_register at (layer.Package count elements) = Err (shape at Kind)
-layer_register at (layer.VarPackage count elements) = Err (shape at Kind)
+layer_register at (layer.VarPackage counted) = Err (shape at Kind)
 layer_register at (layer.Path path) = Err (shape at Kind)
 
 -- a register: a buffer that holds a resource template of one (ACPI 6.5, 6.4.3.7)
@@ -93,9 +93,9 @@ layer_text at (layer.Text text) = Ok text
 layer_text at (layer.Int n) = Err (shape at Kind)
 layer_text at layer.Ones = Err (shape at Kind)
 layer_text at layer.Revision = Err (shape at Kind)
-layer_text at (layer.Buffer size bytes) = Err (shape at Kind)
+layer_text at (layer.Buffer buffer) = Err (shape at Kind)
 layer_text at (layer.Package count elements) = Err (shape at Kind)
-layer_text at (layer.VarPackage count elements) = Err (shape at Kind)
+layer_text at (layer.VarPackage counted) = Err (shape at Kind)
 layer_text at (layer.Path path) = Err (shape at Kind)
 
 -- a string
@@ -106,12 +106,12 @@ text_at at object = layer_text at (out-Data object)
 
 abbrev pub layer_elements : Place → Data-F Data → Read (List Data)
 layer_elements at (layer.Package count elements) = Ok elements
-layer_elements at (layer.VarPackage count elements) = Ok elements
+layer_elements at (layer.VarPackage counted) = Ok counted.elements
 layer_elements at (layer.Int n) = Err (shape at Kind)
 layer_elements at layer.Ones = Err (shape at Kind)
 layer_elements at layer.Revision = Err (shape at Kind)
 layer_elements at (layer.Text text) = Err (shape at Kind)
-layer_elements at (layer.Buffer size bytes) = Err (shape at Kind)
+layer_elements at (layer.Buffer buffer) = Err (shape at Kind)
 layer_elements at (layer.Path path) = Err (shape at Kind)
 
 -- the elements of a package, of either kind
@@ -168,12 +168,12 @@ rows_from row k (object ∷ objects) = row k object >>= λ first. rows_from row 
 -- An object whose elements can be counted in 32 bits.
 abbrev pub LayerIsCountable : Data-F Data → Type 0
 LayerIsCountable (layer.Package count elements) = length elements < 2 ^ 32
-LayerIsCountable (layer.VarPackage count elements) = length elements < 2 ^ 32
+LayerIsCountable (layer.VarPackage counted) = length counted.elements < 2 ^ 32
 LayerIsCountable (layer.Int n) = Unit {0}
 LayerIsCountable layer.Ones = Unit {0}
 LayerIsCountable layer.Revision = Unit {0}
 LayerIsCountable (layer.Text text) = Unit {0}
-LayerIsCountable (layer.Buffer size bytes) = Unit {0}
+LayerIsCountable (layer.Buffer buffer) = Unit {0}
 LayerIsCountable (layer.Path path) = Unit {0}
 
 abbrev pub IsCountable : Data → Type 0

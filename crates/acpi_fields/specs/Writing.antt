@@ -1,7 +1,8 @@
 -- The objects that are written for values (ACPI 6.5, 8.4).
 use Rattle.std.specs.Prelude.{◌<◌, ◌^◌, ℕ, List, length}
 use Rattle.aml_data.specs.declared.data.Data.{Data}
-use Rattle.aml_data.specs.declared.data.Data.TheVariants.{Buffer, Package}
+use Rattle.aml_data.specs.declared.data.Data.TheVariants.{Package}
+use Rattle.aml_data.specs.Objects.{Buffer}
 use Rattle.aml_data.specs.declared.data.Width.{Width}
 use Rattle.aml_data.specs.declared.data.Width.TheVariants.{W32, W64}
 use Rattle.acpi_values.specs.Registers.{register_bytes}

@@ -11,12 +11,12 @@ pub fn elements_at(object: &Data, place: Place) -> Result<&[Data], Shape>
 {
     match object {
         Data::Package { elements, .. } => Ok(elements.as_slice()),
-        Data::VarPackage { elements, .. } => Ok(elements.as_slice()),
+        Data::VarPackage(counted) => Ok(counted.get().elements.as_slice()),
         Data::Int(_)
         | Data::Ones
         | Data::Revision
         | Data::Text(_)
-        | Data::Buffer { .. }
+        | Data::Buffer(_)
         | Data::Path(_) => Err(Shape {
             place,
             why: Why::Kind,
@@ -63,12 +63,12 @@ pub fn is_countable(object: &Data) -> bool
 {
     match object {
         Data::Package { elements, .. } => elements.as_slice().len() <= u32::MAX as usize,
-        Data::VarPackage { elements, .. } => elements.as_slice().len() <= u32::MAX as usize,
+        Data::VarPackage(counted) => counted.get().elements.as_slice().len() <= u32::MAX as usize,
         Data::Int(_)
         | Data::Ones
         | Data::Revision
         | Data::Text(_)
-        | Data::Buffer { .. }
+        | Data::Buffer(_)
         | Data::Path(_) => true,
     }
 }

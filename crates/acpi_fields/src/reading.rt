@@ -115,13 +115,16 @@ pub fn register_at(object: &Data, place: Place) -> Result<Register, Shape>
     ensures { result ≡ the_register place object.now }
 {
     match object {
-        Data::Buffer { size, bytes } => register_in(*size, bytes.as_slice(), place),
+        Data::Buffer(buffer) => {
+            let buffer = buffer.get();
+            register_in(buffer.size, buffer.bytes.as_slice(), place)
+        }
         Data::Int(_)
         | Data::Ones
         | Data::Revision
         | Data::Text(_)
         | Data::Package { .. }
-        | Data::VarPackage { .. }
+        | Data::VarPackage(_)
         | Data::Path(_) => Err(Shape {
             place,
             why: Why::Kind,
@@ -155,9 +158,9 @@ pub fn text_at(object: &Data, place: Place) -> Result<&[u8], Shape>
         Data::Int(_)
         | Data::Ones
         | Data::Revision
-        | Data::Buffer { .. }
+        | Data::Buffer(_)
         | Data::Package { .. }
-        | Data::VarPackage { .. }
+        | Data::VarPackage(_)
         | Data::Path(_) => Err(Shape {
             place,
             why: Why::Kind,

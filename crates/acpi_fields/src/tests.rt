@@ -15,7 +15,7 @@ const FIXED: [u8; 17] = [
 
 fn buffer(alloc: Global, size: u64, bytes: &[u8]) -> Result<Data, Fail> {
     let bytes = List::from_vec(alloc, Vec::from_slice(alloc, bytes)?)?;
-    Ok(Data::Buffer { size, bytes })
+    Ok(Data::buffer(alloc, size, bytes)?)
 }
 
 /// The register that is read of a buffer of this size.
@@ -76,11 +76,8 @@ fn integers(rt: HostRuntime) {
 
 #[test]
 fn packages(rt: HostRuntime) -> Result<(), Fail> {
-    let elements = vec![in rt.alloc(); Data::Int(7)]?;
-    let object = Data::VarPackage {
-        count: 3,
-        elements: List::from_vec(rt.alloc(), elements)?,
-    };
+    let elements = List::from_vec(rt.alloc(), vec![in rt.alloc(); Data::Int(7)]?)?;
+    let object = Data::var_package(rt.alloc(), 3, elements)?;
     let whole = elements_at(&object, WHOLE);
     assert!(rt; whole.is_ok_and(|elements| elements.len() == 1));
     let count = Some(Shape {

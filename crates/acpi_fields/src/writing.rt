@@ -12,11 +12,8 @@ use std::alloc::Global;
 pub fn register_object(alloc: Global, register: &Register) -> Result<Data, Memory>
     ensures { IfOk result (λ object. object ≡ the_object register.now) }
 {
-    let bytes = Vec::from_slice(alloc, &register.to_bytes())?;
-    Ok(Data::Buffer {
-        size: 17,
-        bytes: List::from_vec(alloc, bytes)?,
-    })
+    let bytes = List::from_slice(alloc, &register.to_bytes())?;
+    Data::buffer(alloc, 17, bytes)
 }
 
 /// A package of these elements, which counts them.
@@ -24,10 +21,9 @@ pub fn package_object(alloc: Global, elements: Vec<Data>) -> Result<Data, Memory
     requires { length elements.items < 256 }
     ensures { IfOk result (λ object. object ≡ the_package elements.items) }
 {
-    Ok(Data::Package {
-        count: elements.len() as u8,
-        elements: List::from_vec(alloc, elements)?,
-    })
+    let count = elements.len() as u8;
+    let elements = List::from_vec(alloc, elements)?;
+    Ok(Data::Package { count, elements })
 }
 
 /// The number of a coordination type (ACPI 6.5, 8.3).

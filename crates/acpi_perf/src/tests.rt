@@ -100,10 +100,8 @@ fn performance_states(rt: HostRuntime) -> Result<(), Fail> {
         Data::Int(0x10),
     ]?;
     let elements = vec![in rt.alloc(); package_object(rt.alloc(), fields)?]?;
-    let object = Data::VarPackage {
-        count: 1,
-        elements: List::from_vec(rt.alloc(), elements)?,
-    };
+    let elements = List::from_vec(rt.alloc(), elements)?;
+    let object = Data::var_package(rt.alloc(), 1, elements)?;
     let read = read_pss(rt.alloc(), &object, Width::W64)?;
     assert_eq!(rt; read.as_slice(), [state].as_slice());
     let written = write_pss(rt.alloc(), &[state])?;

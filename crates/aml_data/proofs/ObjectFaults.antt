@@ -4,7 +4,8 @@ use Rattle.std.proofs.Common.{refl, ap, sym, subst, ◌∙◌, arith, inl, inr}
 use Rattle.std.proofs.lemmas.Bool.{eqb-false, ne_eqb}
 use Rattle.std.proofs.lemmas.List.{length-append}
 use Rattle.aml_data.specs.declared.data.Data.{Data}
-use Rattle.aml_data.specs.declared.data.Data.TheVariants.{Int, Text, Buffer, Package, VarPackage, Path as at_path}
+use Rattle.aml_data.specs.declared.data.Data.TheVariants.{Int, Text, Package, Path as at_path}
+use Rattle.aml_data.specs.Objects.{Buffer, VarPackage}
 use Rattle.aml_data.specs.declared.fault.DataFault.{DataFault}
 use Rattle.aml_data.specs.declared.fault.DataFault.TheVariants.{Short, BadLead, TooMany, TooDeep}
 use Rattle.aml_data.specs.Segment.{begins_name}

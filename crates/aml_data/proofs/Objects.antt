@@ -6,7 +6,8 @@ use Rattle.std.specs.Int.{w16, w32, w64, to_le_bytes}
 use Rattle.std.proofs.lemmas.Bool.{eqb-true, ne_eqb}
 use Rattle.std.proofs.lemmas.List.{length-append}
 use Rattle.aml_data.specs.declared.data.Data.{Data}
-use Rattle.aml_data.specs.declared.data.Data.TheVariants.{Int, Ones, Revision, Text, Buffer, Package, VarPackage, Path as at_path}
+use Rattle.aml_data.specs.declared.data.Data.TheVariants.{Int, Ones, Revision, Text, Package, Path as at_path}
+use Rattle.aml_data.specs.Objects.{Buffer, VarPackage}
 use Rattle.aml_data.specs.declared.path.Path.{Path}
 use Rattle.aml_data.specs.Segment.{begins_name}
 use Rattle.aml_data.specs.Grammar.{Const, spells_zero, spells_one, spells_byte, spells_word, spells_double, spells_quad, Len, IsAscii, NameOf, HasPart, SpellsWithin, AllSpelled, Spells}

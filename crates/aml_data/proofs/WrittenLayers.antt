@@ -3,7 +3,8 @@ use Rattle.std.proofs.Common.{◌≡◌, ◌<◌, ◌≤◌, ◌^◌, ◌-◌, �
 use Rattle.std.specs.List.{AllByRecursion}
 use Rattle.aml_data.specs.declared.data.Data.{Data, Data-F, map-Data, out-Data, fold_out-Data}
 use Rattle.aml_data.specs.declared.data.Data.TheOpen as layer
-use Rattle.aml_data.specs.declared.data.Data.TheVariants.{Int, Ones, Revision, Text, Buffer, Package, VarPackage, Path as at_path}
+use Rattle.aml_data.specs.declared.data.Data.TheVariants.{Int, Ones, Revision, Text, Package, Path as at_path}
+use Rattle.aml_data.specs.Objects.{buffer_of, Buffer, counted_of, VarPackage}
 use Rattle.aml_data.specs.declared.data.Data.TheViews.{outs-Int, outs-Ones, outs-Revision, outs-Text, outs-Buffer, outs-Package, outs-VarPackage, outs-Path}
 use Rattle.aml_data.specs.declared.path.Path.{Path}
 use Rattle.aml_data.specs.Segment.{joined}
@@ -29,13 +30,13 @@ pub written-Text : (t : List ℕ) → written (Text t) ≡ 13 ∷ t ++ 0 ∷ []
 written-Text t = written-layer (Text t) (layer.Text t) (outs-Text t)
 
 pub written-Buffer : (size : ℕ) (bytes : List ℕ) → written (Buffer size bytes) ≡ 17 ∷ sized (written_constant size ++ bytes)
-written-Buffer size bytes = written-layer (Buffer size bytes) (layer.Buffer size bytes) (outs-Buffer size bytes)
+written-Buffer size bytes = written-layer (Buffer size bytes) (layer.Buffer (buffer_of size bytes)) (outs-Buffer (buffer_of size bytes))
 
 pub written-Package : (count : ℕ) (vs : List Data) → written (Package count vs) ≡ 18 ∷ sized (count ∷ joined (map written vs))
 written-Package count vs = written-layer (Package count vs) (layer.Package count vs) (outs-Package count vs)
 
 pub written-VarPackage : (count : ℕ) (vs : List Data) → written (VarPackage count vs) ≡ 19 ∷ sized (written_constant count ++ joined (map written vs))
-written-VarPackage count vs = written-layer (VarPackage count vs) (layer.VarPackage count vs) (outs-VarPackage count vs)
+written-VarPackage count vs = written-layer (VarPackage count vs) (layer.VarPackage (counted_of count vs)) (outs-VarPackage (counted_of count vs))
 
 pub written-Path : (path : Path) → written (at_path path) ≡ written_name path
 written-Path path = written-layer (at_path path) (layer.Path path) (outs-Path path)
@@ -71,8 +72,8 @@ within-Text zero t = within-layer zero (Text t) (layer.Text t) (outs-Text t)
 within-Text (suc depth) t = within-layer (suc depth) (Text t) (layer.Text t) (outs-Text t)
 
 pub within-Buffer : (depth size : ℕ) (bytes : List ℕ) → IsWritableWithin depth (Buffer size bytes) ≡ (size < 2 ^ 64)
-within-Buffer zero size bytes = within-layer zero (Buffer size bytes) (layer.Buffer size bytes) (outs-Buffer size bytes)
-within-Buffer (suc depth) size bytes = within-layer (suc depth) (Buffer size bytes) (layer.Buffer size bytes) (outs-Buffer size bytes)
+within-Buffer zero size bytes = within-layer zero (Buffer size bytes) (layer.Buffer (buffer_of size bytes)) (outs-Buffer (buffer_of size bytes))
+within-Buffer (suc depth) size bytes = within-layer (suc depth) (Buffer size bytes) (layer.Buffer (buffer_of size bytes)) (outs-Buffer (buffer_of size bytes))
 
 pub within-Path : (depth : ℕ) (path : Path) → IsWritableWithin depth (at_path path) ≡ (IsWritablePath path × HasPart path)
 within-Path zero path = within-layer zero (at_path path) (layer.Path path) (outs-Path path)
@@ -82,7 +83,7 @@ pub within-Package : (depth count : ℕ) (vs : List Data) → IsWritableWithin (
 within-Package depth count vs = within-layer (suc depth) (Package count vs) (layer.Package count vs) (outs-Package count vs)
 
 pub within-VarPackage : (depth count : ℕ) (vs : List Data) → IsWritableWithin (suc depth) (VarPackage count vs) ≡ ((count < 2 ^ 64) × AreElements (IsWritableWithin depth) count vs)
-within-VarPackage depth count vs = within-layer (suc depth) (VarPackage count vs) (layer.VarPackage count vs) (outs-VarPackage count vs)
+within-VarPackage depth count vs = within-layer (suc depth) (VarPackage count vs) (layer.VarPackage (counted_of count vs)) (outs-VarPackage (counted_of count vs))
 
 -- Elements of a package in which so much nesting is left for the package itself.
 pub record AreNested (depth limit count : ℕ) (vs : List Data) : Type 0 where
@@ -106,7 +107,7 @@ nested-Package zero count vs h = absurd (subst (λ (X : Type 0). X) (within-laye
 nested-Package (suc depth) count vs h = nested depth (2 ^ 8) count vs (subst (λ (X : Type 0). X) (within-Package depth count vs) h)
 
 pub nested-VarPackage : (depth count : ℕ) (vs : List Data) → IsWritableWithin depth (VarPackage count vs) → AreNested depth (2 ^ 64) count vs
-nested-VarPackage zero count vs h = absurd (subst (λ (X : Type 0). X) (within-layer zero (VarPackage count vs) (layer.VarPackage count vs) (outs-VarPackage count vs)) h)
+nested-VarPackage zero count vs h = absurd (subst (λ (X : Type 0). X) (within-layer zero (VarPackage count vs) (layer.VarPackage (counted_of count vs)) (outs-VarPackage (counted_of count vs))) h)
 nested-VarPackage (suc depth) count vs h = nested depth (2 ^ 64) count vs (subst (λ (X : Type 0). X) (within-VarPackage depth count vs) h)
 
 pub Package-nested : (depth count : ℕ) (vs : List Data) → AreNested depth (2 ^ 8) count vs → IsWritableWithin depth (Package count vs)

@@ -4,7 +4,10 @@ use Rattle.std.proofs.lemmas.Bool.{cases_lt}
 use Rattle.std.proofs.lemmas.Bool.Decides.{nat_tests}
 use Rattle.std.specs.List.{AllByRecursion}
 use Rattle.aml_data.specs.declared.data.Data.{Data}
-use Rattle.aml_data.specs.declared.data.Data.TheVariants.{Text, Buffer, Package, VarPackage}
+use Rattle.aml_data.specs.declared.data.Data.TheVariants.{Text, Package}
+use Rattle.aml_data.specs.declared.data.Data.TheVariants as variant
+use Rattle.aml_data.specs.declared.data.Counted.{Counted}
+use Rattle.aml_data.specs.Objects.{Buffer, VarPackage}
 use Rattle.aml_data.specs.declared.path.Path.{Path}
 use Rattle.aml_data.specs.Segment.{IsSegment, joined}
 use Rattle.aml_data.specs.Written.{written, written_prefix, written_segments, segments_lead, written_name, written_length, written_constant, sized}
@@ -81,9 +84,12 @@ length-VarPackage count vs =
     let body = joined (map written vs) in
     rw (written-VarPackage count vs) (length-sized 19 (written_constant count ++ body) ∙ ap (λ (k : ℕ). 1 + length (written_length k) + k) (length-append (written_constant count) body))
 
+pub length-counted : (c : Counted Data) → let n = length (written_constant c.count) + length (joined (map written c.elements)) in length (written (variant.VarPackage c)) ≡ 1 + length (written_length n) + n
+length-counted c = length-VarPackage c.count c.elements
+
 pub ruleset names = (length-written_name)
 
-pub ruleset lengths = (layers, length-Text, length-Buffer, length-Package, length-VarPackage, capped_sized)
+pub ruleset lengths = (layers, length-Text, length-Buffer, length-Package, length-counted, capped_sized)
 
 -- ---- one object after another
 

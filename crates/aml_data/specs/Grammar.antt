@@ -3,7 +3,8 @@ use Rattle.std.specs.Prelude.{◌≡◌, ℕ, suc, ◌+◌, ◌*◌, ◌<◌, �
 use Rattle.std.specs.List.{AllByRecursion}
 use Rattle.std.specs.Int.{w16, w32, w64, to_le_bytes}
 use Rattle.aml_data.specs.declared.data.Data.{Data}
-use Rattle.aml_data.specs.declared.data.Data.TheVariants.{Int, Ones, Revision, Text, Buffer, Package, VarPackage, Path as at_path}
+use Rattle.aml_data.specs.declared.data.Data.TheVariants.{Int, Ones, Revision, Text, Package, Path as at_path}
+use Rattle.aml_data.specs.Objects.{Buffer, VarPackage}
 use Rattle.aml_data.specs.declared.path.Path.{Path}
 use Rattle.std.proofs.Common.{◌⊎◌}
 use Rattle.aml_data.specs.Segment.{IsSegment, joined}

@@ -1,4 +1,5 @@
 pub mod Segment
+pub mod Objects
 pub mod Grammar
 pub mod Reading
 pub mod ReadingObjects

@@ -21,9 +21,9 @@ layer_meaning width (layer.Int n) = Some (at_width width n)
 layer_meaning width layer.Ones = Some (all_ones width)
 layer_meaning width layer.Revision = None
 layer_meaning width (layer.Text text) = None
-layer_meaning width (layer.Buffer size bytes) = None
+layer_meaning width (layer.Buffer buffer) = None
 layer_meaning width (layer.Package count elements) = None
-layer_meaning width (layer.VarPackage count elements) = None
+layer_meaning width (layer.VarPackage counted) = None
 layer_meaning width (layer.Path path) = None
 
 -- the number that an object means at this width, if any

@@ -68,9 +68,9 @@ written_layer (layer.Int n) = written_constant n
 written_layer layer.Ones = 255 ∷ []
 written_layer layer.Revision = 91 ∷ 48 ∷ []
 written_layer (layer.Text text) = 13 ∷ text ++ 0 ∷ []
-written_layer (layer.Buffer size bytes) = 17 ∷ sized (written_constant size ++ bytes)
+written_layer (layer.Buffer buffer) = 17 ∷ sized (written_constant buffer.size ++ buffer.bytes)
 written_layer (layer.Package count elements) = 18 ∷ sized (count ∷ joined elements)
-written_layer (layer.VarPackage count elements) = 19 ∷ sized (written_constant count ++ joined elements)
+written_layer (layer.VarPackage counted) = 19 ∷ sized (written_constant counted.count ++ joined counted.elements)
 written_layer (layer.Path path) = written_name path
 
 -- a data object
@@ -89,9 +89,9 @@ IsWritableLeaf (layer.Int n) = n < 2 ^ 64
 IsWritableLeaf layer.Ones = Unit {0}
 IsWritableLeaf layer.Revision = Unit {0}
 IsWritableLeaf (layer.Text text) = AllByRecursion IsAscii text
-IsWritableLeaf (layer.Buffer size bytes) = size < 2 ^ 64
+IsWritableLeaf (layer.Buffer buffer) = buffer.size < 2 ^ 64
 IsWritableLeaf (layer.Package count elements) = ⊥
-IsWritableLeaf (layer.VarPackage count elements) = ⊥
+IsWritableLeaf (layer.VarPackage counted) = ⊥
 IsWritableLeaf (layer.Path path) = IsWritablePath path × HasPart path
 
 -- elements of a package: at most as many as its count, each of them writable
@@ -101,7 +101,7 @@ AreElements Inner count elements = (length elements ≤ count) × AllByRecursion
 -- one layer of an object whose elements can be written
 abbrev pub IsWritableLayer : (Data → Type 0) → Data-F Data → Type 0
 IsWritableLayer Inner (layer.Package count elements) = (count < 2 ^ 8) × AreElements Inner count elements
-IsWritableLayer Inner (layer.VarPackage count elements) = (count < 2 ^ 64) × AreElements Inner count elements
+IsWritableLayer Inner (layer.VarPackage counted) = (counted.count < 2 ^ 64) × AreElements Inner counted.count counted.elements
 IsWritableLayer Inner other = IsWritableLeaf other
 
 -- an object that can be written but for its length, and whose nesting is at most so much

@@ -1,7 +1,9 @@
 ghost use Rattle.std.specs.Prelude.{◌≡◌, IfOk};
+ghost use Rattle.aml_data.specs.declared.data.Data.TheVariants.{Path as at_path};
+ghost use Rattle.aml_data.specs.Objects.{Buffer as at_buffer, VarPackage as at_var_package};
 
 use crate::path::{Path, copy_path};
-use pw_base::{List, Memory};
+use pw_base::{Boxed, List, Memory};
 use std::alloc::Global;
 
 /// A data object: a constant, a string, a buffer, a package or a name (ACPI 6.5, 20.2.3).
@@ -15,14 +17,58 @@ pub enum Data {
     Revision,
     /// A string: its bytes are 1 to 0x7F, without the 0 that ends it.
     Text(List<u8>),
-    /// A buffer: its content is these bytes, and then zeros up to its size where that is greater.
-    Buffer { size: u64, bytes: List<u8> },
+    /// A buffer.
+    Buffer(Boxed<Buffer>),
     /// A package of so many elements, of which the first are given and the rest uninitialised.
     Package { count: u8, elements: List<Data> },
-    /// The same, counted by a constant.
-    VarPackage { count: u64, elements: List<Data> },
+    /// A package that a constant counts.
+    VarPackage(Boxed<Counted<Data>>),
     /// A name.
-    Path(Path),
+    Path(Boxed<Path>),
+}
+
+/// A buffer: its content is these bytes, and then zeros up to its size where that is greater
+/// (ACPI 6.5, 20.2.5.4).
+#[derive(Debug, Drop)]
+pub struct Buffer {
+    pub size: u64,
+    pub bytes: List<u8>,
+}
+
+/// So many elements, of which the first are given and the rest uninitialised (ACPI 6.5, 20.2.5.4).
+#[derive(Debug, Drop)]
+pub struct Counted<T> {
+    pub count: u64,
+    pub elements: List<T>,
+}
+
+// A package of small numbers is little else than its elements: two words each.
+const _: () = prove!(size_of::<Data>() == 16);
+
+impl Data {
+    /// A buffer of this size, which begins with these bytes.
+    pub fn buffer(alloc: Global, size: u64, bytes: List<u8>) -> Result<Data, Memory>
+        ensures { IfOk result (λ object. object ≡ at_buffer size bytes) }
+    {
+        let buffer = Boxed::new(alloc, Buffer { size, bytes })?;
+        Ok(Data::Buffer(buffer))
+    }
+
+    /// A package that a constant counts, of so many elements, which begins with these.
+    pub fn var_package(alloc: Global, count: u64, elements: List<Data>) -> Result<Data, Memory>
+        ensures { IfOk result (λ object. object ≡ at_var_package count elements) }
+    {
+        let counted = Boxed::new(alloc, Counted { count, elements })?;
+        Ok(Data::VarPackage(counted))
+    }
+
+    /// A name.
+    pub fn path(alloc: Global, path: Path) -> Result<Data, Memory>
+        ensures { IfOk result (λ object. object ≡ at_path path) }
+    {
+        let path = Boxed::new(alloc, path)?;
+        Ok(Data::Path(path))
+    }
 }
 
 /// How many bits an integer has in a table: 32 below revision 2 of its block, else 64
@@ -52,9 +98,9 @@ pub fn copy_data(alloc: Global, object: &Data) -> Result<Data, Memory>
             let text = copy_bytes(alloc, text)?;
             Ok(Data::Text(text))
         }
-        Data::Buffer { size, bytes } => {
-            let bytes = copy_bytes(alloc, bytes)?;
-            Ok(Data::Buffer { size: *size, bytes })
+        Data::Buffer(buffer) => {
+            let bytes = copy_bytes(alloc, &buffer.get().bytes)?;
+            Data::buffer(alloc, buffer.get().size, bytes)
         }
         Data::Package { count, elements } => {
             let elements = copy_elements(alloc, elements.as_slice())?;
@@ -63,16 +109,13 @@ pub fn copy_data(alloc: Global, object: &Data) -> Result<Data, Memory>
                 elements,
             })
         }
-        Data::VarPackage { count, elements } => {
-            let elements = copy_elements(alloc, elements.as_slice())?;
-            Ok(Data::VarPackage {
-                count: *count,
-                elements,
-            })
+        Data::VarPackage(counted) => {
+            let elements = copy_elements(alloc, counted.get().elements.as_slice())?;
+            Data::var_package(alloc, counted.get().count, elements)
         }
         Data::Path(path) => {
-            let path = copy_path(alloc, path)?;
-            Ok(Data::Path(path))
+            let path = copy_path(alloc, path.get())?;
+            Data::path(alloc, path)
         }
     }
 }

@@ -5,7 +5,7 @@ ghost use Rattle.aml_data.specs.Segment.{joined};
 ghost use Rattle.aml_data.specs.Written.{Appends, written, written_length};
 ghost use Rattle.aml_data.specs.Written.{IsWritable, IsWritableWithin};
 
-use crate::data::Data;
+use crate::data::{Buffer, Counted, Data};
 use crate::lengths::{constant_len, elements_len};
 use crate::writing::{encode_constant, encode_length, encode_name, put};
 use pw_base::Memory;
@@ -33,12 +33,18 @@ fn put_head(alloc: Global, lead: u8, content: u64, out: &mut Vec<u8>) -> Result<
 
 /// Appends a buffer.
 #[tactic(auto, using(crate::proofs::Appending::appending))]
-fn put_buffer(alloc: Global, size: u64, bytes: &[u8], out: &mut Vec<u8>) -> Result<(), Memory>
-    requires { length (written (Data.Buffer size bytes.now)) < 2 ^ 28 }
-    ensures { Appends out.old.items out.new.items (written (Data.Buffer size bytes.now)) (is_ok result) }
+fn put_buffer(alloc: Global, buffer: &Buffer, out: &mut Vec<u8>) -> Result<(), Memory>
+    requires { length (written (Data.Buffer buffer.now)) < 2 ^ 28 }
+    ensures { Appends out.old.items out.new.items (written (Data.Buffer buffer.now)) (is_ok result) }
 {
-    put_head(alloc, 0x11, constant_len(size) + bytes.len() as u64, out)?;
-    encode_constant(alloc, size, out)?;
+    let bytes = buffer.bytes.as_slice();
+    put_head(
+        alloc,
+        0x11,
+        constant_len(buffer.size) + bytes.len() as u64,
+        out,
+    )?;
+    encode_constant(alloc, buffer.size, out)?;
     put(bytes, out)
 }
 
@@ -55,14 +61,12 @@ fn put_object(alloc: Global, value: &Data, depth: u32, out: &mut Vec<u8>) -> Res
         Data::Ones => put(&[0xFF], out),
         Data::Revision => put(&[0x5B, 0x30], out),
         Data::Text(text) => put_text(text.as_slice(), out),
-        Data::Buffer { size, bytes } => put_buffer(alloc, *size, bytes.as_slice(), out),
+        Data::Buffer(buffer) => put_buffer(alloc, buffer.get(), out),
         Data::Package { count, elements } => {
             put_package(alloc, *count, elements.as_slice(), depth - 1, out)
         }
-        Data::VarPackage { count, elements } => {
-            put_var_package(alloc, *count, elements.as_slice(), depth - 1, out)
-        }
-        Data::Path(path) => encode_name(alloc, path, out),
+        Data::VarPackage(counted) => put_var_package(alloc, counted.get(), depth - 1, out),
+        Data::Path(path) => encode_name(alloc, path.get(), out),
     }
 }
 
@@ -90,23 +94,18 @@ fn put_package(
 #[tactic(auto, using(crate::proofs::Appending::appending))]
 fn put_var_package(
     alloc: Global,
-    count: u64,
-    elements: &[Data],
+    counted: &Counted<Data>,
     depth: u32,
     out: &mut Vec<u8>,
 ) -> Result<(), Memory>
-    requires within { AllByRecursion (IsWritableWithin depth) elements.now }
-    requires short { length (written (Data.VarPackage count elements.now)) < 2 ^ 28 }
-    ensures { Appends out.old.items out.new.items
-        (written (Data.VarPackage count elements.now)) (is_ok result) }
+    requires within { AllByRecursion (IsWritableWithin depth) counted.now.elements }
+    requires short { length (written (Data.VarPackage counted.now)) < 2 ^ 28 }
+    ensures { Appends out.old.items out.new.items (written (Data.VarPackage counted.now)) (is_ok result) }
 {
-    put_head(
-        alloc,
-        0x13,
-        constant_len(count) + elements_len(elements, depth),
-        out,
-    )?;
-    encode_constant(alloc, count, out)?;
+    let elements = counted.elements.as_slice();
+    let content = constant_len(counted.count) + elements_len(elements, depth);
+    put_head(alloc, 0x13, content, out)?;
+    encode_constant(alloc, counted.count, out)?;
     put_elements(alloc, elements, depth, out)
 }
 

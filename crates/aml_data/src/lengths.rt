@@ -5,7 +5,7 @@ ghost use Rattle.aml_data.specs.Written.{written, written_constant, written_leng
 ghost use Rattle.aml_data.specs.Written.{written_prefix, written_name};
 ghost use Rattle.aml_data.specs.Written.{IsWritable, IsWritablePath, IsWritableWithin};
 
-use crate::data::Data;
+use crate::data::{Buffer, Data};
 use crate::path::Path;
 
 /// No object of so many bytes or more can be written, since its PkgLength couldn't count them
@@ -72,6 +72,14 @@ fn sized_len(content: u64) -> u64
     TOO_LONG.min(1 + length_len(content) + content)
 }
 
+/// How many bytes the written form of a buffer has, counted up to `TOO_LONG`.
+#[tactic(auto, using(crate::proofs::WrittenLengths::lengths))]
+fn buffer_len(buffer: &Buffer) -> u64
+    ensures { result ≡ min (2 ^ 28) (length (written (Data.Buffer buffer.now))) }
+{
+    sized_len(constant_len(buffer.size) + buffer.bytes.as_slice().len() as u64)
+}
+
 /// How many bytes the written form of an object has, counted up to `TOO_LONG`. Most elements are
 /// integers, which take no further call.
 #[cycle(lengths)]
@@ -99,16 +107,16 @@ fn any_len(value: &Data, depth: u32) -> u64
         Data::Ones => 1,
         Data::Revision => 2,
         Data::Text(text) => TOO_LONG.min(text.as_slice().len() as u64 + 2),
-        Data::Buffer { size, bytes } => {
-            sized_len(constant_len(*size) + bytes.as_slice().len() as u64)
-        }
+        Data::Buffer(buffer) => buffer_len(buffer.get()),
         Data::Package { elements, .. } => {
             sized_len(1 + elements_len(elements.as_slice(), depth - 1))
         }
-        Data::VarPackage { count, elements } => {
-            sized_len(constant_len(*count) + elements_len(elements.as_slice(), depth - 1))
+        Data::VarPackage(counted) => {
+            let counted = counted.get();
+            let elements = counted.elements.as_slice();
+            sized_len(constant_len(counted.count) + elements_len(elements, depth - 1))
         }
-        Data::Path(path) => TOO_LONG.min(name_len(path)),
+        Data::Path(path) => TOO_LONG.min(name_len(path.get())),
     }
 }
 

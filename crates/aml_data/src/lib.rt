@@ -21,7 +21,7 @@ mod writing;
 
 pub use bytes::byte_of;
 pub use constant::constant_of;
-pub use data::{Data, Width, copy_data};
+pub use data::{Buffer, Counted, Data, Width, copy_data};
 pub use decoding::{decode, decode_constant, decode_length, decode_name};
 pub use encoding::encode;
 pub use fault::DataFault;

@@ -31,9 +31,9 @@ pub fn integer(value: &Data, width: Width) -> Option<u64>
         Data::Ones => Some(all_ones(width)),
         Data::Revision => None,
         Data::Text(_) => None,
-        Data::Buffer { .. } => None,
+        Data::Buffer(_) => None,
         Data::Package { .. } => None,
-        Data::VarPackage { .. } => None,
+        Data::VarPackage(_) => None,
         Data::Path(_) => None,
     }
 }

@@ -54,7 +54,7 @@ fn buffer_of(alloc: Global, bytes: &[u8], end: usize) -> Result<(Data, &[u8]), D
     let (inside, after) = window_of(bytes, end)?;
     let (size, content) = constant_of(inside, end - after.len())?;
     let bytes = List::from_slice(alloc, content)?;
-    Ok((Data::Buffer { size, bytes }, after))
+    Ok((Data::buffer(alloc, size, bytes)?, after))
 }
 
 /// The package behind its lead byte, and the bytes after it. `depth` levels may be opened, its own among
@@ -107,7 +107,7 @@ fn var_package_of(
     let end = end - after.len();
     let (count, inside) = constant_of(inside, end)?;
     let elements = elements_of(alloc, inside, end, count, depth - 1)?;
-    Ok((Data::VarPackage { count, elements }, after))
+    Ok((Data::var_package(alloc, count, elements)?, after))
 }
 
 /// How much room is taken at first for the elements of a package: as much as its count says where they
@@ -173,7 +173,7 @@ fn object_within(
         [lead, ..] => {
             if begins_name(*lead) {
                 let (path, rest) = name_of(alloc, bytes, end)?;
-                return Ok((Data::Path(path), rest));
+                return Ok((Data::path(alloc, path)?, rest));
             }
             let (number, rest) = constant_of(bytes, end)?;
             Ok((Data::Int(number), rest))

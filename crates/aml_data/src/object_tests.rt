@@ -76,14 +76,16 @@ fn buffers(rt: HostRuntime) -> Result<(), Fail> {
         0x11, 0x0A, 0x0E, 0xFF, 0xFF, 0xFF, 0xFF, 0xFF, 0xFF, 0xFF, 0xFF,
     ];
     match decode(rt.alloc(), &bytes, 0)? {
-        (Data::Buffer { size, bytes }, 11) => {
-            assert!(rt; size == u64::MAX && bytes.as_slice().is_empty());
+        (Data::Buffer(buffer), 11) => {
+            let buffer = buffer.get();
+            assert!(rt; buffer.size == u64::MAX && buffer.bytes.as_slice().is_empty());
         }
         _ => return Err("the bytes are a buffer".into()),
     }
     match decode(rt.alloc(), &[0x11, 0x05, 0x0A, 0x02, 0x07, 0x08, 0x09], 0)? {
-        (Data::Buffer { size: 2, bytes }, 6) => {
-            assert_eq!(rt; bytes.as_slice(), [0x07, 0x08].as_slice());
+        (Data::Buffer(buffer), 6) => {
+            let buffer = buffer.get();
+            assert!(rt; buffer.size == 2 && buffer.bytes.as_slice() == [0x07, 0x08].as_slice());
             Ok(())
         }
         _ => Err("the bytes are a buffer and one byte".into()),
@@ -111,14 +113,10 @@ fn packages(rt: HostRuntime) -> Result<(), Fail> {
         _ => return Err("the bytes are an empty package".into()),
     }
     match decode(rt.alloc(), &[0x13, 0x06, 0x0B, 0x00, 0x01, 0xFF, 0x00], 0)? {
-        (
-            Data::VarPackage {
-                count: 256,
-                elements,
-            },
-            7,
-        ) => {
-            assert!(rt; matches!(elements.as_slice(), [Data::Ones, Data::Int(0)]));
+        (Data::VarPackage(counted), 7) => {
+            let counted = counted.get();
+            assert_eq!(rt; counted.count, 256);
+            assert!(rt; matches!(counted.elements.as_slice(), [Data::Ones, Data::Int(0)]));
             Ok(())
         }
         _ => Err("the bytes are a package of 256, two given".into()),
@@ -143,6 +141,7 @@ fn paths(rt: HostRuntime) -> Result<(), Fail> {
         assert_eq!(rt; n, bytes.len());
         match object {
             Data::Path(path) => {
+                let path = path.get();
                 assert!(rt; path.root && path.ups == 0);
                 assert!(rt; are_segs(path.segs.as_slice(), &[*b"_SB_", *b"CLU0"]));
             }

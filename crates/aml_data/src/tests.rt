@@ -155,17 +155,15 @@ fn copies(rt: HostRuntime) -> Result<(), Fail> {
 
     let bytes = List::from_vec(rt.alloc(), Vec::from_slice(rt.alloc(), &[1, 2])?)?;
     let mut elements = Vec::new(rt.alloc());
-    elements
-        .push(Data::Buffer { size: 3, bytes })
-        .ok()
-        .ok_or("memory")?;
-    elements.push(Data::Path(path)).ok().ok_or("memory")?;
+    elements.push(Data::buffer(rt.alloc(), 3, bytes)?)?;
+    elements.push(Data::path(rt.alloc(), path)?)?;
     let elements = List::from_vec(rt.alloc(), elements)?;
     let package = Data::Package { count: 2, elements };
     match copy_data(rt.alloc(), &package).ok().ok_or("memory")? {
         Data::Package { count: 2, elements } => match elements.as_slice() {
-            [Data::Buffer { size: 3, bytes }, Data::Path(path)] => {
-                assert_eq!(rt; bytes.as_slice(), [1, 2].as_slice());
+            [Data::Buffer(buffer), Data::Path(path)] => {
+                let (buffer, path) = (buffer.get(), path.get());
+                assert!(rt; buffer.size == 3 && buffer.bytes.as_slice() == [1, 2].as_slice());
                 assert!(rt; path.root && are_segs(path.segs.as_slice(), &[*b"_PPC"]));
                 Ok(())
             }

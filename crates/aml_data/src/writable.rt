@@ -78,12 +78,15 @@ fn is_within(value: &Data, depth: u32) -> bool
         Data::Ones => true,
         Data::Revision => true,
         Data::Text(text) => is_ascii(text.as_slice()),
-        Data::Buffer { size, .. } => is_number(*size),
+        Data::Buffer(buffer) => is_number(buffer.get().size),
         Data::Package { count, elements } => {
             are_elements(elements.as_slice(), count_of(*count), depth)
         }
-        Data::VarPackage { count, elements } => are_elements(elements.as_slice(), *count, depth),
-        Data::Path(path) => is_writable_path(path),
+        Data::VarPackage(counted) => {
+            let counted = counted.get();
+            are_elements(counted.elements.as_slice(), counted.count, depth)
+        }
+        Data::Path(path) => is_writable_path(path.get()),
     }
 }
 

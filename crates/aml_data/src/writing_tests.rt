@@ -108,17 +108,15 @@ fn written_text(rt: HostRuntime) -> Result<(), Fail> {
 #[test]
 fn written_path(rt: HostRuntime) -> Result<(), Fail> {
     let (path, _) = decode_name(rt.alloc(), b"\\\x2E_SB_CLU0", 0)?;
-    assert!(rt; object_is(rt.alloc(), &Data::Path(path), b"\\\x2E_SB_CLU0"));
+    let path = Data::path(rt.alloc(), path)?;
+    assert!(rt; object_is(rt.alloc(), &path, b"\\\x2E_SB_CLU0"));
     Ok(())
 }
 
 /// How many bytes a buffer of so many zeros is written in, if they begin so.
 fn buffer_len(alloc: Global, size: usize, front: &[u8]) -> Result<Option<usize>, Memory> {
     let bytes = List::from_vec(alloc, vec![in alloc; 0u8; size]?)?;
-    let buffer = Data::Buffer {
-        size: size as u64,
-        bytes,
-    };
+    let buffer = Data::buffer(alloc, size as u64, bytes)?;
     let mut out = Vec::new(alloc);
     if !is_writable(&buffer) {
         return Ok(None);
@@ -185,7 +183,7 @@ fn name_of_no_part(rt: HostRuntime) -> Result<(), Fail> {
         ups: 0,
         segs,
     };
-    assert!(rt; !is_writable(&Data::Path(path)));
+    assert!(rt; !is_writable(&Data::path(rt.alloc(), path)?));
     Ok(())
 }
 

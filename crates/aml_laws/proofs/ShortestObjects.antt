@@ -3,7 +3,8 @@ use Rattle.std.proofs.Common.{◌≡◌, ◌+◌, ◌-◌, ◌<◌, ◌≤◌, �
 use Rattle.std.specs.List.{AllByRecursion}
 use Rattle.aml_data.specs.declared.data.Data.{Data, Data-F, out-Data, roll-Data, roll-out-Data}
 use Rattle.aml_data.specs.declared.data.Data.TheOpen as layer
-use Rattle.aml_data.specs.declared.data.Data.TheVariants.{Int, Ones, Revision, Text, Buffer, Package, VarPackage, Path as at_path}
+use Rattle.aml_data.specs.declared.data.Data.TheVariants.{Int, Ones, Revision, Text, Package, Path as at_path}
+use Rattle.aml_data.specs.Objects.{Buffer, VarPackage}
 use Rattle.aml_data.specs.declared.data.Data.TheViews.{rolls-Int, rolls-Ones, rolls-Revision, rolls-Text, rolls-Buffer, rolls-Package, rolls-VarPackage, rolls-Path}
 use Rattle.aml_data.specs.declared.path.Path.{Path}
 use Rattle.aml_data.specs.Segment.{joined}
@@ -130,11 +131,11 @@ leaf_spelled (layer.Int n) = at_roll zero (layer.Int n) (Int n) (rolls-Int n) (i
 leaf_spelled layer.Ones = at_roll zero layer.Ones Ones rolls-Ones (ones_spelled zero)
 leaf_spelled layer.Revision = at_roll zero layer.Revision Revision rolls-Revision (revision_spelled zero)
 leaf_spelled (layer.Text t) = at_roll zero (layer.Text t) (Text t) (rolls-Text t) (text_spelled zero t)
-leaf_spelled (layer.Buffer size bytes) = at_roll zero (layer.Buffer size bytes) (Buffer size bytes) (rolls-Buffer size bytes) (buffer_spelled zero size bytes)
+leaf_spelled (layer.Buffer b) = at_roll zero (layer.Buffer b) (Buffer b.size b.bytes) (rolls-Buffer b) (buffer_spelled zero b.size b.bytes)
 leaf_spelled (layer.Package count vs) = at_roll zero (layer.Package count vs) (Package count vs) (rolls-Package count vs)
     (λ within short. absurd (let some = (nested-Package zero count vs within).some in omega arith))
-leaf_spelled (layer.VarPackage count vs) = at_roll zero (layer.VarPackage count vs) (VarPackage count vs) (rolls-VarPackage count vs)
-    (λ within short. absurd (let some = (nested-VarPackage zero count vs within).some in omega arith))
+leaf_spelled (layer.VarPackage c) = at_roll zero (layer.VarPackage c) (VarPackage c.count c.elements) (rolls-VarPackage c)
+    (λ within short. absurd (let some = (nested-VarPackage zero c.count c.elements within).some in omega arith))
 leaf_spelled (layer.Path path) = at_roll zero (layer.Path path) (at_path path) (rolls-Path path) (path_spelled zero path)
 
 -- an object by its layer, whose elements are spelled
@@ -143,11 +144,11 @@ layer_spelled depth inner (layer.Int n) = at_roll (suc depth) (layer.Int n) (Int
 layer_spelled depth inner layer.Ones = at_roll (suc depth) layer.Ones Ones rolls-Ones (ones_spelled (suc depth))
 layer_spelled depth inner layer.Revision = at_roll (suc depth) layer.Revision Revision rolls-Revision (revision_spelled (suc depth))
 layer_spelled depth inner (layer.Text t) = at_roll (suc depth) (layer.Text t) (Text t) (rolls-Text t) (text_spelled (suc depth) t)
-layer_spelled depth inner (layer.Buffer size bytes) =
-    at_roll (suc depth) (layer.Buffer size bytes) (Buffer size bytes) (rolls-Buffer size bytes) (buffer_spelled (suc depth) size bytes)
+layer_spelled depth inner (layer.Buffer b) =
+    at_roll (suc depth) (layer.Buffer b) (Buffer b.size b.bytes) (rolls-Buffer b) (buffer_spelled (suc depth) b.size b.bytes)
 layer_spelled depth inner (layer.Package count vs) = at_roll (suc depth) (layer.Package count vs) (Package count vs) (rolls-Package count vs) (package_spelled depth inner count vs)
-layer_spelled depth inner (layer.VarPackage count vs) =
-    at_roll (suc depth) (layer.VarPackage count vs) (VarPackage count vs) (rolls-VarPackage count vs) (var_package_spelled depth inner count vs)
+layer_spelled depth inner (layer.VarPackage c) =
+    at_roll (suc depth) (layer.VarPackage c) (VarPackage c.count c.elements) (rolls-VarPackage c) (var_package_spelled depth inner c.count c.elements)
 layer_spelled depth inner (layer.Path path) = at_roll (suc depth) (layer.Path path) (at_path path) (rolls-Path path) (path_spelled (suc depth) path)
 
 pub object_spelled : (depth : ℕ) (v : Data) → IsSpelled depth v

@@ -1,6 +1,7 @@
 //! What every layer stands on: plain lists, want of memory, and the outside as traits.
 #![tactic(auto)]
 
+mod boxed;
 mod failure;
 mod files;
 mod gate;
@@ -13,6 +14,7 @@ mod std_files;
 mod std_sink;
 mod thin;
 
+pub use boxed::Boxed;
 pub use failure::{Failed, Memory};
 pub use files::Files;
 pub use gate::{Gate, OpenGate};

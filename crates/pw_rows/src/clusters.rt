@@ -132,7 +132,7 @@ fn bytes_of_clusters(alloc: Global) -> Result<Vec<u8>, Fail> {
 }
 
 fn bytes_list(alloc: Global, bytes: &[u8]) -> Result<List<u8>, Fail> {
-    Ok(List::from_vec(alloc, Vec::from_slice(alloc, bytes)?)?)
+    Ok(List::from_slice(alloc, bytes)?)
 }
 
 fn path_of(alloc: Global, root: bool, names: &[[u8; 4]]) -> Result<Path, Fail> {
@@ -203,10 +203,8 @@ fn register_of(alloc: Global, space: u8, width: u8, access: u8, address: u8) -> 
     let template = [
         0x82, 0x0C, 0x00, space, width, 0, access, address, 0, 0, 0, 0, 0, 0, 0, 0x79, 0x00,
     ];
-    Ok(Data::Buffer {
-        size: 17,
-        bytes: bytes_list(alloc, &template)?,
-    })
+    let bytes = bytes_list(alloc, &template)?;
+    Ok(Data::buffer(alloc, 17, bytes)?)
 }
 
 /// Appends a state of `_LPI`: its residency, latency and enabled parent state, how it is entered, its name.

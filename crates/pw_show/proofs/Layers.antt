@@ -3,7 +3,8 @@ use Rattle.std.proofs.Common.{◌≡◌, ℕ, List, ◌++◌, codes, decimal, ma
 use Rattle.std.specs.List.{flat_map}
 use Rattle.aml_data.specs.declared.data.Data.{Data, Data-F, map-Data, out-Data, fold_out-Data}
 use Rattle.aml_data.specs.declared.data.Data.TheOpen as layer
-use Rattle.aml_data.specs.declared.data.Data.TheVariants.{Int, Ones, Revision, Text, Buffer, Package, VarPackage, Path as at_path}
+use Rattle.aml_data.specs.declared.data.Data.TheVariants.{Int, Ones, Revision, Text, Package, Path as at_path}
+use Rattle.aml_data.specs.Objects.{buffer_of, Buffer, counted_of, VarPackage}
 use Rattle.aml_data.specs.declared.data.Data.TheViews.{outs-Int, outs-Ones, outs-Revision, outs-Text, outs-Buffer, outs-Package, outs-VarPackage, outs-Path}
 use Rattle.aml_data.specs.declared.path.Path.{Path}
 use Rattle.pw_text.specs.Text.{path_text}
@@ -26,13 +27,13 @@ pub value_text-Text : (t : List ℕ) → value_text (Text t) ≡ codes "\"" ++ f
 value_text-Text t = value_text-layer (Text t) (layer.Text t) (outs-Text t)
 
 pub value_text-Buffer : (size : ℕ) (bytes : List ℕ) → value_text (Buffer size bytes) ≡ braced (codes "Buffer(") size (separated (codes " ") (map hex_pair bytes))
-value_text-Buffer size bytes = value_text-layer (Buffer size bytes) (layer.Buffer size bytes) (outs-Buffer size bytes)
+value_text-Buffer size bytes = value_text-layer (Buffer size bytes) (layer.Buffer (buffer_of size bytes)) (outs-Buffer (buffer_of size bytes))
 
 pub value_text-Package : (count : ℕ) (vs : List Data) → value_text (Package count vs) ≡ braced (codes "Package(") count (separated (codes ", ") (map value_text vs))
 value_text-Package count vs = value_text-layer (Package count vs) (layer.Package count vs) (outs-Package count vs)
 
 pub value_text-VarPackage : (count : ℕ) (vs : List Data) → value_text (VarPackage count vs) ≡ braced (codes "VarPackage(") count (separated (codes ", ") (map value_text vs))
-value_text-VarPackage count vs = value_text-layer (VarPackage count vs) (layer.VarPackage count vs) (outs-VarPackage count vs)
+value_text-VarPackage count vs = value_text-layer (VarPackage count vs) (layer.VarPackage (counted_of count vs)) (outs-VarPackage (counted_of count vs))
 
 pub value_text-Path : (path : Path) → value_text (at_path path) ≡ path_text path
 value_text-Path path = value_text-layer (at_path path) (layer.Path path) (outs-Path path)

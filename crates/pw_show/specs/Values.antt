@@ -35,9 +35,9 @@ value_layer (layer.Int n) = decimal n
 value_layer layer.Ones = codes "Ones"
 value_layer layer.Revision = codes "Revision"
 value_layer (layer.Text text) = codes "\"" ++ flat_map escaped text ++ codes "\""
-value_layer (layer.Buffer size bytes) = braced (codes "Buffer(") size (separated (codes " ") (map hex_pair bytes))
+value_layer (layer.Buffer buffer) = braced (codes "Buffer(") buffer.size (separated (codes " ") (map hex_pair buffer.bytes))
 value_layer (layer.Package count elements) = braced (codes "Package(") count (separated (codes ", ") elements)
-value_layer (layer.VarPackage count elements) = braced (codes "VarPackage(") count (separated (codes ", ") elements)
+value_layer (layer.VarPackage counted) = braced (codes "VarPackage(") counted.count (separated (codes ", ") counted.elements)
 value_layer (layer.Path path) = path_text path
 
 -- an object

@@ -35,45 +35,47 @@ fn shown(alloc: Global, value: &Data) -> Result<MemorySink, Fail> {
     Ok(sink)
 }
 
+/// Whether this is the text of an object.
+fn is_shown(alloc: Global, value: Data, text: &[u8]) -> Result<bool, Fail> {
+    let sink = shown(alloc, &value)?;
+    Ok(sink.written() == text)
+}
+
 #[test]
 fn plain_values(rt: HostRuntime) -> Result<(), Fail> {
-    let alloc = rt.alloc();
-    let rows: [(Data, &[u8]); 9] = [
-        (Data::Int(18446744073709551615), b"18446744073709551615"),
-        (Data::Ones, b"Ones"),
-        (Data::Revision, b"Revision"),
-        (Data::Text(bytes_of(alloc, b"ACPI0007")?), b"\"ACPI0007\""),
-        (
-            Data::Text(bytes_of(alloc, &[0x22, 0x5C, 0x01, 0x7F, 0x1F, 0x20, 0x7E])?),
-            b"\"\\\"\\\\\\x01\\x7F\\x1F ~\"",
-        ),
-        (
-            Data::Buffer {
-                size: 2,
-                bytes: bytes_of(alloc, &[0x01, 0x02])?,
-            },
-            b"Buffer(2) {01 02}",
-        ),
-        (
-            Data::Buffer {
-                size: 0,
-                bytes: bytes_of(alloc, &[])?,
-            },
-            b"Buffer(0) {}",
-        ),
-        (
-            Data::Path(path_of(alloc, true, 0, &[*b"_SB_", *b"CLU0"])?),
-            b"\\_SB_.CLU0",
-        ),
-        (
-            Data::Path(path_of(alloc, false, 2, &[*b"_PPC"])?),
-            b"^^_PPC",
-        ),
-    ];
-    for (value, text) in &rows {
-        let sink = shown(alloc, value)?;
-        assert_eq!(rt; sink.written(), *text);
-    }
+    let most = Data::Int(18446744073709551615);
+    assert!(rt; is_shown(rt.alloc(), most, b"18446744073709551615")?);
+    assert!(rt; is_shown(rt.alloc(), Data::Ones, b"Ones")?);
+    assert!(rt; is_shown(rt.alloc(), Data::Revision, b"Revision")?);
+    Ok(())
+}
+
+#[test]
+fn strings(rt: HostRuntime) -> Result<(), Fail> {
+    let plain = Data::Text(bytes_of(rt.alloc(), b"ACPI0007")?);
+    assert!(rt; is_shown(rt.alloc(), plain, b"\"ACPI0007\"")?);
+    let bytes = [0x22, 0x5C, 0x01, 0x7F, 0x1F, 0x20, 0x7E];
+    let escaped = Data::Text(bytes_of(rt.alloc(), &bytes)?);
+    assert!(rt; is_shown(rt.alloc(), escaped, b"\"\\\"\\\\\\x01\\x7F\\x1F ~\"")?);
+    Ok(())
+}
+
+#[test]
+fn buffers(rt: HostRuntime) -> Result<(), Fail> {
+    let two = Data::buffer(rt.alloc(), 2, bytes_of(rt.alloc(), &[0x01, 0x02])?)?;
+    assert!(rt; is_shown(rt.alloc(), two, b"Buffer(2) {01 02}")?);
+    let none = Data::buffer(rt.alloc(), 0, bytes_of(rt.alloc(), &[])?)?;
+    assert!(rt; is_shown(rt.alloc(), none, b"Buffer(0) {}")?);
+    Ok(())
+}
+
+#[test]
+fn paths(rt: HostRuntime) -> Result<(), Fail> {
+    let rooted = path_of(rt.alloc(), true, 0, &[*b"_SB_", *b"CLU0"])?;
+    let rooted = Data::path(rt.alloc(), rooted)?;
+    assert!(rt; is_shown(rt.alloc(), rooted, b"\\_SB_.CLU0")?);
+    let above = Data::path(rt.alloc(), path_of(rt.alloc(), false, 2, &[*b"_PPC"])?)?;
+    assert!(rt; is_shown(rt.alloc(), above, b"^^_PPC")?);
     Ok(())
 }
 
@@ -100,10 +102,7 @@ fn packages(rt: HostRuntime) -> Result<(), Fail> {
             b"Package(3) {}",
         ),
         (
-            Data::VarPackage {
-                count: 1,
-                elements: elements_of(alloc, [Data::Int(1)])?,
-            },
+            Data::var_package(alloc, 1, elements_of(alloc, [Data::Int(1)])?)?,
             b"VarPackage(1) {1}",
         ),
         (

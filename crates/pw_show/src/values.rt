@@ -20,7 +20,10 @@ pub fn put_value<K: Sink>(page: &mut Page, sink: &mut K, value: &Data) -> Result
         Data::Ones => page.put(sink, b"Ones"),
         Data::Revision => page.put(sink, b"Revision"),
         Data::Text(text) => put_string(page, sink, text.as_slice()),
-        Data::Buffer { size, bytes } => put_buffer(page, sink, *size, bytes.as_slice()),
+        Data::Buffer(buffer) => {
+            let buffer = buffer.get();
+            put_buffer(page, sink, buffer.size, buffer.bytes.as_slice())
+        }
         Data::Package { count, elements } => {
             put_package(
                 page,
@@ -30,10 +33,12 @@ pub fn put_value<K: Sink>(page: &mut Page, sink: &mut K, value: &Data) -> Result
                 elements.as_slice(),
             )
         }
-        Data::VarPackage { count, elements } => {
-            put_package(page, sink, b"VarPackage(", *count, elements.as_slice())
+        Data::VarPackage(counted) => {
+            let counted = counted.get();
+            let elements = counted.elements.as_slice();
+            put_package(page, sink, b"VarPackage(", counted.count, elements)
         }
-        Data::Path(path) => put_path(page, sink, path),
+        Data::Path(path) => put_path(page, sink, path.get()),
     }
 }
 

@@ -141,7 +141,7 @@ fn changed(cases: &[Case], outer: u32, inner: u32) -> Option<Part> {
 }
 
 fn list(alloc: Global, bytes: &[u8]) -> Result<List<u8>, Fail> {
-    Ok(List::from_vec(alloc, Vec::from_slice(alloc, bytes)?)?)
+    Ok(List::from_slice(alloc, bytes)?)
 }
 
 /// A buffer of this size, with so many first bytes of the template, the last of 17 being this one.
@@ -152,10 +152,8 @@ fn buffer(alloc: Global, size: u64, count: usize, last: u8) -> Result<Data, Fail
     for byte in template.iter().take(count) {
         bytes.push(*byte)?;
     }
-    Ok(Data::Buffer {
-        size,
-        bytes: List::from_vec(alloc, bytes)?,
-    })
+    let bytes = List::from_vec(alloc, bytes)?;
+    Ok(Data::buffer(alloc, size, bytes)?)
 }
 
 fn data_of(alloc: Global, part: Part) -> Result<Data, Fail> {
@@ -177,10 +175,8 @@ fn package(alloc: Global, elements: Vec<Data>, variable: bool) -> Result<Data, F
         return Err("too many elements".into());
     }
     if variable {
-        return Ok(Data::VarPackage {
-            count: 200,
-            elements: List::from_vec(alloc, elements)?,
-        });
+        let elements = List::from_vec(alloc, elements)?;
+        return Ok(Data::var_package(alloc, 200, elements)?);
     }
     Ok(package_object(alloc, elements)?)
 }

@@ -1,6 +1,6 @@
 use Rattle.std.proofs.Common.{◌<◌, ◌^◌, true, [], ◌∷◌, map, take, length, is_ok, ap, sym, subst, ◌∙◌, arith}
 use Rattle.aml_data.specs.declared.data.Data.{Data}
-use Rattle.aml_data.specs.declared.data.Data.TheVariants.{Package, VarPackage}
+use Rattle.aml_data.specs.declared.data.Data.TheVariants.{Package}
 use Rattle.aml_data.specs.Segment.{joined}
 use Rattle.aml_data.specs.Written.{written, written_constant, written_name, IsWritableWithin}
 use Rattle.aml_data.proofs.Appending.{Appends-exact, Appends-sized, Appends-then, joined_map-take-suc}
@@ -41,19 +41,19 @@ put_object-put_package-requires t c =
 
 pub put_object-overflow_sub-depth-in-VarPackage : goal.put_object-overflow_sub-depth-in-VarPackage
 put_object-overflow_sub-depth-in-VarPackage t c =
-    let parts = var_package_parts c.args.depth c.in-VarPackage.count c.in-VarPackage.elements c.args.value.now c.in-VarPackage.is c.requires.within in omega arith
+    let parts = var_package_parts c.args.depth c.in-VarPackage.counted.count c.in-VarPackage.counted.elements c.args.value.now c.in-VarPackage.is c.requires.within in omega arith
 
 pub put_object-put_var_package-requires : goal.put_object-put_var_package-requires
 put_object-put_var_package-requires t c =
-    let parts = var_package_parts c.args.depth c.in-VarPackage.count c.in-VarPackage.elements c.args.value.now c.in-VarPackage.is c.requires.within in
-    let is = c.in-VarPackage.is ∙ ap (VarPackage c.in-VarPackage.count) (sym c.as_slice-in-VarPackage.ensures) in
-    (omega arith, (rw c.as_slice-in-VarPackage.ensures parts.inner, subst (λ (v : Data). length (written v) < 2 ^ 28) is c.requires.short))
+    let counted = c.in-VarPackage.counted in
+    let parts = var_package_parts c.args.depth counted.count counted.elements c.args.value.now c.in-VarPackage.is c.requires.within in
+    rw c.get-in-VarPackage.ensures (omega arith, (parts.inner, subst (λ (v : Data). length (written v) < 2 ^ 28) c.in-VarPackage.is c.requires.short))
 
 pub put_object-encode_name-requires-clause-few : goal.put_object-encode_name-requires-clause-few
-put_object-encode_name-requires-clause-few t c = (path_parts c.args.depth c.in-Path.path c.args.value.now c.in-Path.is c.requires.within).0.few
+put_object-encode_name-requires-clause-few t c = rw c.get-in-Path.ensures ((path_parts c.args.depth c.in-Path.path c.args.value.now c.in-Path.is c.requires.within).0.few)
 
 pub put_object-encode_name-requires-clause-no_ups : goal.put_object-encode_name-requires-clause-no_ups
-put_object-encode_name-requires-clause-no_ups t c = (path_parts c.args.depth c.in-Path.path c.args.value.now c.in-Path.is c.requires.within).0.no_ups
+put_object-encode_name-requires-clause-no_ups t c = rw c.get-in-Path.ensures ((path_parts c.args.depth c.in-Path.path c.args.value.now c.in-Path.is c.requires.within).0.no_ups)
 
 pub put_object-returns-in-Int : goal.put_object-returns-in-Int
 put_object-returns-in-Int t c =
@@ -62,8 +62,8 @@ put_object-returns-in-Int t c =
 
 pub put_object-returns-in-Path : goal.put_object-returns-in-Path
 put_object-returns-in-Path t c =
-    rw (c.in-Path.is, written-Path c.in-Path.path)
-    (Appends-exact c.args.out.now.items c.encode_name.new.out.items (written_name c.in-Path.path) c.encode_name.result c.encode_name.ensures.ok c.encode_name.ensures.err)
+    rw (c.in-Path.is, written-Path c.in-Path.path, ← c.get-in-Path.ensures)
+    (Appends-exact c.args.out.now.items c.encode_name.new.out.items (written_name c.get-in-Path.result.now) c.encode_name.result c.encode_name.ensures.ok c.encode_name.ensures.err)
 
 -- ---- packages
 
@@ -85,18 +85,21 @@ put_package-returns t c =
 
 pub put_var_package-put_head-requires : goal.put_var_package-put_head-requires
 put_var_package-put_head-requires t c =
-    (var_package_content c.args.count c.constant_len.result c.elements_len.result c.args.elements.now c.requires.short c.constant_len.ensures c.elements_len.ensures).fits
+    let counted = c.args.counted.now in
+    (var_package_content counted.count c.constant_len.result c.elements_len.result counted.elements c.requires.short c.constant_len.ensures (rw c.as_slice-elements.ensures at c.elements_len.ensures)).fits
 
 pub put_var_package-put_elements-requires : goal.put_var_package-put_elements-requires
 put_var_package-put_elements-requires t c =
-    let content = var_package_content c.args.count c.constant_len.result c.elements_len.result c.args.elements.now c.requires.short c.constant_len.ensures c.elements_len.ensures in
-    (omega arith, (c.requires.within, content.part))
+    let counted = c.args.counted.now in
+    let content = var_package_content counted.count c.constant_len.result c.elements_len.result counted.elements c.requires.short c.constant_len.ensures (rw c.as_slice-elements.ensures at c.elements_len.ensures) in
+    rw c.as_slice-elements.ensures (omega arith, (c.requires.within, content.part))
 
 pub put_var_package-returns : goal.put_var_package-returns
 put_var_package-returns t c =
-    let count = written_constant c.args.count in
-    let elements = joined (map written c.args.elements.now) in
-    let content = var_package_content c.args.count c.constant_len.result c.elements_len.result c.args.elements.now c.requires.short c.constant_len.ensures c.elements_len.ensures in
-    rw (written-VarPackage c.args.count c.args.elements.now)
+    let counted = c.args.counted.now in
+    let count = written_constant counted.count in
+    let elements = joined (map written counted.elements) in
+    let content = var_package_content counted.count c.constant_len.result c.elements_len.result counted.elements c.requires.short c.constant_len.ensures (rw c.as_slice-elements.ensures at c.elements_len.ensures) in
+    rw (written-VarPackage counted.count counted.elements)
     (Appends-sized c.args.out.now.items c.put_head.new.out.items c.encode_constant.new.out.items c.put_elements.new.out.items count elements 19 _ (is_ok c.put_elements.result)
-    content.is c.in_ok-put_head.ensures c.in_ok-encode_constant.ensures.ok c.put_elements.ensures)
+    content.is c.in_ok-put_head.ensures c.in_ok-encode_constant.ensures.ok (rw c.as_slice-elements.ensures at c.put_elements.ensures))

@@ -31,12 +31,12 @@ any_len-elements_len-requires t c =
 
 pub any_len-overflow_sub-depth-in-VarPackage : goal.any_len-overflow_sub-depth-in-VarPackage
 any_len-overflow_sub-depth-in-VarPackage t c =
-    let parts = var_package_parts c.args.depth c.in-VarPackage.count c.in-VarPackage.elements c.args.value.now c.in-VarPackage.is c.requires in omega arith
+    let parts = var_package_parts c.args.depth c.in-VarPackage.counted.count c.in-VarPackage.counted.elements c.args.value.now c.in-VarPackage.is c.requires in omega arith
 
 pub any_len-elements_len-requires-in-VarPackage : goal.any_len-elements_len-requires-in-VarPackage
 any_len-elements_len-requires-in-VarPackage t c =
-    let parts = var_package_parts c.args.depth c.in-VarPackage.count c.in-VarPackage.elements c.args.value.now c.in-VarPackage.is c.requires in
-    (omega arith, rw c.as_slice-in-VarPackage.ensures parts.inner)
+    let parts = var_package_parts c.args.depth c.in-VarPackage.counted.count c.in-VarPackage.counted.elements c.args.value.now c.in-VarPackage.is c.requires in
+    (omega arith, rw (c.as_slice-elements.ensures, c.get-counted.ensures) parts.inner)
 
 pub any_len-name_len-requires : goal.any_len-name_len-requires
-any_len-name_len-requires t c = (path_parts c.args.depth c.in-Path.path c.args.value.now c.in-Path.is c.requires).0
+any_len-name_len-requires t c = rw c.get-in-Path.ensures ((path_parts c.args.depth c.in-Path.path c.args.value.now c.in-Path.is c.requires).0)

@@ -16,7 +16,7 @@ is_within-returns-in-Text t c = rw (c.in-Text.is, within-Text c.args.depth c.in-
 
 pub is_within-returns-in-Buffer : goal.is_within-returns-in-Buffer
 is_within-returns-in-Buffer t c =
-    rw (c.in-Buffer.is, within-Buffer c.args.depth c.in-Buffer.size c.in-Buffer.bytes) (λ _. c.is_number-in-Buffer.ensures.bound, λ _. c.is_number-in-Buffer.ensures.value)
+    rw (c.in-Buffer.is, within-Buffer c.args.depth c.in-Buffer.buffer.size c.in-Buffer.buffer.bytes, ← c.get.ensures) (λ _. c.is_number-in-Buffer.ensures.bound, λ _. c.is_number-in-Buffer.ensures.value)
 
 pub is_within-returns-in-Package : goal.is_within-returns-in-Package
 is_within-returns-in-Package t c =
@@ -25,8 +25,8 @@ is_within-returns-in-Package t c =
 
 pub is_within-returns-in-VarPackage : goal.is_within-returns-in-VarPackage
 is_within-returns-in-VarPackage t c =
-    var_package_passes c.args.depth c.in-VarPackage.count c.in-VarPackage.elements c.args.value.now c.are_elements-in-VarPackage.result c.in-VarPackage.is
-    (rw c.as_slice-in-VarPackage.ensures at c.are_elements-in-VarPackage.ensures)
+    var_package_passes c.args.depth c.in-VarPackage.counted.count c.in-VarPackage.counted.elements c.args.value.now c.are_elements-in-VarPackage.result c.in-VarPackage.is
+    (rw (c.as_slice-in-VarPackage.ensures, c.get-counted.ensures) at c.are_elements-in-VarPackage.ensures)
 
 pub is_within-returns-in-Path : goal.is_within-returns-in-Path
-is_within-returns-in-Path t c = rw (c.in-Path.is, within-Path c.args.depth c.in-Path.path) c.is_writable_path.ensures
+is_within-returns-in-Path t c = rw (c.in-Path.is, within-Path c.args.depth c.in-Path.path, ← c.get-in-Path.ensures) c.is_writable_path.ensures

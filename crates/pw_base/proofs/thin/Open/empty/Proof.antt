@@ -35,7 +35,7 @@ use Rattle.core.proofs.slots.Opens.{words_val, row_val, row_had, row_made}
 use Rattle.core.proofs.slots.Runs.{to_space}
 use Rattle.core.proofs.slots.Slots.into_raw_parts.Met as callee
 use Rattle.pw_base.proofs.ThinBlocks.{slot_at, then_runs, out_of_block, owner_val, owner_own, owner_told, owner_made, block_glue, fit_out, fit_in}
-use Rattle.pw_base.specs.Block.{Fits, block_type, elements_type, way_back, open_owns}
+use Rattle.pw_base.specs.Block.{Fits, block_type, way_back, open_owns}
 use Rattle.pw_base.specs.contracts.thin.Space as space
 use Rattle.pw_base.specs.contracts.thin.Open.empty.{ended, clauses}
 use Rattle.pw_base.specs.contracts.thin.Open.empty.Key.{name as #self}
