@@ -37,6 +37,19 @@ fn lists_nest_and_may_be_long(rt: HostRuntime) -> Result<(), Fail> {
     Ok(())
 }
 
+// Whether a value and a `&` to it may go to another thread.
+fn may_cross<T: Send + Sync>(_value: &T) {}
+
+#[test]
+fn lists_and_boxes_cross_threads(rt: HostRuntime) -> Result<(), Fail> {
+    let bytes = List::from_slice(rt.alloc(), &[1u8, 2])?;
+    may_cross(&bytes);
+    let lists = List::from_vec(rt.alloc(), vec![in rt.alloc(); bytes]?)?;
+    may_cross(&lists);
+    may_cross(&Boxed::new(rt.alloc(), lists)?);
+    Ok(())
+}
+
 #[test]
 fn room_fills_and_empties(rt: HostRuntime) -> Result<(), Fail> {
     let mut room = Room::new(rt.alloc(), 3)?;

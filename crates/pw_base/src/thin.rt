@@ -53,6 +53,11 @@ impl<T, A: Allocator> Model for Thin<T, A> {
     ghost also_shares = { λ t _ κ. thin_shares T.row t.ptr t.items κ };
 }
 
+// It may go to another thread as its elements may. A `&` to it reaches no right to free its block.
+unsafe impl<T: Send, A: Allocator + Send> Send for Thin<T, A> {}
+
+unsafe impl<T: Sync, A: Allocator> Sync for Thin<T, A> {}
+
 // The size and the alignment of an element. The borrow checker follows `size_of` of a type parameter
 // only in a product.
 fn measures<T>() -> (usize, usize)
