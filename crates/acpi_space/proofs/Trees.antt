@@ -121,7 +121,7 @@ child_there ns map at s k tree e =
     (omega (arith, size, is, within), ap (λ j. get_or (places_in ns) j []) is ∙ stands ∙ ap (λ (q : Key). below (places_in ns) q.0 q.1) (keyed no_name))
 
 -- a place is the root, or stands below one
-pub root_or_below : (ns : List Name) (map : BTreeMap Key ℕ) (k : ℕ) → IsTree ns map → k < length (places_in ns)
+root_or_below : (ns : List Name) (map : BTreeMap Key ℕ) (k : ℕ) → IsTree ns map → k < length (places_in ns)
     → (k ≡ 0) ⊎ ((i : ℕ) × (k ≡ i + 1) × (i < length ns) × ((get_or ns i no_name).above ≤ i)
     × (get_or (places_in ns) k [] ≡ below (places_in ns) (get_or ns i no_name).above (get_or ns i no_name).seg))
 root_or_below ns map zero tree l = inl refl

@@ -1,5 +1,5 @@
-ghost use Rattle.std.specs.Prelude.{◌≡◌, ◌≤◌, ◌<◌, length, get_or, Contains, IfOk, IfErr, MatchOption};
-ghost use Rattle.std.specs.List.{All};
+ghost use Rattle.std.specs.Prelude.{◌≡◌, ◌⊎◌, ◌≤◌, ◌<◌, length, get_or, Contains, IfOk, IfErr, MatchOption};
+ghost use Rattle.std.specs.List.{All, Any};
 ghost use Rattle.acpi_space.specs.Distinct.{IsDistinct};
 ghost use Rattle.acpi_space.specs.Namespace.{Entry as entry_of, dsdt_width, entries_in, places_of};
 ghost use Rattle.acpi_space.specs.Standing.{AreObjects, IsFaultIn, entry_from};
@@ -126,10 +126,15 @@ impl<'a> Space<'a> {
         self.tree.fill(placed.name, path);
     }
 
-    /// No full path of its objects has more segments: the number of its places. It takes no memory.
+    /// How many segments the longest full path of its objects has; 0 for no objects. It takes no memory.
     pub fn longest_path(&self) -> usize
-        ensures { All (λ (e : entry_of). length e.path ≤ result) self.now }
+        ensures bound { All (λ (e : entry_of). length e.path ≤ result) self.now }
+        ensures attained { (result ≡ 0) ⊎ Any (λ (e : entry_of). length e.path ≡ result) self.now }
     {
-        self.tree.deepest()
+        let mut longest = 0;
+        for placed in &self.placed {
+            longest = longest.max(self.tree.depth(placed.name));
+        }
+        longest
     }
 }

@@ -7,7 +7,6 @@ ghost use Rattle.acpi_space.specs.Places.{Place as place, opened, place_of, up};
 ghost use Rattle.acpi_space.specs.Trees.{below, IsAt, IsClosed, IsGrown};
 ghost use Rattle.acpi_space.specs.Trees.{IsNearest, IsNowhere, Knows, Reaches};
 ghost use Rattle.acpi_space.specs.Distinct.{IsDistinct};
-ghost use Rattle.std.specs.List.{All};
 
 use aml_data::{FullPath, Path, Seg};
 use pw_base::{List, Memory, Room};
@@ -257,11 +256,18 @@ impl Tree {
         path.reverse();
     }
 
-    /// No place has more segments. It takes no memory.
-    pub(crate) fn deepest(&self) -> usize
-        ensures { All (λ p. length p ≤ result) self.now }
+    /// How many segments a place has. It takes no memory.
+    pub(crate) fn depth(&self, at: usize) -> usize
+        requires { at < length self.now }
+        ensures { result ≡ length (get_or self.now at []) }
     {
-        self.names.len()
+        let mut here = at;
+        let mut depth = 0;
+        while let Some((above, _)) = self.above(here) {
+            here = above;
+            depth += 1;
+        }
+        depth
     }
 
     /// What holds of each tree.
