@@ -39,8 +39,8 @@ impl From<Failed> for FileFault {
 /// At least so many bytes are asked for at once, where as many may still come.
 const CHUNK: usize = 65_536;
 
-/// Makes room for a chunk behind the bytes that are filled, up to the limit. The buffer at least
-/// doubles, so that its growth costs no more than its bytes.
+/// Makes room for a chunk behind the bytes that are filled, up to the limit. No more is made, since it
+/// is filled with zeros first; the vector itself takes memory for more, so that it seldom moves.
 fn make_room(buffer: &mut Vec<u8>, filled: usize, limit: usize) -> Result<(), AllocError>
     requires within { filled ≤ vec_len buffer.old }
     requires bound { vec_len buffer.old ≤ limit }
@@ -54,7 +54,7 @@ fn make_room(buffer: &mut Vec<u8>, filled: usize, limit: usize) -> Result<(), Al
     if len == limit || len - filled >= CHUNK {
         return Ok(());
     }
-    buffer.resize((filled + CHUNK).max(2 * len).min(limit), 0)
+    buffer.resize((filled + CHUNK).min(limit), 0)
 }
 
 /// Reads more of a file into the room behind the bytes that are filled.
