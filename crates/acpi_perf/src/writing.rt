@@ -1,4 +1,4 @@
-ghost use Rattle.std.specs.Prelude.{◌≡◌, ◌≤◌, length, IfOk};
+ghost use Rattle.std.specs.Prelude.{◌≡◌, ◌≤◌, length, Ok, IfOk};
 ghost use Rattle.aml_data.specs.declared.data.Data.TheVariants.{Int as integer};
 ghost use Rattle.acpi_perf.specs.Written.{control_object, domain_object, pss_object, pss_row_object};
 ghost use Rattle.acpi_perf.specs.Written.{tss_object, tss_row_object};
@@ -70,9 +70,10 @@ pub fn write_control(alloc: Global, pair: &ControlPair) -> Result<Data, Memory>
     package_object(alloc, elements)
 }
 
-/// The object of `_PPC` or `_TPC` for this limit (ACPI 6.5, 8.4.5.3 and 8.4.4.3).
+/// The object of `_PPC` or `_TPC` for this limit (ACPI 6.5, 8.4.5.3 and 8.4.4.3). It takes no memory, and
+/// so it always succeeds.
 pub fn write_limit(_alloc: Global, limit: u32) -> Result<Data, Memory>
-    ensures { IfOk result (λ object. object ≡ integer limit) }
+    ensures { result ≡ Ok (integer limit) }
 {
     Ok(Data::Int(u64::from(limit)))
 }

@@ -118,6 +118,6 @@ pub(crate) fn unread_of(
     ensures shorter { IfOk result (λ x. length x.1.now < length bytes.now) }
 {
     let (body, rest) = window_of(bytes, end)?;
-    let body = List::from_vec(alloc, Vec::from_slice(alloc, body)?)?;
+    let body = List::from_slice(alloc, body)?;
     Ok((Term::Unread { opcode, body }, rest))
 }
