@@ -49,9 +49,11 @@ def main():
     subprocess.run([TOP / "pw", "show", TOP / "examples" / "ppc.aml"], stdout=subprocess.DEVNULL, check=True)
     handles = (TOP / "HANDLES").read_text()
     check(handles == "Handles allowed: Threads, Wait.\n", "HANDLES: not the one line that it is to hold")
-    readme = (TOP / "README.md").read_text()
+    claims = (TOP / "docs" / "CLAIMS.md").read_text()
     for name in crates():
-        check(re.search(rf"^\*\*`{name}`\*\*", readme, re.M), f"README.md: no paragraph that begins with **`{name}`**")
+        check(re.search(rf"^\*\*`{name}`\*\*", claims, re.M), f"docs/CLAIMS.md: no paragraph that begins with **`{name}`**")
+    size = (TOP / "README.md").stat().st_size
+    check(size <= 10_000, f"README.md: {size} bytes, more than 10,000")
     for path in documents():
         check(path.is_file(), f"{path.relative_to(TOP)}: missing")
         if not path.is_file():

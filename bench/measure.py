@@ -1,8 +1,8 @@
 """Measures `show` and `rewrite` of blocks: time, peak memory, bytes read and written, and growth.
 
 usage: measure.py PROGRAM [PLAIN]
-Times are the least of several runs, as the program's own processor time and as wall time. PLAIN is a program that
-rewrites in plain Rust: it is measured beside `rewrite`, and is to write the same bytes. A second table is of blocks of
+Times are the least of several runs, as the program's own processor time and as wall time. PLAIN is a program that shows
+and rewrites in plain Rust: it is measured beside each, and is to write the same bytes. A second table is of blocks of
 scopes and devices, with the time of `iasl -d` beside `show` where iasl is installed.
 """
 
@@ -190,12 +190,20 @@ def peak_memory(program, command, path):
     return int(done.stderr)
 
 
-def beside(plain, path, written):
-    """What the plain program takes for the same rewriting: milliseconds and peak KiB."""
-    runs = [run(plain, "rewrite", path) for _ in range(RUNS)]
+def beside(plain, command, path, written):
+    """What the plain program takes for the same: milliseconds and peak KiB."""
+    runs = [run(plain, command, path) for _ in range(RUNS)]
     if any(r[2] != written for r in runs):
-        raise SystemExit(f"{plain} writes other bytes")
-    return min(r[0] for r in runs) * 1e3, peak_memory(plain, "rewrite", path)
+        raise SystemExit(f"{plain} writes other bytes at {command}")
+    return min(r[0] for r in runs) * 1e3, peak_memory(plain, command, path)
+
+
+def plain_cells(plain, command, path, wall, written):
+    """The cells on the plain program: its milliseconds, how often that goes into ours, and its memory a byte."""
+    if not plain:
+        return ["", "", ""]
+    took, space = beside(plain, command, str(path), written)
+    return [f"{took:.1f}", f"{wall / took:.2f}", f"{space * 1024 / path.stat().st_size:.1f}" if space else ""]
 
 
 def row_of(cells):
@@ -217,7 +225,7 @@ def objects(program, plain):
         for command in ("show", "rewrite"):
             cases += [(command, f"{n} MiB of {what}", made(n << 20)) for n in (1, 2, 4)]
     heads = ["work", "block, bytes", "output, bytes", "time, ms", "processor, ms", "ns a byte", "peak memory, KiB", "memory a byte"]
-    heads += ["time against half", "plain Rust, ms", "plain Rust, memory a byte"]
+    heads += ["time against half", "plain Rust, ms", "against plain Rust", "plain Rust, memory a byte"]
     print(row_of(heads))
     print("|---" * len(heads) + "|")
     before = None
@@ -235,17 +243,12 @@ def objects(program, plain):
             a_byte = f"{wall * 1e6 / size:.0f}" if large else ""
             memory = f"{peak * 1024 / size:.1f}" if large and peak else ""
             row = [f"{command}, {name}", size, len(runs[0][2]), f"{wall:.1f}", f"{used:.1f}", a_byte, peak or "no GNU time", memory, growth]
-            if plain and command == "rewrite":
-                took, space = beside(plain, str(path), runs[0][2])
-                row += [f"{took:.1f}", f"{space * 1024 / size:.1f}" if space else ""]
-            else:
-                row += ["", ""]
-            print(row_of(row))
+            print(row_of(row + plain_cells(plain, command, path, wall, runs[0][2])), flush=True)
             before = wall
 
 
-def scopes(program):
-    """The table of blocks of scopes and devices. The output goes to the null device."""
+def scopes(program, plain):
+    """The table of blocks of scopes and devices. The output goes to the null device, but where the plain program is beside."""
     kinds = [
         ("devices of 64 names", tree, (1600, 3200, 6400)),
         ("names in one scope", one_scope, (62500, 125000, 250000)),
@@ -254,6 +257,7 @@ def scopes(program):
     ]
     heads = ["work", "block, bytes", "output, bytes", "time, ms", "processor, ms", "ns a byte in and out"]
     heads += ["peak memory, KiB", "memory a byte", "time against half", "iasl -d, ms"]
+    heads += ["plain Rust, ms", "against plain Rust", "plain Rust, memory a byte"]
     print(row_of(heads))
     print("|---" * len(heads) + "|")
     with tempfile.TemporaryDirectory() as folder:
@@ -271,15 +275,20 @@ def scopes(program):
                     row += [peak or "no GNU time", f"{peak * 1024 / size:.1f}" if peak else ""]
                     row += [f"{wall / before:.2f}" if before else ""]
                     told = disassembly(Path(folder), path) if command == "show" and made in (tree, performance) else None
-                    print(row_of(row + [f"{told:.0f}" if told else ""]), flush=True)
+                    row += [f"{told:.0f}" if told else ""]
+                    if output < 1 << 28:
+                        seen = [run(program, command, str(path)) for _ in range(RUNS)]
+                        row += plain_cells(plain, command, path, min(r[0] for r in seen) * 1e3, seen[0][2])
+                    print(row_of(row), flush=True)
                     before = wall
 
 
 def main():
     program = sys.argv[1]
-    objects(program, sys.argv[2] if len(sys.argv) > 2 else None)
+    plain = sys.argv[2] if len(sys.argv) > 2 else None
+    objects(program, plain)
     print()
-    scopes(program)
+    scopes(program, plain)
 
 
 main()

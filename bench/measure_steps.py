@@ -31,7 +31,7 @@ LOADS = {
 def run(program, size, load, steps):
     """Processor seconds of one run."""
     before = busy()
-    subprocess.run([program, str(size), load, str(steps)], stdout=subprocess.DEVNULL, check=True)
+    subprocess.run([program, load, str(size), str(steps)], stdout=subprocess.DEVNULL, check=True)
     return busy() - before
 
 

@@ -1,9 +1,12 @@
-//! What `rewrite` does to a block of Names, written once more in plain Rust with nothing proved: the
-//! measure of speed that bench/run sets beside the program. It reads a block whole into a tree, with
-//! every test of lengths, counts, names, depth and sum, and writes it in its shortest spelling.
-//! usage: plain rewrite FILE
+//! What `show` and `rewrite` do to a block of Names, Scopes and Devices, written once more in plain Rust
+//! with nothing proved: the measure of speed that bench/run sets beside the program. It reads a block
+//! whole into a tree, with every test of lengths, counts, names, depth and sum. `rewrite` writes it in its
+//! shortest spelling; `show` places its objects, none where one was placed before, and prints a line for
+//! each.
+//! usage: plain show|rewrite FILE
 
-use std::io::Write;
+use std::collections::HashMap;
+use std::io::{self, BufWriter, Write};
 
 type Seg = [u8; 4];
 type Read<'a, T> = Option<(T, &'a [u8])>;
@@ -143,21 +146,46 @@ fn object(bytes: &[u8], depth: u32) -> Read<'_, Data> {
     }
 }
 
-fn parse(block: &[u8]) -> Option<Vec<(Path, Data)>> {
+enum Term {
+    Name(Path, Data),
+    Scope(Path, Vec<Term>),
+    Device(Path, Vec<Term>),
+}
+
+fn terms(mut bytes: &[u8], depth: u32) -> Option<Vec<Term>> {
+    let mut terms = Vec::new();
+    loop {
+        let (term, rest) = match bytes {
+            [] => return Some(terms),
+            [8, rest @ ..] => {
+                let (path, rest) = name(rest)?;
+                let (value, rest) = object(rest, 32)?;
+                (Term::Name(path, value), rest)
+            }
+            [0x10, rest @ ..] => {
+                let (inside, after) = window(rest)?;
+                let (path, inside) = name(inside)?;
+                (Term::Scope(path, self::terms(inside, depth.checked_sub(1)?)?), after)
+            }
+            [0x5B, 0x82, rest @ ..] => {
+                let (inside, after) = window(rest)?;
+                let (path, inside) = name(inside)?;
+                (Term::Device(path, self::terms(inside, depth.checked_sub(1)?)?), after)
+            }
+            _ => return None,
+        };
+        terms.push(term);
+        bytes = rest;
+    }
+}
+
+fn parse(block: &[u8]) -> Option<Vec<Term>> {
     let length = u32::from_le_bytes(block.get(4..8)?.try_into().ok()?);
     let sum = block.iter().fold(0u8, |sum, b| sum.wrapping_add(*b));
     if length as usize != block.len() || sum != 0 {
         return None;
     }
-    let mut bytes = block.get(36..)?;
-    let mut terms = Vec::new();
-    while let [8, rest @ ..] = bytes {
-        let (path, rest) = name(rest)?;
-        let (value, rest) = object(rest, 32)?;
-        terms.push((path, value));
-        bytes = rest;
-    }
-    bytes.is_empty().then_some(terms)
+    terms(block.get(36..)?, 32)
 }
 
 fn constant_len(number: u64) -> usize {
@@ -275,27 +303,268 @@ fn put(value: &Data, out: &mut Vec<u8>) {
     }
 }
 
-fn written(block: &[u8], terms: &[(Path, Data)]) -> Vec<u8> {
-    let whole = 36 + terms.iter().map(|(path, value)| 1 + name_len(path) + object_len(value)).sum::<usize>();
+fn terms_len(terms: &[Term]) -> usize {
+    terms.iter().map(term_len).sum()
+}
+
+fn term_len(term: &Term) -> usize {
+    match term {
+        Term::Name(path, value) => 1 + name_len(path) + object_len(value),
+        Term::Scope(path, inside) => sized(name_len(path) + terms_len(inside)),
+        Term::Device(path, inside) => 1 + sized(name_len(path) + terms_len(inside)),
+    }
+}
+
+fn put_term(term: &Term, out: &mut Vec<u8>) {
+    let (lead, path, inside) = match term {
+        Term::Name(path, value) => {
+            out.push(8);
+            put_name(path, out);
+            return put(value, out);
+        }
+        Term::Scope(path, inside) => (0x10, path, inside),
+        Term::Device(path, inside) => {
+            out.push(0x5B);
+            (0x82, path, inside)
+        }
+    };
+    put_head(lead, name_len(path) + terms_len(inside), out);
+    put_name(path, out);
+    inside.iter().for_each(|term| put_term(term, out));
+}
+
+fn written(block: &[u8], terms: &[Term]) -> Vec<u8> {
+    let whole = 36 + terms_len(terms);
     let mut out = Vec::with_capacity(whole);
     out.extend_from_slice(&block[..36]);
     out[4..8].copy_from_slice(&(whole as u32).to_le_bytes());
     out[9] = 0;
-    for (path, value) in terms {
-        out.push(8);
-        put_name(path, &mut out);
-        put(value, &mut out);
-    }
+    terms.iter().for_each(|term| put_term(term, &mut out));
     out[9] = out.iter().fold(0u8, |sum, b| sum.wrapping_sub(*b));
     out
 }
 
+/// A place of the namespace: the place above it, and its last segment. The root is place 0.
+struct Place {
+    above: u32,
+    seg: Seg,
+    taken: bool,
+}
+
+enum Object<'a> {
+    Data(&'a Data),
+    Device,
+}
+
+struct Space<'a> {
+    places: Vec<Place>,
+    known: HashMap<(u32, Seg), u32>,
+    objects: Vec<(u32, Object<'a>)>,
+}
+
+impl<'a> Space<'a> {
+    fn new() -> Space<'a> {
+        let root = Place { above: 0, seg: *b"____", taken: false };
+        Space { places: vec![root], known: HashMap::new(), objects: Vec::new() }
+    }
+
+    fn below(&mut self, above: u32, segs: &[Seg]) -> u32 {
+        let mut place = above;
+        for seg in segs {
+            let next = self.places.len() as u32;
+            let found = *self.known.entry((place, *seg)).or_insert(next);
+            if found == next {
+                self.places.push(Place { above: place, seg: *seg, taken: false });
+            }
+            place = found;
+        }
+        place
+    }
+
+    /// The place of a path in a scope.
+    fn named(&mut self, scope: u32, path: &Path) -> u32 {
+        let mut start = if path.root { 0 } else { scope };
+        for _ in 0..path.ups {
+            start = self.places[start as usize].above;
+        }
+        self.below(start, &path.segs)
+    }
+
+    /// The place that a Scope opens: one of a single segment is sought in each scope around it.
+    fn opened(&mut self, scope: u32, path: &Path) -> u32 {
+        if let (false, 0, [seg]) = (path.root, path.ups, path.segs.as_slice()) {
+            let mut around = scope;
+            loop {
+                if let Some(place) = self.known.get(&(around, *seg)) {
+                    return *place;
+                }
+                if around == 0 {
+                    break;
+                }
+                around = self.places[around as usize].above;
+            }
+        }
+        self.named(scope, path)
+    }
+
+    fn put(&mut self, scope: u32, path: &Path, object: Object<'a>) -> Option<u32> {
+        let place = self.named(scope, path);
+        let taken = &mut self.places[place as usize].taken;
+        if path.segs.is_empty() || std::mem::replace(taken, true) {
+            return None;
+        }
+        self.objects.push((place, object));
+        Some(place)
+    }
+
+    fn fill(&mut self, scope: u32, terms: &'a [Term]) -> Option<()> {
+        for term in terms {
+            match term {
+                Term::Name(path, value) => {
+                    self.put(scope, path, Object::Data(value))?;
+                }
+                Term::Scope(path, inside) => {
+                    let place = self.opened(scope, path);
+                    self.fill(place, inside)?;
+                }
+                Term::Device(path, inside) => {
+                    let place = self.put(scope, path, Object::Device)?;
+                    self.fill(place, inside)?;
+                }
+            }
+        }
+        Some(())
+    }
+}
+
+fn show_segs(segs: &[Seg], out: &mut impl Write) -> io::Result<()> {
+    for (i, seg) in segs.iter().enumerate() {
+        if i > 0 {
+            out.write_all(b".")?;
+        }
+        out.write_all(seg)?;
+    }
+    Ok(())
+}
+
+/// The bytes as two digits each with a space between, spelled in pieces.
+fn show_bytes(bytes: &[u8], out: &mut impl Write) -> io::Result<()> {
+    const DIGITS: &[u8; 16] = b"0123456789ABCDEF";
+    let mut text = [b' '; 3 * 512];
+    let mut skip = 1;
+    for piece in bytes.chunks(512) {
+        for (spelled, byte) in text.chunks_exact_mut(3).zip(piece) {
+            spelled[1] = DIGITS[usize::from(byte >> 4)];
+            spelled[2] = DIGITS[usize::from(byte & 15)];
+        }
+        out.write_all(&text[skip..3 * piece.len()])?;
+        skip = 0;
+    }
+    Ok(())
+}
+
+fn show_text(text: &[u8], out: &mut impl Write) -> io::Result<()> {
+    for byte in text {
+        match byte {
+            b'"' | b'\\' => out.write_all(&[b'\\', *byte])?,
+            0..=0x1F | 0x7F => write!(out, "\\x{byte:02X}")?,
+            _ => out.write_all(&[*byte])?,
+        }
+    }
+    Ok(())
+}
+
+fn show_elements(elements: &[Data], out: &mut impl Write) -> io::Result<()> {
+    for (i, element) in elements.iter().enumerate() {
+        if i > 0 {
+            out.write_all(b", ")?;
+        }
+        show_value(element, out)?;
+    }
+    Ok(())
+}
+
+fn show_value(value: &Data, out: &mut impl Write) -> io::Result<()> {
+    match value {
+        Data::Int(number) => write!(out, "{number}"),
+        Data::Ones => out.write_all(b"Ones"),
+        Data::Revision => out.write_all(b"Revision"),
+        Data::Text(text) => {
+            out.write_all(b"\"")?;
+            show_text(text, out)?;
+            out.write_all(b"\"")
+        }
+        Data::Buffer { size, bytes } => {
+            write!(out, "Buffer({size}) {{")?;
+            show_bytes(bytes, out)?;
+            out.write_all(b"}")
+        }
+        Data::Package { count, elements } => {
+            write!(out, "Package({count}) {{")?;
+            show_elements(elements, out)?;
+            out.write_all(b"}")
+        }
+        Data::VarPackage { count, elements } => {
+            write!(out, "VarPackage({count}) {{")?;
+            show_elements(elements, out)?;
+            out.write_all(b"}")
+        }
+        Data::Path(path) => {
+            if path.root {
+                out.write_all(b"\\")?;
+            }
+            for _ in 0..path.ups {
+                out.write_all(b"^")?;
+            }
+            show_segs(&path.segs, out)
+        }
+    }
+}
+
+/// A line for each object, by way of a page of 64 KiB.
+fn show(space: &Space<'_>, out: &mut impl Write) -> io::Result<()> {
+    let mut segs = Vec::new();
+    for (place, object) in &space.objects {
+        segs.clear();
+        let mut at = *place;
+        while at != 0 {
+            let place = &space.places[at as usize];
+            segs.push(place.seg);
+            at = place.above;
+        }
+        segs.reverse();
+        out.write_all(b"\\")?;
+        show_segs(&segs, out)?;
+        match object {
+            Object::Device => out.write_all(b" device\n")?,
+            Object::Data(value) => {
+                out.write_all(b" = ")?;
+                show_value(value, out)?;
+                out.write_all(b"\n")?;
+            }
+        }
+    }
+    out.flush()
+}
+
 fn main() {
-    let file = std::env::args().nth(2).expect("usage: plain rewrite FILE");
+    let words: Vec<String> = std::env::args().collect();
+    let [_, command, file] = words.as_slice() else {
+        panic!("usage: plain show|rewrite FILE");
+    };
     let block = std::fs::read(file).expect("the file can be read");
-    let terms = parse(&block).expect("a block of Names");
-    let out = written(&block, &terms);
-    std::io::stdout().write_all(&out).expect("the output can be written");
-    // As the program does it: the process ends now.
+    let terms = parse(&block).expect("a block of Names, Scopes and Devices");
+    let out = io::stdout();
+    if command == "show" {
+        let mut space = Space::new();
+        space.fill(0, &terms).expect("no place is given twice");
+        let mut page = BufWriter::with_capacity(1 << 16, out);
+        show(&space, &mut page).expect("the output can be written");
+        // As the program does it: the process ends now.
+        std::mem::forget(space);
+    } else {
+        let bytes = written(&block, &terms);
+        out.lock().write_all(&bytes).expect("the output can be written");
+    }
     std::mem::forget(terms);
 }

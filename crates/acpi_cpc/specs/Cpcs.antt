@@ -7,7 +7,8 @@ use Rattle.acpi_values.specs.declared.fault.Why.TheVariants.{Count, Revision}
 use Rattle.acpi_values.specs.declared.performance.Cpc.{Cpc}
 use Rattle.acpi_values.specs.declared.performance.CpcEntry.{CpcEntry}
 use Rattle.acpi_values.specs.declared.performance.CpcEntry.TheVariants.{Number, Register}
-use Rattle.acpi_fields.specs.Reading.{◌>>=◌, Read, shape, place, counted, field, integer_at, register_at, rows_from, whole_of, most_64}
+use Rattle.pw_base.specs.Answers.{◌>>=◌}
+use Rattle.acpi_fields.specs.Reading.{Read, shape, place, counted, field, integer_at, register_at, rows_from, whole_of, most_64}
 
 -- how many elements there are in a revision: 21 in revision 2, 23 in revision 3, and others aren't known
 abbrev pub element_count : ℕ → Read ℕ

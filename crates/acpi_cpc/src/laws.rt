@@ -7,6 +7,7 @@ ghost use Rattle.aml_data.specs.declared.data.Width.{Width};
 ghost use Rattle.aml_data.specs.Written.{IsWritable};
 ghost use Rattle.acpi_values.specs.declared.performance.Cpc.{Cpc};
 ghost use Rattle.acpi_cpc.specs.Cpcs.{cpc_of};
+ghost use Rattle.acpi_fields.specs.Meaning.{IsRefusedWhereNothing};
 ghost use Rattle.acpi_cpc.specs.Meaning.{CpcMeans};
 ghost use Rattle.acpi_cpc.specs.Written.{IsCpc, IsEntry, cpc_object};
 
@@ -15,6 +16,12 @@ ghost use Rattle.acpi_cpc.specs.Written.{IsCpc, IsEntry, cpc_object};
 pub fn meant_cpc()
     ensures { (width : Width) (object : Data) (cpc : Cpc)
         → (cpc_of width object ≡ Ok cpc) ↔ CpcMeans width object cpc }
+{}
+
+/// An object is refused, at some place, exactly where it means nothing.
+pub fn refused_cpc()
+    ensures { (width : Width) (object : Data)
+        → IsRefusedWhereNothing (cpc_of width object) (CpcMeans width object) }
 {}
 
 /// An object means at most one continuous performance control.

@@ -6,9 +6,6 @@ mod laws;
 mod reading;
 mod writing;
 
-pub use laws::{meant_cpc, one_cpc, writable_cpc, written_cpc};
+pub use laws::{meant_cpc, one_cpc, refused_cpc, writable_cpc, written_cpc};
 pub use reading::read_cpc;
 pub use writing::write_cpc;
-
-#[cfg(test)]
-mod tests;

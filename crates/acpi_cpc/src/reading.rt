@@ -1,6 +1,6 @@
 ghost use Rattle.std.specs.Prelude.{◌≡◌, ◌≤◌, IfOk};
 ghost use Rattle.acpi_fields.specs.Reading.{Gives};
-ghost use Rattle.acpi_cpc.specs.Cpcs.{cpc_of, element_count as the_count, entry_at};
+ghost use Rattle.acpi_cpc.specs.Cpcs.{cpc_of, element_count, entry_at};
 
 use acpi_fields::{integer_at, register_at, whole_of};
 use acpi_values::{Cpc, CpcEntry, Place, ReadFault, Shape, Why};
@@ -10,7 +10,7 @@ use std::alloc::Global;
 
 /// How many elements a revision has.
 fn element_count(revision: u64) -> Result<u64, Shape>
-    ensures value { result ≡ the_count revision }
+    ensures value { result ≡ element_count revision }
     ensures small { IfOk result (λ n. n ≤ 23) }
     ensures known { IfOk result (λ _. revision ≤ 3) }
 {
@@ -67,6 +67,6 @@ pub fn read_cpc(alloc: Global, object: &Data, width: Width) -> Result<Cpc, ReadF
     }
     Ok(Cpc {
         revision: revision as u8,
-        entries: List::from_vec(alloc, entries)?,
+        entries: List::from_vec(entries),
     })
 }

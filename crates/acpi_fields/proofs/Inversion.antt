@@ -18,10 +18,11 @@ use Rattle.acpi_values.specs.declared.fault.Why.{Why}
 use Rattle.acpi_values.specs.declared.fault.Why.TheVariants.{Count}
 use Rattle.acpi_values.specs.declared.register.Register.{Register}
 use Rattle.acpi_values.specs.declared.register.RegisterFault.{RegisterFault}
-use Rattle.acpi_fields.specs.Reading.{◌>>=◌, Read, at_least, content, count_at, counted, elements_at, field, fields_of, fixed_of, integer_at}
+use Rattle.pw_base.specs.Answers.{◌>>=◌}
+use Rattle.acpi_fields.specs.Reading.{Read, at_least, content, count_at, counted, elements_at, field, fields_of, fixed_of, integer_at}
 use Rattle.acpi_fields.specs.Reading.{layer_elements, layer_register, layer_text, most_32, most_64, number_of, number_within, place, register_at}
 use Rattle.acpi_fields.specs.Reading.{register_in, rows_from, shape, text_at, whole_of}
-use Rattle.acpi_fields.specs.Meaning.{AreRows, IsInteger, is_constant, is_ones, IsNumber, IsPackageOf, is_package, is_var_package, IsRegisterObject}
+use Rattle.acpi_fields.specs.Meaning.{AreRows, IsInteger, is_constant, is_ones, IsNumber, IsPackageOf, is_package, is_var_package, IsRegisterObject, IsRefusedWhereNothing}
 use Rattle.acpi_fields.proofs.Templates.{template_means, template_read}
 
 -- # Answers
@@ -55,6 +56,13 @@ bound (Err s) f y e = absurd (err_ok s y e)
 -- two answers of one reading are one
 pub same_read : {A : Type 0} (r : Read A) (x y : A) → r ≡ Ok x → r ≡ Ok y → x ≡ y
 same_read r x y a b = ok_same x y (sym a ∙ b)
+
+-- what is read is meant, and what is meant is read: so a reading is refused exactly where nothing is meant
+pub refused_where_nothing : {A : Type 0} (r : Read A) (Means : A → Type 0) → ((x : A) → r ≡ Ok x → Means x) → ((x : A) → Means x → r ≡ Ok x) → IsRefusedWhereNothing r Means
+refused_where_nothing (Ok x) Means means read =
+    record { refused = λ s y e m. err_ok s x (sym e); nothing = λ none. absurd (none x (means x refl)) }
+refused_where_nothing (Err s) Means means read =
+    record { refused = λ t y e m. err_ok s y (read y m); nothing = λ none. (s, refl) }
 
 -- # Integers
 

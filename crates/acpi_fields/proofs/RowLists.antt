@@ -1,7 +1,8 @@
 -- Rows that are read one after the other.
 use Rattle.std.proofs.Common.{◌≡◌, ℕ, ◌+◌, ◌<◌, List, [], ◌∷◌, ◌++◌, length, drop, get_or, Ok, Err, append_assoc, drop-cons, suc, refl, sym, ap, subst, ◌∙◌, arith}
 use Rattle.aml_data.specs.declared.data.Data.{Data}
-use Rattle.acpi_fields.specs.Reading.{◌>>=◌, Read, rows_from}
+use Rattle.pw_base.specs.Answers.{◌>>=◌}
+use Rattle.acpi_fields.specs.Reading.{Read, rows_from}
 
 -- rows with others in front
 abbrev pub ahead : {A : Type 0} → List A → Read (List A) → Read (List A)

@@ -7,7 +7,8 @@ use Rattle.acpi_values.specs.declared.dependency.Coord.TheVariants.{SwAll, SwAny
 use Rattle.acpi_values.specs.declared.dependency.Dependency.{Dependency}
 use Rattle.acpi_values.specs.declared.fault.Place.{Place}
 use Rattle.acpi_values.specs.declared.fault.Why.TheVariants.{Count, Revision, Range}
-use Rattle.acpi_fields.specs.Reading.{◌>>=◌, Read, shape, place, number_of, fixed_of, most_32, most_64}
+use Rattle.pw_base.specs.Answers.{◌>>=◌}
+use Rattle.acpi_fields.specs.Reading.{Read, shape, place, number_of, fixed_of, most_32, most_64}
 
 -- CoordType: FC, FD, FE
 abbrev pub coord_in : Place → ℕ → Read Coord

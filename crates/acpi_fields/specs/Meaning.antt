@@ -1,5 +1,5 @@
 -- What the parts of an object mean, said of an object and its value together: with no order of tests, and no places (ACPI 6.5, 8.4).
-use Rattle.std.specs.Prelude.{◌≡◌, ◌⊎◌, ◌<◌, ◌%◌, ◌^◌, ℕ, List, [], ◌∷◌, ◌++◌, length, sum}
+use Rattle.std.specs.Prelude.{◌≡◌, ◌⊎◌, ◌<◌, ◌%◌, ◌^◌, ℕ, List, [], ◌∷◌, ◌++◌, length, sum, Err}
 use Rattle.std.specs.Int.{w64, from_le_bytes}
 use Rattle.aml_data.specs.Meaning.{all_ones, at_width}
 use Rattle.aml_data.specs.declared.data.Data.{Data}
@@ -9,7 +9,8 @@ use Rattle.aml_data.specs.declared.data.Width.{Width}
 use Rattle.acpi_values.specs.declared.dependency.Dependency.{Dependency}
 use Rattle.acpi_values.specs.declared.register.Register.{Register}
 use Rattle.acpi_fields.specs.Dependencies.{coord_number}
-use Rattle.acpi_fields.specs.Reading.{content, field}
+use Rattle.acpi_values.specs.declared.fault.Shape.{Shape}
+use Rattle.acpi_fields.specs.Reading.{Read, content, field}
 
 -- An integer at this width: a constant, of which a width of 32 bits keeps the low half, or Ones, all bits set
 -- (ACPI 6.5, 5.2.11.1 and 20.2.3).
@@ -59,3 +60,8 @@ pub record DependencyMeans (width : Width) (count : ℕ) (fields : List Data) (d
   pub domain : IsNumber width (2 ^ 32) (field fields 3) d.domain
   pub coord : IsNumber width (2 ^ 64) (field fields 4) (coord_number d.coord)
   pub processors : IsNumber width (2 ^ 32) (field fields 5) d.processors
+
+-- A reading is refused, at some place and for some reason, exactly where the object means nothing.
+pub record IsRefusedWhereNothing {A : Type 0} (read : Read A) (Means : A → Type 0) : Type 0 where
+  pub refused : (shape : Shape) (value : A) → read ≡ Err shape → Means value → ⊥
+  pub nothing : ((value : A) → Means value → ⊥) → (shape : Shape) × (read ≡ Err shape)

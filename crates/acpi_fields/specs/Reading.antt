@@ -1,9 +1,10 @@
 -- What the parts of an object say, or the first place at which they say nothing, and why (ACPI 6.5, 8.4).
-use Rattle.std.specs.Prelude.{◌≡◌, ◌==◌, ◌+◌, ◌-◌, ◌<◌, ◌^◌, ℕ, List, [], ◌∷◌, ◌++◌, length, replicate, slice_index_or, Option, Some, None, Result, Ok, Err, if◌then◌else◌, nat_le, nat_lt}
+use Rattle.std.specs.Prelude.{◌≡◌, ◌==◌, ◌+◌, ◌-◌, ℕ, List, [], ◌∷◌, ◌++◌, length, replicate, slice_index_or, Option, Some, None, Result, Ok, Err, if◌then◌else◌, nat_le, nat_lt}
+use Rattle.pw_base.specs.Answers.{◌>>=◌}
 use Rattle.aml_data.specs.Meaning.{meaning}
 use Rattle.aml_data.specs.declared.data.Data.{Data, Data-F, out-Data}
 use Rattle.aml_data.specs.declared.data.Data.TheOpen as layer
-use Rattle.aml_data.specs.declared.data.Data.TheVariants.{Ones}
+use Rattle.aml_data.specs.declared.data.Data.TheVariants.{Revision}
 use Rattle.aml_data.specs.declared.data.Width.{Width}
 use Rattle.acpi_values.specs.Registers.{register_of}
 use Rattle.acpi_values.specs.declared.fault.Place.{Place}
@@ -21,18 +22,7 @@ use Rattle.acpi_values.specs.declared.register.RegisterFault.{RegisterFault}
 abbrev pub Read : Type 0 → Type 0
 Read A = Result A Shape
 
--- one test and then the next, up to the first that fails
-infixl 10 ◌>>=◌
-abbrev pub ◌>>=◌ : {A B : Type 0} → Read A → (A → Read B) → Read B
-(Ok x) >>= f = f x
-(Err s) >>= f = Err s
-
--- What a function returned, seen by view, is what is read.
-abbrev pub Tells : {X Y : Type 0} → (X → Y) → Result X Shape → Read Y → Type 0
-Tells view (Ok x) read = read ≡ Ok (view x)
-Tells view (Err s) read = read ≡ Err s
-
--- The same, unless memory ran out.
+-- What a function returned, seen by view, is what is read, unless memory ran out.
 abbrev pub Gives : {X Y : Type 0} → (X → Y) → Result X ReadFault → Read Y → Type 0
 Gives view (Ok x) read = read ≡ Ok (view x)
 Gives view (Err (misshapen place why)) read = read ≡ Err (record { place = place; why = why })
@@ -126,9 +116,9 @@ counted at n elements = if length elements == n then Ok elements else Err (shape
 abbrev pub fields_of : ℕ → ℕ → Data → Read (List Data)
 fields_of k n object = elements_at (place k 0) object >>= λ elements. counted (place k 0) n elements
 
--- field i, counted from 1. What is read past the end is never asked for
+-- field i, counted from 1: past the end the revision, which is no integer, register, string or package
 abbrev pub field : List Data → ℕ → Data
-field fields i = slice_index_or fields (i - 1) Ones
+field fields i = slice_index_or fields (i - 1) Revision
 
 -- field i of element k, an integer of at most so much
 abbrev pub number_of : Width → ℕ → ℕ → ℕ → List Data → Read ℕ
@@ -164,17 +154,3 @@ whole_of n object = elements_at (place 0 0) object >>= at_least n
 abbrev pub rows_from : {A : Type 0} → (ℕ → Data → Read A) → ℕ → List Data → Read (List A)
 rows_from row k [] = Ok []
 rows_from row k (object ∷ objects) = row k object >>= λ first. rows_from row (k + 1) objects >>= λ others. Ok (first ∷ others)
-
--- An object whose elements can be counted in 32 bits.
-abbrev pub LayerIsCountable : Data-F Data → Type 0
-LayerIsCountable (layer.Package count elements) = length elements < 2 ^ 32
-LayerIsCountable (layer.VarPackage counted) = length counted.elements < 2 ^ 32
-LayerIsCountable (layer.Int n) = Unit {0}
-LayerIsCountable layer.Ones = Unit {0}
-LayerIsCountable layer.Revision = Unit {0}
-LayerIsCountable (layer.Text text) = Unit {0}
-LayerIsCountable (layer.Buffer buffer) = Unit {0}
-LayerIsCountable (layer.Path path) = Unit {0}
-
-abbrev pub IsCountable : Data → Type 0
-IsCountable object = LayerIsCountable (out-Data object)

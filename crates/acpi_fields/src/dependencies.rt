@@ -1,5 +1,5 @@
 ghost use Rattle.std.specs.Prelude.{◌≡◌, ◌≤◌, length};
-ghost use Rattle.acpi_fields.specs.Dependencies.{coord_of as the_coord, dependency_of as the_dependency};
+ghost use Rattle.acpi_fields.specs.Dependencies.{coord_of, dependency_of};
 
 use crate::reading::{fixed_of, number_of, u32_of};
 use acpi_values::{Coord, Dependency, Place, Shape, Why};
@@ -10,7 +10,7 @@ use aml_data::{Data, Width};
 fn coord_of(fields: &[Data], width: Width, outer: u32, inner: u32) -> Result<Coord, Shape>
     requires first { 1 ≤ inner }
     requires last { inner ≤ length fields.now }
-    ensures { result ≡ the_coord width outer inner fields.now }
+    ensures { result ≡ coord_of width outer inner fields.now }
 {
     match number_of(fields, width, u64::MAX, outer, inner)? {
         0xFC => Ok(Coord::SwAll),
@@ -32,7 +32,7 @@ pub fn dependency_of(
     outer: u32,
 ) -> Result<Dependency, Shape>
     requires { 5 ≤ length fields.now }
-    ensures { result ≡ the_dependency width count outer fields.now }
+    ensures { result ≡ dependency_of width count outer fields.now }
 {
     let _count = fixed_of(fields, width, count, Why::Count, outer, 1)?;
     let _revision = fixed_of(fields, width, 0, Why::Revision, outer, 2)?;

@@ -13,6 +13,3 @@ pub use laws::{meant_field, one_field, writable_field, written_field};
 pub use packages::{elements_at, fields_of, is_countable, whole_of};
 pub use reading::{count_at, fixed_of, integer_at, number_of, register_at, text_at, u32_of};
 pub use writing::{coord_number, package_object, register_object};
-
-#[cfg(test)]
-mod tests;

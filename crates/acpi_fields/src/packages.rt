@@ -1,13 +1,15 @@
 ghost use Rattle.std.specs.Prelude.{◌≡◌, ◌↔◌, ◌≤◌, length, IfOk, IsTrue};
-ghost use Rattle.acpi_fields.specs.Reading.{IsCountable, Tells, elements_at as the_elements};
-ghost use Rattle.acpi_fields.specs.Reading.{fields_of as the_fields, whole_of as the_whole};
+ghost use Rattle.aml_data.specs.Countable.{IsCountable};
+ghost use Rattle.acpi_fields.specs.Reading.{elements_at};
+ghost use Rattle.pw_base.specs.Answers.{Tells};
+ghost use Rattle.acpi_fields.specs.Reading.{fields_of, whole_of};
 
 use acpi_values::{Place, Shape, Why};
 use aml_data::Data;
 
 /// The elements of a package, of either kind.
 pub fn elements_at(object: &Data, place: Place) -> Result<&[Data], Shape>
-    ensures { Tells (λ r. r.now) result (the_elements place object.now) }
+    ensures { Tells (λ r. r.now) result (elements_at place object.now) }
 {
     match object {
         Data::Package { elements, .. } => Ok(elements.as_slice()),
@@ -26,7 +28,7 @@ pub fn elements_at(object: &Data, place: Place) -> Result<&[Data], Shape>
 
 /// The fields of element `outer`, a package of `count`.
 pub fn fields_of(object: &Data, outer: u32, count: usize) -> Result<&[Data], Shape>
-    ensures value { Tells (λ r. r.now) result (the_fields outer count object.now) }
+    ensures value { Tells (λ r. r.now) result (fields_of outer count object.now) }
     ensures count { IfOk result (λ r. length r.now ≡ count) }
 {
     let place = Place { outer, inner: 0 };
@@ -42,7 +44,7 @@ pub fn fields_of(object: &Data, outer: u32, count: usize) -> Result<&[Data], Sha
 
 /// The elements of the whole, a package of at least so many.
 pub fn whole_of(object: &Data, count: usize) -> Result<&[Data], Shape>
-    ensures value { Tells (λ r. r.now) result (the_whole count object.now) }
+    ensures value { Tells (λ r. r.now) result (whole_of count object.now) }
     ensures count { IfOk result (λ r. count ≤ length r.now) }
 {
     let place = Place { outer: 0, inner: 0 };

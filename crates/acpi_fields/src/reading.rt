@@ -1,8 +1,9 @@
 ghost use Rattle.std.specs.Prelude.{◌≡◌, ◌≢◌, ◌≤◌, length, MatchOption};
 ghost use Rattle.acpi_values.specs.Registers.{register_of};
-ghost use Rattle.acpi_fields.specs.Reading.{content, count_at as the_count, fixed_of as the_fixed, integer_at as the_integer, most_32};
-ghost use Rattle.acpi_fields.specs.Reading.{register_in as the_held, text_at as the_text, Tells};
-ghost use Rattle.acpi_fields.specs.Reading.{number_of as the_number, register_at as the_register};
+ghost use Rattle.acpi_fields.specs.Reading.{content, count_at, fixed_of, integer_at, most_32};
+ghost use Rattle.acpi_fields.specs.Reading.{register_in, text_at};
+ghost use Rattle.pw_base.specs.Answers.{Tells};
+ghost use Rattle.acpi_fields.specs.Reading.{number_of, register_at};
 
 use acpi_values::{Place, Register, Shape, Why};
 use aml_data::{Data, Width, integer};
@@ -12,7 +13,7 @@ const REGISTER_SIZE: usize = 17;
 
 /// An integer of at most so much, at the width of its table.
 pub fn integer_at(object: &Data, width: Width, most: u64, place: Place) -> Result<u64, Shape>
-    ensures { result ≡ the_integer width most place object.now }
+    ensures { result ≡ integer_at width most place object.now }
 {
     match integer(object, width) {
         None => Err(Shape {
@@ -37,7 +38,7 @@ pub fn number_of(
 ) -> Result<u64, Shape>
     requires first { 1 ≤ inner }
     requires last { inner ≤ length fields.now }
-    ensures { result ≡ the_number width most outer inner fields.now }
+    ensures { result ≡ number_of width most outer inner fields.now }
 {
     integer_at(
         &fields[inner as usize - 1],
@@ -52,7 +53,7 @@ pub fn number_of(
 pub fn u32_of(fields: &[Data], width: Width, outer: u32, inner: u32) -> Result<u32, Shape>
     requires first { 1 ≤ inner }
     requires last { inner ≤ length fields.now }
-    ensures { result ≡ the_number width most_32 outer inner fields.now }
+    ensures { result ≡ number_of width most_32 outer inner fields.now }
 {
     let number = number_of(fields, width, u64::from(u32::MAX), outer, inner)?;
     Ok(number as u32)
@@ -70,7 +71,7 @@ pub fn fixed_of(
 ) -> Result<u64, Shape>
     requires first { 1 ≤ inner }
     requires last { inner ≤ length fields.now }
-    ensures { result ≡ the_fixed width wanted why outer inner fields.now }
+    ensures { result ≡ fixed_of width wanted why outer inner fields.now }
 {
     let number = number_of(fields, width, u64::MAX, outer, inner)?;
     if number != wanted {
@@ -83,7 +84,7 @@ pub fn fixed_of(
 /// Element `outer` of the whole, which is to count the elements behind it.
 #[tactic(auto, unfolding(crate::specs::Reading::most_64))]
 pub fn count_at(object: &Data, width: Width, outer: u32, behind: usize) -> Result<u64, Shape>
-    ensures { result ≡ the_count width outer behind object.now }
+    ensures { result ≡ count_at width outer behind object.now }
 {
     let place = Place { outer, inner: 0 };
     let count = integer_at(object, width, u64::MAX, place)?;
@@ -112,7 +113,7 @@ fn content_of(size: u64, bytes: &[u8]) -> Option<[u8; 17]>
 
 /// A register: a buffer that holds a resource template of one (ACPI 6.5, 6.4.3.7).
 pub fn register_at(object: &Data, place: Place) -> Result<Register, Shape>
-    ensures { result ≡ the_register place object.now }
+    ensures { result ≡ register_at place object.now }
 {
     match object {
         Data::Buffer(buffer) => {
@@ -134,7 +135,7 @@ pub fn register_at(object: &Data, place: Place) -> Result<Register, Shape>
 
 /// The register in a buffer.
 fn register_in(size: u64, bytes: &[u8], place: Place) -> Result<Register, Shape>
-    ensures { result ≡ the_held place (register_of (content size bytes.now)) }
+    ensures { result ≡ register_in place (register_of (content size bytes.now)) }
 {
     let refused = Shape {
         place,
@@ -151,7 +152,7 @@ fn register_in(size: u64, bytes: &[u8], place: Place) -> Result<Register, Shape>
 
 /// A string.
 pub fn text_at(object: &Data, place: Place) -> Result<&[u8], Shape>
-    ensures { Tells (λ r. r.now) result (the_text place object.now) }
+    ensures { Tells (λ r. r.now) result (text_at place object.now) }
 {
     match object {
         Data::Text(text) => Ok(text.as_slice()),

@@ -7,7 +7,8 @@ use Rattle.acpi_values.specs.declared.fault.Place.{Place}
 use Rattle.acpi_values.specs.declared.fault.Why.TheVariants.{Range}
 use Rattle.acpi_values.specs.declared.idle.CState.{CState}
 use Rattle.acpi_fields.specs.Dependencies.{dependency_of}
-use Rattle.acpi_fields.specs.Reading.{◌>>=◌, Read, shape, place, count_at, elements_at, field, fields_of, number_of, register_at, rows_from, whole_of, most_32, most_64}
+use Rattle.pw_base.specs.Answers.{◌>>=◌}
+use Rattle.acpi_fields.specs.Reading.{Read, shape, place, count_at, elements_at, field, fields_of, number_of, register_at, rows_from, whole_of, most_32, most_64}
 
 -- the type of a C state: C1, C2 or C3
 abbrev pub kind_in : Place → ℕ → Read ℕ

@@ -1,5 +1,6 @@
 ghost use Rattle.std.specs.Prelude.{◌≡◌, ◌≤◌, length};
-ghost use Rattle.acpi_fields.specs.Reading.{Gives, IsCountable};
+ghost use Rattle.aml_data.specs.Countable.{IsCountable};
+ghost use Rattle.acpi_fields.specs.Reading.{Gives};
 ghost use Rattle.acpi_idle.specs.CStates.{csd_of, csd_row, cst_of, cst_row, kind_in};
 
 use acpi_fields::{

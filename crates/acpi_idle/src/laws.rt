@@ -10,6 +10,7 @@ ghost use Rattle.acpi_values.specs.declared.idle.CState.{CState};
 ghost use Rattle.acpi_values.specs.declared.lpi.Lpi.{Lpi};
 ghost use Rattle.acpi_idle.specs.CStates.{csd_of, cst_of};
 ghost use Rattle.acpi_idle.specs.Lpis.{lpi_of};
+ghost use Rattle.acpi_fields.specs.Meaning.{IsRefusedWhereNothing};
 ghost use Rattle.acpi_idle.specs.Meaning.{CsdMeans, CstMeans, LpiMeans};
 ghost use Rattle.acpi_idle.specs.Written.{IsCDependency, IsCState, IsLpi, IsName};
 ghost use Rattle.acpi_idle.specs.Written.{csd_object, cst_object, lpi_object};
@@ -23,6 +24,16 @@ pub fn meant_idle()
         → (csd_of width object ≡ Ok entries) ↔ CsdMeans width object entries }
     ensures lpi { (width : Width) (object : Data) (lpi : Lpi)
         → (lpi_of width object ≡ Ok lpi) ↔ LpiMeans width object lpi }
+{}
+
+/// Each object is refused, at some place, exactly where it means nothing.
+pub fn refused_idle()
+    ensures cst { (width : Width) (object : Data)
+        → IsRefusedWhereNothing (cst_of width object) (CstMeans width object) }
+    ensures csd { (width : Width) (object : Data)
+        → IsRefusedWhereNothing (csd_of width object) (CsdMeans width object) }
+    ensures lpi { (width : Width) (object : Data)
+        → IsRefusedWhereNothing (lpi_of width object) (LpiMeans width object) }
 {}
 
 /// An object means at most one list of C states, one of their dependencies, and one table of low power

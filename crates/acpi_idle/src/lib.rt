@@ -7,9 +7,6 @@ mod lpis;
 mod writing;
 
 pub use c_states::{read_csd, read_cst};
-pub use laws::{meant_idle, one_idle, writable_idle, written_idle};
+pub use laws::{meant_idle, one_idle, refused_idle, writable_idle, written_idle};
 pub use lpis::read_lpi;
 pub use writing::{write_csd, write_cst, write_lpi};
-
-#[cfg(test)]
-mod tests;

@@ -1,5 +1,6 @@
 ghost use Rattle.std.specs.Prelude.{◌≡◌};
-ghost use Rattle.acpi_fields.specs.Reading.{Gives, IsCountable};
+ghost use Rattle.aml_data.specs.Countable.{IsCountable};
+ghost use Rattle.acpi_fields.specs.Reading.{Gives};
 ghost use Rattle.acpi_idle.specs.Lpis.{counter_at, entry_at, lpi_of, lpi_row, revision_at};
 
 use acpi_fields::{count_at, fields_of, integer_at, register_at, text_at, u32_of, whole_of};
@@ -66,7 +67,7 @@ fn lpi_state(alloc: Global, object: &Data, width: Width, outer: u32) -> Result<L
         entry,
         residency,
         usage,
-        name: List::from_vec(alloc, name)?,
+        name: List::from_vec(name),
     })
 }
 
@@ -105,6 +106,6 @@ pub fn read_lpi(alloc: Global, object: &Data, width: Width) -> Result<Lpi, ReadF
     }
     Ok(Lpi {
         level,
-        states: List::from_vec(alloc, states)?,
+        states: List::from_vec(states),
     })
 }

@@ -6,7 +6,7 @@ ghost use Rattle.acpi_idle.specs.Written.{entry_object, lpi_object, lpi_row_obje
 use acpi_fields::{coord_number, package_object, register_object};
 use acpi_values::{CDependency, CState, EntryMethod, Lpi, LpiState};
 use aml_data::Data;
-use pw_base::{List, Memory};
+use pw_base::{CompactList, List, Memory};
 use std::alloc::Global;
 
 fn cst_state(alloc: Global, state: &CState) -> Result<Data, Memory>
@@ -76,7 +76,7 @@ fn text_of(alloc: Global, text: &List<u8>) -> Result<Data, Memory>
     ensures { IfOk result (λ object. object ≡ string text.now) }
 {
     let text = Vec::from_slice(alloc, text.as_slice())?;
-    Ok(Data::Text(List::from_vec(alloc, text)?))
+    Ok(Data::Text(CompactList::from_vec(alloc, text)?))
 }
 
 fn lpi_state(alloc: Global, state: &LpiState) -> Result<Data, Memory>

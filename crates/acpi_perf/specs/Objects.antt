@@ -5,7 +5,8 @@ use Rattle.aml_data.specs.declared.data.Width.{Width}
 use Rattle.acpi_values.specs.declared.dependency.Dependency.{Dependency}
 use Rattle.acpi_values.specs.declared.performance.ControlPair.{ControlPair}
 use Rattle.acpi_fields.specs.Dependencies.{dependency_of}
-use Rattle.acpi_fields.specs.Reading.{◌>>=◌, Read, place, counted, elements_at, field, fields_of, integer_at, register_at, most_32}
+use Rattle.pw_base.specs.Answers.{◌>>=◌}
+use Rattle.acpi_fields.specs.Reading.{Read, place, counted, elements_at, field, fields_of, integer_at, register_at, most_32}
 
 -- `_PCT` and `_PTC`: a package of two registers, control and status (ACPI 6.5, 8.4.5.1 and 8.4.4.1)
 unfoldable pub control_of : Data → Read ControlPair

@@ -4,7 +4,8 @@ use Rattle.aml_data.specs.declared.data.Data.{Data}
 use Rattle.aml_data.specs.declared.data.Width.{Width}
 use Rattle.acpi_values.specs.declared.performance.PState.{PState}
 use Rattle.acpi_values.specs.declared.performance.TState.{TState}
-use Rattle.acpi_fields.specs.Reading.{◌>>=◌, Read, place, elements_at, fields_of, number_of, rows_from, most_32}
+use Rattle.pw_base.specs.Answers.{◌>>=◌}
+use Rattle.acpi_fields.specs.Reading.{Read, place, elements_at, fields_of, number_of, rows_from, most_32}
 
 -- a performance state: element k is a package of six numbers of 32 bits
 abbrev pub pss_row : Width → ℕ → Data → Read PState

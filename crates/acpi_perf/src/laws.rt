@@ -11,6 +11,7 @@ ghost use Rattle.acpi_values.specs.declared.dependency.Dependency.{Dependency};
 ghost use Rattle.acpi_values.specs.declared.performance.ControlPair.{ControlPair};
 ghost use Rattle.acpi_values.specs.declared.performance.PState.{PState};
 ghost use Rattle.acpi_values.specs.declared.performance.TState.{TState};
+ghost use Rattle.acpi_fields.specs.Meaning.{IsRefusedWhereNothing};
 ghost use Rattle.acpi_perf.specs.Meaning.{ControlMeans, DomainMeans, LimitMeans, PssMeans, TssMeans};
 ghost use Rattle.acpi_perf.specs.Objects.{control_of, domain_of, limit_of};
 ghost use Rattle.acpi_perf.specs.Scales.{pss_of, tss_of};
@@ -35,6 +36,19 @@ pub fn meant_object()
         → (limit_of width object ≡ Ok n) ↔ LimitMeans width object n }
     ensures domain { (width : Width) (object : Data) (d : Dependency)
         → (domain_of width object ≡ Ok d) ↔ DomainMeans width object d }
+{}
+
+/// Each object is refused, at some place, exactly where it means nothing.
+pub fn refused_meaning()
+    ensures pss { (width : Width) (object : Data)
+        → IsRefusedWhereNothing (pss_of width object) (PssMeans width object) }
+    ensures tss { (width : Width) (object : Data)
+        → IsRefusedWhereNothing (tss_of width object) (TssMeans width object) }
+    ensures control { (object : Data) → IsRefusedWhereNothing (control_of object) (ControlMeans object) }
+    ensures limit { (width : Width) (object : Data)
+        → IsRefusedWhereNothing (limit_of width object) (LimitMeans width object) }
+    ensures domain { (width : Width) (object : Data)
+        → IsRefusedWhereNothing (domain_of width object) (DomainMeans width object) }
 {}
 
 /// An object means at most one list of performance or throttling states, one pair of registers, one

@@ -8,12 +8,9 @@ mod scales;
 mod writing;
 
 pub use laws::{
-    meant_object, meant_scale, one_meaning, writable_object, writable_scale, written_object,
-    written_scale,
+    meant_object, meant_scale, one_meaning, refused_meaning, writable_object, writable_scale,
+    written_object, written_scale,
 };
 pub use objects::{read_control, read_dependency, read_limit};
 pub use scales::{read_pss, read_tss};
 pub use writing::{write_control, write_dependency, write_limit, write_pss, write_tss};
-
-#[cfg(test)]
-mod tests;

@@ -1,5 +1,6 @@
 ghost use Rattle.std.specs.Prelude.{◌≡◌, ◌<◌, ◌≤◌, ◌^◌};
-ghost use Rattle.acpi_fields.specs.Reading.{Gives, IsCountable};
+ghost use Rattle.aml_data.specs.Countable.{IsCountable};
+ghost use Rattle.acpi_fields.specs.Reading.{Gives};
 ghost use Rattle.acpi_perf.specs.Scales.{pss_of, pss_row, tss_of, tss_row};
 
 use acpi_fields::{elements_at, fields_of, u32_of};

@@ -1,12 +1,10 @@
 -- What stands after one more step.
-use Rattle.std.proofs.Common.{◌≡◌, ◌+◌, ◌-◌, ◌<◌, ◌≤◌, ℕ, zero, suc, Bool, true, false, ◌||◌, List, [], ◌∷◌, ◌++◌, length, get_or, take, drop, map, MatchOption}
-use Rattle.std.proofs.Common.{refl, sym, ap, subst, ◌∙◌, arith, inl, inr, ◌⊎◌, nat_cmp, Option, Some, None, append_assoc, length-append}
+use Rattle.std.proofs.Common.{◌≡◌, ◌≢◌, ◌+◌, ◌-◌, ◌<◌, ◌≤◌, ℕ, zero, suc, Bool, true, false, ◌||◌, List, [], ◌∷◌, ◌++◌, length, get_or, take, drop, map, MatchOption}
+use Rattle.std.proofs.Common.{refl, sym, ap, subst, ◌∙◌, arith, inl, inr, ◌⊎◌, Option, Some, None, append_assoc, length-append}
 use Rattle.std.specs.Prelude.{Contains, nat_eq, is_some}
 use Rattle.std.specs.Bool.{Decides}
 use Rattle.std.specs.List.{starts_with}
 use Rattle.std.specs.Cmp.Lexicographic.{pointwise}
-use Rattle.std.specs.FinMap.{nat_cmp-IsAntisymmetric}
-use Rattle.std.specs.BTreeMap.{BTreeMap, get, is_at, Updates}
 use Rattle.std.proofs.lemmas.Bool.{false≢true, cases_lt}
 use Rattle.std.proofs.lemmas.Bool.Decides.{Decides-eqb}
 use Rattle.std.proofs.lemmas.Slice.Eq.{slice_eq-Decides, starts_is}
@@ -25,22 +23,23 @@ use Rattle.acpi_space.specs.Distinct.{IsDistinct, IsFirstRepeat}
 use Rattle.acpi_space.specs.Places.{Place, place_of, is_known, is_single, found, opened}
 use Rattle.acpi_space.specs.Steps.{Step, Turn, opens, gives, touched, in_order}
 use Rattle.acpi_space.specs.Namespace.{Entry, entry_at, entries_of, places_of}
-use Rattle.acpi_space.specs.Trees.{IsAt, IsBeginning, IsClosed, IsGrown, IsNearest, IsNowhere, Knows, Reaches}
-use Rattle.acpi_space.specs.Standing.{entry_in, entries_at, AreObjects, IsIndex, Stands, IsFaultOf}
+use Rattle.acpi_space.specs.inner.Trees.{IsAt, IsBeginning, IsClosed, IsGrown, IsNearest, IsNowhere, Knows, Reaches}
+use Rattle.acpi_space.specs.Standing.{AreObjects, IsFaultOf, IsFound, entry_from}
+use Rattle.acpi_space.specs.inner.Standing.{entry_in, entries_at, told_at, IsIndex, IsNoted, Stands}
 use Rattle.acpi_space.proofs.Seen.{IsDistinct-push}
-use Rattle.acpi_space.proofs.Trees.{shorter_there, same_index, choice, is_equal, some_none, same_some}
+use Rattle.acpi_space.proofs.Trees.{shorter_there, same_index, choice, some_none, same_some}
 
 -- ---- beginnings
 
-seg_decides : (a b : List ℕ) → Decides (pointwise nat_eq a b) (a ≡ b)
+pub seg_decides : (a b : List ℕ) → Decides (pointwise nat_eq a b) (a ≡ b)
 seg_decides a b = slice_eq-Decides Decides-eqb a b (pointwise nat_eq a b) refl
 
-begins_from : (whole place : Place) → IsBeginning place whole → starts_with (pointwise nat_eq) whole place ≡ true
+pub begins_from : (whole place : Place) → IsBeginning place whole → starts_with (pointwise nat_eq) whole place ≡ true
 begins_from whole place e =
     (starts_is seg_decides whole place (starts_with (pointwise nat_eq) whole place) refl).1 (drop (length place) whole)
     (sym (take-append-drop (length place) whole) ∙ ap (λ front. front ++ drop (length place) whole) e)
 
-begins_to : (whole place : Place) → starts_with (pointwise nat_eq) whole place ≡ true → IsBeginning place whole
+pub begins_to : (whole place : Place) → starts_with (pointwise nat_eq) whole place ≡ true → IsBeginning place whole
 begins_to whole place e =
     let is = (starts_is seg_decides whole place (starts_with (pointwise nat_eq) whole place) refl).0 e in
     ap (take (length place)) is ∙ take_at place (drop (length place) whole) (length place) refl
@@ -50,14 +49,14 @@ itself place = take_all (length place) place (omega arith)
 
 -- ---- known places
 
-abbrev begin : Place → Place → Bool
+abbrev pub begin : Place → Place → Bool
 begin whole place = starts_with (pointwise nat_eq) whole place
 
-or_true : (a b : Bool) → (a || b) ≡ true → (a ≡ true) ⊎ (b ≡ true)
+pub or_true : (a b : Bool) → (a || b) ≡ true → (a ≡ true) ⊎ (b ≡ true)
 or_true true b e = inl refl
 or_true false b e = inr e
 
-true_or : (a b : Bool) → (a ≡ true) ⊎ (b ≡ true) → (a || b) ≡ true
+pub true_or : (a b : Bool) → (a ≡ true) ⊎ (b ≡ true) → (a || b) ≡ true
 true_or true b e = refl
 true_or false b (inl e) = absurd (false≢true e)
 true_or false b (inr e) = e
@@ -141,7 +140,7 @@ after_touching old new known k place knows reaches closed all is =
       ];
     }
 
-pub after_opening : (old new : List Place) (placed : List Placed) (index : BTreeMap ℕ ℕ) (steps : List Step) (k : ℕ) (place : Place)
+pub after_opening : (old new : List Place) (placed : List Placed) (index : List (Option ℕ)) (steps : List Step) (k : ℕ) (place : Place)
     → Stands old placed index steps → Reaches old new k place → IsClosed new → Stands new placed index (steps ++ opens place ∷ [])
 after_opening old new placed index steps k place stands reaches closed =
     let entries_stay : entries_of (steps ++ opens place ∷ []) ≡ entries_of steps = entries_of-append steps (opens place ∷ []) ∙ append-nil (entries_of steps) in
@@ -151,6 +150,7 @@ after_opening old new placed index steps k place stands reaches closed =
       entries = rw (reaches.grown, same_entries old reaches.more placed stands.indexed.within, entries_stay) stands.entries;
       indexed = record {
         within = λ i d l. (let inside = stands.indexed.within i d l in omega arith);
+        numbered = stands.indexed.numbered;
         all = stands.indexed.all;
         only = stands.indexed.only;
       };
@@ -160,7 +160,7 @@ after_opening old new placed index steps k place stands reaches closed =
 -- ---- an object is placed
 
 pub no_object : Placed
-no_object = record { name = 0; object = device; width = W32 }
+no_object = record { name = 0; index = 0; object = device; width = W32 }
 
 place_read : (places : List Place) (placed : List Placed) (i : ℕ) (d : Placed) → i < length placed
     → get_or (places_of (entries_at places placed)) i [] ≡ get_or places (get_or placed i d).name []
@@ -178,8 +178,8 @@ places_count : (places : List Place) (placed : List Placed) → length (places_o
 places_count places placed = length-map (entries_at places placed) (λ (e : Entry). e.path) ∙ length-map placed (entry_in places)
 
 -- where something stands already
-pub place_taken : (places : List Place) (placed : List Placed) (index : BTreeMap ℕ ℕ) (k i : ℕ) (place : Place) → IsIndex places placed index → IsAt places k place
-    → get nat_cmp index k ≡ Some i → Contains (places_of (entries_at places placed)) place
+pub place_taken : (places : List Place) (placed : List Placed) (index : List (Option ℕ)) (k i : ℕ) (place : Place) → IsIndex places placed index → IsAt places k place
+    → told_at index k ≡ Some i → Contains (places_of (entries_at places placed)) place
 place_taken places placed index k i place indexed here e =
     let (within, is) = indexed.only k i e in
     let size = places_count places placed in
@@ -187,25 +187,31 @@ place_taken places placed index k i place indexed here e =
     subst (Contains (places_of (entries_at places placed))) read (Contains-get_or (places_of (entries_at places placed)) i [] (omega arith))
 
 -- what stands at a place is told by the map
-pub taken_told : (places : List Place) (placed : List Placed) (index : BTreeMap ℕ ℕ) (k : ℕ) (place : Place) → IsIndex places placed index → IsDistinct places → IsAt places k place
-    → Contains (places_of (entries_at places placed)) place → (i : ℕ) × (i < length placed) × ((get_or placed i no_object).name ≡ k) × (get nat_cmp index k ≡ Some i)
+pub taken_told : (places : List Place) (placed : List Placed) (index : List (Option ℕ)) (k : ℕ) (place : Place) → IsIndex places placed index → IsDistinct places → IsAt places k place
+    → Contains (places_of (entries_at places placed)) place → (i : ℕ) × (i < length placed) × ((get_or placed i no_object).name ≡ k) × (told_at index k ≡ Some i)
 taken_told places placed index k place indexed distinct here (i, l, e) =
     let size = places_count places placed in
     let within : i < length placed = omega arith in
     let read = place_read places placed i no_object within in
     let is : get_or places (get_or placed i no_object).name [] ≡ place = sym read ∙ get_or_default (places_of (entries_at places placed)) i [] place l ∙ e in
     let same = same_index places (get_or placed i no_object).name k [] distinct (indexed.within i no_object within) here.0 (is ∙ sym here.1) in
-    (i, within, same, ap (get nat_cmp index) (sym same) ∙ indexed.all i no_object within)
+    (i, within, same, ap (told_at index) (sym same) ∙ indexed.all i no_object within)
 
-equal_numbers : (a b : ℕ) → is_at (nat_cmp a) b ≡ true → a ≡ b
-equal_numbers a b e = nat_cmp-IsAntisymmetric a b (is_equal _ e)
+equal_or_not : (a b : ℕ) → (a ≡ b) ⊎ (a ≢ b)
+equal_or_not a b = elim (cases_lt a b) [
+  | inl less ↦ inr (λ e. omega (arith, less, e))
+  | inr more ↦ elim (cases_lt b a) [
+    | inl less ↦ inr (λ e. omega (arith, less, e))
+    | inr same ↦ inl (omega (arith, more, same))
+  ]
+]
 
-pub after_placing : (old new : List Place) (placed : List Placed) (index index' : BTreeMap ℕ ℕ) (steps : List Step) (k : ℕ) (place : Place) (width : Width) (object : Object)
-    → Stands old placed index steps → Reaches old new k place → IsClosed new → IsDistinct new → get nat_cmp index k ≡ None
-    → Updates nat_cmp index index' k (Some (length placed))
-    → Stands new (placed ++ record { name = k; object = object; width = width } ∷ []) index' (steps ++ gives width place (thing object) ∷ [])
-after_placing old new placed index index' steps k place width object stands reaches closed distinct free updates =
-    let p : Placed = record { name = k; object = object; width = width } in
+pub after_placing : (old new : List Place) (placed : List Placed) (index index' : List (Option ℕ)) (steps : List Step) (k : ℕ) (place : Place) (width : Width) (object : Object)
+    → Stands old placed index steps → Reaches old new k place → IsClosed new → IsDistinct new → told_at index k ≡ None
+    → IsNoted index index' k (length placed)
+    → Stands new (placed ++ record { name = k; index = length placed; object = object; width = width } ∷ []) index' (steps ++ gives width place (thing object) ∷ [])
+after_placing old new placed index index' steps k place width object stands reaches closed distinct free noted =
+    let p : Placed = record { name = k; index = length placed; object = object; width = width } in
     let step : Step = gives width place (thing object) in
     let entry : Entry = record { path = place; object = thing object; width = width } in
     let open_first = after_opening old new placed index steps k place stands reaches closed in
@@ -227,23 +233,24 @@ after_placing old new placed index index' steps k place width object stands reac
           | inl was ↦ rw (get_or_append_left placed (p ∷ []) d i was) (indexed.within i d was)
           | inr end ↦ let e : length placed ≡ i = omega arith in rw (get_or_push placed p d i e) reaches.here.0
         ];
+        numbered = λ i d l. elim (cases_lt i (length placed)) [
+          | inl was ↦ rw (get_or_append_left placed (p ∷ []) d i was) (indexed.numbered i d was)
+          | inr end ↦ let e : length placed ≡ i = omega arith in rw (get_or_push placed p d i e) e
+        ];
         all = λ i d l. elim (cases_lt i (length placed)) [
           | inl was ↦
               let told = indexed.all i d was in
-              let other : is_at (nat_cmp k) (get_or placed i d).name ≡ false = (elim (choice (is_at (nat_cmp k) (get_or placed i d).name)) [
-                | inl hit ↦ absurd (some_none (ap (get nat_cmp index) (equal_numbers k _ hit) ∙ told) free)
-                | inr miss ↦ miss
-              ]) in
-              rw (get_or_append_left placed (p ∷ []) d i was) (updates.2 (get_or placed i d).name other ∙ told)
-          | inr end ↦ let e : length placed ≡ i = omega arith in rw (get_or_push placed p d i e, ← e) updates.1
+              rw (get_or_append_left placed (p ∷ []) d i was)
+              (noted.others (get_or placed i d).name (λ same. some_none (ap (told_at index) (sym same) ∙ told) free) ∙ told)
+          | inr end ↦ let e : length placed ≡ i = omega arith in rw (get_or_push placed p d i e, ← e) noted.here
         ];
-        only = λ q i e. elim (choice (is_at (nat_cmp k) q)) [
+        only = λ q i e. elim (equal_or_not q k) [
           | inl hit ↦
-              let is : Some (length placed) ≡ Some i = sym (updates.0 q ∙ (rw hit refl)) ∙ e in
+              let is : Some (length placed) ≡ Some i = sym noted.here ∙ ap (told_at index') (sym hit) ∙ e in
               let number : length placed ≡ i = same_some is in
-              (omega arith, λ d. rw (get_or_push placed p d i number) (equal_numbers k q hit))
+              (omega arith, λ d. rw (get_or_push placed p d i number) (sym hit))
           | inr miss ↦
-              let (within, name) = indexed.only q i (sym (updates.0 q ∙ (rw miss refl)) ∙ e) in
+              let (within, name) = indexed.only q i (sym (noted.others q miss) ∙ e) in
               (omega arith, λ d. rw (get_or_append_left placed (p ∷ []) d i within) (name d))
         ];
       };
@@ -251,8 +258,8 @@ after_placing old new placed index index' steps k place width object stands reac
     }
 
 -- the place has an object already
-pub given_twice : (old new : List Place) (placed : List Placed) (index : BTreeMap ℕ ℕ) (steps : List Step) (k i : ℕ) (place : Place) (width : Width) (object : Thing)
-    → Stands old placed index steps → Reaches old new k place → IsClosed new → get nat_cmp index k ≡ Some i
+pub given_twice : (old new : List Place) (placed : List Placed) (index : List (Option ℕ)) (steps : List Step) (k i : ℕ) (place : Place) (width : Width) (object : Thing)
+    → Stands old placed index steps → Reaches old new k place → IsClosed new → told_at index k ≡ Some i
     → IsFirstRepeat (places_of (entries_of (steps ++ gives width place object ∷ []))) place
 given_twice old new placed index steps k i place width object stands reaches closed e =
     let open_first = after_opening old new placed index steps k place stands reaches closed in
@@ -317,7 +324,7 @@ split_turns turn xs i scope before =
 
 -- ---- which place a Scope opens
 
-found_there : (known : List Place) (scope segs other : Place) (n kept : ℕ) → kept ≤ n → is_known known (take kept scope ++ segs) ≡ true
+pub found_there : (known : List Place) (scope segs other : Place) (n kept : ℕ) → kept ≤ n → is_known known (take kept scope ++ segs) ≡ true
     → ((m : ℕ) → kept < m → m ≤ n → is_known known (take m scope ++ segs) ≡ false) → found known scope segs other n ≡ take kept scope ++ segs
 unfolding found
 found_there known scope segs other zero kept fits there further =
@@ -332,7 +339,7 @@ found_there known scope segs other (suc n) kept fits there further = elim (cases
       (rw there' refl) ∙ ap (λ k. take k scope ++ segs) (sym e)
 ]
 
-found_nowhere : (known : List Place) (scope segs other : Place) (n : ℕ) → ((m : ℕ) → m ≤ n → is_known known (take m scope ++ segs) ≡ false) → found known scope segs other n ≡ other
+pub found_nowhere : (known : List Place) (scope segs other : Place) (n : ℕ) → ((m : ℕ) → m ≤ n → is_known known (take m scope ++ segs) ≡ false) → found known scope segs other n ≡ other
 unfolding found
 found_nowhere known scope segs other zero none = rw (none 0 (omega arith)) refl
 found_nowhere known scope segs other (suc n) none = rw (none (suc n) (omega arith)) (found_nowhere known scope segs other n (λ m fits. none m (omega (arith, fits))))
@@ -383,23 +390,35 @@ none_there (Some x) e = absurd (false≢true (sym e))
 
 -- ---- a space
 
-pub unplaced : (places : List Place) (placed : List Placed) (index : BTreeMap ℕ ℕ) (entries : List Entry) (place : Place) → IsIndex places placed index
-    → entries_at places placed ≡ entries → (Contains places place → ⊥) → Contains (places_of entries) place → ⊥
-unplaced places placed index entries place indexed v none among =
-    let (i, l, e) = subst (λ es. Contains (places_of es) place) (sym v) among in
+pub unplaced : (places : List Place) (placed : List Placed) (index : List (Option ℕ)) (place : Place) → IsIndex places placed index
+    → (Contains places place → ⊥) → Contains (places_of (entries_at places placed)) place → ⊥
+unplaced places placed index place indexed none (i, l, e) =
     let size = places_count places placed in
     let within : i < length placed = omega arith in
     let is : get_or places (get_or placed i no_object).name [] ≡ place = sym (place_read places placed i no_object within) ∙ get_or_default (places_of (entries_at places placed)) i [] place l ∙ e in
     none (subst (Contains places) is (Contains-get_or places (get_or placed i no_object).name [] (indexed.within i no_object within)))
 
-pub free_place : (places : List Place) (placed : List Placed) (index : BTreeMap ℕ ℕ) (entries : List Entry) (k : ℕ) (place : Place) → IsIndex places placed index → IsDistinct places
-    → entries_at places placed ≡ entries → IsAt places k place → get nat_cmp index k ≡ None → Contains (places_of entries) place → ⊥
-free_place places placed index entries k place indexed distinct v here free among =
-    let (i, within, same, told) = taken_told places placed index k place indexed distinct here (subst (λ es. Contains (places_of es) place) (sym v) among) in
+pub free_place : (places : List Place) (placed : List Placed) (index : List (Option ℕ)) (k : ℕ) → IsIndex places placed index → IsDistinct places → k < length places
+    → told_at index k ≡ None → Contains (places_of (entries_at places placed)) (get_or places k []) → ⊥
+free_place places placed index k indexed distinct l free among =
+    let (i, within, same, told) = taken_told places placed index k (get_or places k []) indexed distinct (l, refl) among in
     some_none told free
 
-pub are_objects : (places : List Place) (placed ps : List Placed) (entries : List Entry) → entries_at places placed ≡ entries → ps ≡ placed → AreObjects entries ps
-are_objects places placed ps entries v e = rw (e, ← v) (record {
+pub object_there : (places : List Place) (placed : List Placed) (index : List (Option ℕ)) (k i : ℕ) (p : Placed) → IsIndex places placed index
+    → told_at index k ≡ Some i → p ≡ get_or placed i p → IsFound (entries_at places placed) (get_or places k []) p
+object_there places placed index k i p indexed told is =
+    let (within, name) = indexed.only k i told in
+    let number : p.index ≡ i = ap (λ (q : Placed). q.index) is ∙ indexed.numbered i p within in
+    let at : p.name ≡ k = ap (λ (q : Placed). q.name) is ∙ name p in
+    let size = length-map placed (entry_in places) in (
+      omega (arith, number, within, size),
+      λ d. ap (λ n. get_or (entries_at places placed) n d) number ∙ entry_read places placed i p d within ∙ ap (entry_in places) (sym is) ∙ ap (λ n. entry_from (get_or places n []) p) at,
+    )
+
+pub are_objects : (places : List Place) (placed ps : List Placed) (index : List (Option ℕ)) (entries : List Entry) → IsIndex places placed index → entries_at places placed ≡ entries
+    → ps ≡ placed → AreObjects entries ps
+are_objects places placed ps index entries indexed v e = rw (e, ← v) (record {
+  numbered = indexed.numbered;
   count = sym (length-map placed (entry_in places));
   objects = λ i d p l. rw (entry_read places placed i p d l) (refl, refl);
 })
@@ -436,7 +455,7 @@ first_fault f before step rest whole e fault =
     rw e (subst (IsFaultOf f) (append_assoc before (step ∷ []) rest) (fault_goes_on f (before ++ step ∷ []) rest fault))
 
 -- no place of a space is given twice
-pub distinct_places : (places : List Place) (placed : List Placed) (index : BTreeMap ℕ ℕ) (entries : List Entry) → IsIndex places placed index → IsDistinct places
+pub distinct_places : (places : List Place) (placed : List Placed) (index : List (Option ℕ)) (entries : List Entry) → IsIndex places placed index → IsDistinct places
     → entries_at places placed ≡ entries → IsDistinct (places_of entries)
 distinct_places places placed index entries indexed distinct v = subst (λ es. IsDistinct (places_of es)) v (λ i j d less within same. (
     let given = places_of (entries_at places placed) in
@@ -446,5 +465,5 @@ distinct_places places placed index entries indexed distinct v = subst (λ es. I
     let gi : i < length given = omega (arith, less, within) in
     let e = sym (place_read places placed i no_object li) ∙ get_or_default given i [] d gi ∙ same ∙ get_or_default given j d [] within ∙ place_read places placed j no_object lj in
     let name = same_index places (get_or placed i no_object).name (get_or placed j no_object).name [] distinct (indexed.within i no_object li) (indexed.within j no_object lj) e in
-    let number : i ≡ j = same_some (sym (indexed.all i no_object li) ∙ ap (get nat_cmp index) name ∙ indexed.all j no_object lj) in
+    let number : i ≡ j = same_some (sym (indexed.all i no_object li) ∙ ap (told_at index) name ∙ indexed.all j no_object lj) in
     let impossible : i < i = subst (λ k. i < k) (sym number) less in omega (arith, impossible)))

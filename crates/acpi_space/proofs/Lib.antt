@@ -2,3 +2,7 @@ pub mod Seen
 pub mod Trees
 pub mod Known
 pub mod TermSteps
+mod Rising
+mod Ranges
+mod Naming
+mod Opening

@@ -10,7 +10,8 @@ use Rattle.aml_terms.specs.declared.term.Term.TheVariants.{Name, Scope, Device, 
 use Rattle.aml_terms.specs.declared.term.Term.TheViews.{outs-Name, outs-Scope, outs-Device, outs-Processor, outs-Unread, outs-Alias, outs-External, outs-Mutex, outs-Event, outs-Region}
 use Rattle.acpi_space.specs.Things.Thing.{data_object, device, processor, alias_of}
 use Rattle.acpi_space.specs.Places.{Place, place_of, opened}
-use Rattle.acpi_space.specs.Steps.{Step, Turn, opens, gives, touched, method_name, method_steps, steps_layer, steps_of, steps_in}
+use Rattle.acpi_space.specs.inner.Naming.{named_by}
+use Rattle.acpi_space.specs.Steps.{Step, Turn, opens, gives, touched, method_steps, steps_layer, steps_of, steps_in}
 
 pub steps-layer : (width : Width) (t : Term) (l : Term-F Term) → out-Term t ≡ l → steps_of width t ≡ steps_layer width (map-Term Term Turn (steps_of width) l)
 unfolding steps_of
@@ -34,7 +35,7 @@ steps-Processor width path id block len terms scope before =
     ap (λ (t : Turn). t scope before) (steps-layer width (Processor path id block len terms) (layer.Processor path id block len terms) (outs-Processor path id block len terms))
 
 pub steps-Unread : (width : Width) (opcode : ℕ) (body : List ℕ) (scope : Place) (before : List Step) → steps_of width (Unread opcode body) scope before
-    ≡ (if opcode == 20 then method_steps width scope (method_name body) else [])
+    ≡ (if opcode == 20 then method_steps width scope (named_by body) else [])
 steps-Unread width opcode body scope before = ap (λ (t : Turn). t scope before) (steps-layer width (Unread opcode body) (layer.Unread opcode body) (outs-Unread opcode body))
 
 pub steps-Alias : (width : Width) (source alias : Path) (scope : Place) (before : List Step)
@@ -61,7 +62,7 @@ unread_other width opcode body scope before other = elim (eqb_tells opcode 20) [
 ]
 
 pub unread_method : (width : Width) (opcode : ℕ) (body : List ℕ) (scope : Place) (before : List Step) → opcode ≡ 20
-    → steps_of width (Unread opcode body) scope before ≡ method_steps width scope (method_name body)
+    → steps_of width (Unread opcode body) scope before ≡ method_steps width scope (named_by body)
 unread_method width opcode body scope before is = steps-Unread width opcode body scope before ∙ (rw is refl)
 
 -- a step, and what is done inside from its place on

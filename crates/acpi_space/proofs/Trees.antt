@@ -8,13 +8,26 @@ use Rattle.std.specs.FinMap.{nat_cmp-IsAntisymmetric, slice_cmp-IsAntisymmetric}
 use Rattle.std.specs.BTreeMap.{BTreeMap, get, is_at, Updates}
 use Rattle.std.specs.Map.{lookup}
 use Rattle.std.proofs.lemmas.Bool.{false≢true, cases_lt}
-use Rattle.std.proofs.lemmas.List.{length_push, get_or_append_left, get_or_default, get_or_push, same_from_push, append-nil, take_all, take_more, take-append-le, length-take, length-take-le}
+use Rattle.std.proofs.lemmas.List.{length_push, get_or_append_left, get_or_default, get_or_push, same_from_push, append-nil, take_all, take_more, take-append-le, length-take}
 use Rattle.std.proofs.lemmas.List.Elements.{Contains-get_or, Contains-append_cases, Contains-push_cases}
 use Rattle.acpi_space.specs.declared.tree.Name.{Name}
 use Rattle.acpi_space.specs.Distinct.{IsDistinct}
 use Rattle.acpi_space.specs.Places.{Place, up}
-use Rattle.acpi_space.specs.Trees.{Key, key_cmp, key_of, below, places_from, places_in, IsTree, IsAt, IsBeginning, IsClosed, IsNowhere, Reaches}
+use Rattle.acpi_space.specs.inner.Trees.{Key, key_cmp, key_of, below, places_from, places_in, IsTree, IsAt, back_of, no_name, IsBeginning, IsClosed, IsNext, Reaches}
 use Rattle.acpi_space.proofs.Seen.{IsDistinct-push}
+
+pub subst2 : {A B : Type 0} (P : A → B → Type 0) {a a' : A} {b b' : B} → a ≡ a' → b ≡ b' → P a b → P a' b'
+subst2 P {a} {a'} {b} {b'} e f p = subst (λ x. P x b') e (subst (P a) f p)
+
+pub ap2 : {A B C : Type 0} (f : A → B → C) {a a' : A} {b b' : B} → a ≡ a' → b ≡ b' → f a b ≡ f a' b'
+ap2 f {a} {a'} {b} {b'} e g = ap (λ x. f x b) e ∙ ap (f a') g
+
+abbrev nowhere : Place
+nowhere = []
+
+pub take_none : (n : ℕ) → take n nowhere ≡ []
+take_none zero = refl
+take_none (suc n) = refl
 
 -- ---- the list of places
 
@@ -92,9 +105,9 @@ is_equal Equal e = refl
 is_equal Greater e = absurd (false≢true e)
 
 pub equal_keys : (a b : Key) → is_at (key_cmp a) b ≡ true → a ≡ b
-equal_keys (x, s) (y, t) e =
+equal_keys (s, x) (t, y) e =
     let both = then_equal _ _ (is_equal _ e) in
-    rw (nat_cmp-IsAntisymmetric x y both.0, slice_cmp-IsAntisymmetric nat_cmp-IsAntisymmetric s t both.1) refl
+    rw (slice_cmp-IsAntisymmetric nat_cmp-IsAntisymmetric s t both.0, nat_cmp-IsAntisymmetric x y both.1) refl
 
 pub choice : (b : Bool) → (b ≡ true) ⊎ (b ≡ false)
 choice true = inl refl
@@ -108,20 +121,17 @@ same_some e = cc
 
 -- ---- a tree
 
-pub no_name : Name
-no_name = record { above = 0; seg = [] }
-
 -- the place that the map tells
 pub child_there : (ns : List Name) (map : BTreeMap Key ℕ) (at : ℕ) (s : List ℕ) (k : ℕ) → IsTree ns map
-    → get key_cmp map (at, s) ≡ Some k → IsAt (places_in ns) k (below (places_in ns) at s)
+    → get key_cmp map (s, at) ≡ Some k → IsAt (places_in ns) k (below (places_in ns) at s)
 child_there ns map at s k tree e =
-    let (i, is, within, keyed) = tree.only (at, s) k e in
+    let (i, is, within, keyed) = tree.only (s, at) k e in
     let size = length_in ns in
     let stands = named ns i no_name within (tree.above i no_name within) in
-    (omega (arith, size, is, within), ap (λ j. get_or (places_in ns) j []) is ∙ stands ∙ ap (λ (q : Key). below (places_in ns) q.0 q.1) (keyed no_name))
+    (omega (arith, size, is, within), ap (λ j. get_or (places_in ns) j []) is ∙ stands ∙ ap (λ (q : Key). below (places_in ns) q.1 q.0) (keyed no_name))
 
 -- a place is the root, or stands below one
-root_or_below : (ns : List Name) (map : BTreeMap Key ℕ) (k : ℕ) → IsTree ns map → k < length (places_in ns)
+pub root_or_below : (ns : List Name) (map : BTreeMap Key ℕ) (k : ℕ) → IsTree ns map → k < length (places_in ns)
     → (k ≡ 0) ⊎ ((i : ℕ) × (k ≡ i + 1) × (i < length ns) × ((get_or ns i no_name).above ≤ i)
     × (get_or (places_in ns) k [] ≡ below (places_in ns) (get_or ns i no_name).above (get_or ns i no_name).seg))
 root_or_below ns map zero tree l = inl refl
@@ -155,22 +165,33 @@ closed ns map tree q s among =
 
 -- a place of the tree is told by the map
 pub child_told : (ns : List Name) (map : BTreeMap Key ℕ) (at : ℕ) (s : List ℕ) → IsTree ns map → at < length (places_in ns)
-    → get key_cmp map (at, s) ≡ None → Contains (places_in ns) (below (places_in ns) at s) → ⊥
+    → get key_cmp map (s, at) ≡ None → Contains (places_in ns) (below (places_in ns) at s) → ⊥
 child_told ns map at s tree inside none among =
     let (i, within, up_inside, is, seg) = above_there ns map (get_or (places_in ns) at []) s tree among in
     let same = same_index (places_in ns) (get_or ns i no_name).above at [] tree.distinct up_inside inside is in
     let told = tree.all i no_name within in
-    let key : key_of (get_or ns i no_name) ≡ (at, s) = rw (same, seg) refl in
+    let key : key_of (get_or ns i no_name) ≡ (s, at) = rw (seg, same) refl in
     some_none (ap (get key_cmp map) (sym key) ∙ told) none
 
+-- names before a new one tell the same
+back_stays : (ns : List Name) (n : Name) (i : ℕ) → i ≤ length ns → back_of (ns ++ n ∷ []) i ≡ back_of ns i
+back_stays ns n zero l = refl
+back_stays ns n (suc i) l = ap (λ (m : Name). m.back) (get_or_append_left ns (n ∷ []) no_name i (omega (arith, l)))
+
+place_stays : (ns : List Name) (n : Name) (k : ℕ) → k < length (places_in ns) → get_or (places_in (ns ++ n ∷ [])) k [] ≡ get_or (places_in ns) k []
+place_stays ns n k l = ap (λ ps. get_or ps k []) (pushed ([] ∷ []) ns n) ∙ get_or_append_left (places_in ns) (below (places_in ns) n.above n.seg ∷ []) [] k l
+
+new_place : (ns : List Name) (n : Name) (k : ℕ) → length (places_in ns) ≡ k → get_or (places_in (ns ++ n ∷ [])) k [] ≡ below (places_in ns) n.above n.seg
+new_place ns n k e = ap (λ ps. get_or ps k []) (pushed ([] ∷ []) ns n) ∙ get_or_push (places_in ns) (below (places_in ns) n.above n.seg) [] k e
+
 -- one more place
-pub added : (ns : List Name) (map map' : BTreeMap Key ℕ) (n : Name) → IsTree ns map → n.above < length (places_in ns)
+pub added : (ns : List Name) (map map' : BTreeMap Key ℕ) (n : Name) → IsTree ns map → n.above < length (places_in ns) → IsNext ns n
     → (Contains (places_in ns) (below (places_in ns) n.above n.seg) → ⊥)
-    → Updates key_cmp map map' (n.above, n.seg) (Some (length ns + 1)) → IsTree (ns ++ n ∷ []) map'
-added ns map map' n tree inside fresh updates =
+    → Updates key_cmp map map' (n.seg, n.above) (Some (length ns + 1)) → IsTree (ns ++ n ∷ []) map'
+added ns map map' n tree inside next fresh updates =
     let size = length_in ns in
     let more = length_push ns n in
-    let key : Key = (n.above, n.seg) in
+    let key : Key = (n.seg, n.above) in
     let P = below (places_in ns) n.above n.seg in
     let new : (k : ℕ) → get key_cmp map key ≡ Some k → ⊥ = λ k e. (let there = child_there ns map n.above n.seg k tree e in
     fresh (subst (Contains (places_in ns)) there.1 (Contains-get_or (places_in ns) k [] there.0))) in
@@ -178,6 +199,16 @@ added ns map map' n tree inside fresh updates =
       above = λ i d l. elim (cases_lt i (length ns)) [
         | inl old ↦ rw (get_or_append_left ns (n ∷ []) d i old) (tree.above i d old)
         | inr end ↦ let e : length ns ≡ i = omega arith in rw (get_or_push ns n d i e) (omega arith)
+      ];
+      depth = λ i d l. elim (cases_lt i (length ns)) [
+        | inl old ↦ rw (get_or_append_left ns (n ∷ []) d i old, place_stays ns n (i + 1) (omega arith)) (tree.depth i d old)
+        | inr end ↦
+            let e : length ns ≡ i = omega arith in
+            rw (get_or_push ns n d i e, new_place ns n (i + 1) (omega arith)) (next.depth ∙ sym (length_push (get_or (places_in ns) n.above []) n.seg))
+      ];
+      back = λ i d l. elim (cases_lt i (length ns)) [
+        | inl old ↦ rw (get_or_append_left ns (n ∷ []) d i old, back_stays ns n i (omega arith)) (tree.back i d old)
+        | inr end ↦ let e : length ns ≡ i = omega arith in rw (get_or_push ns n d i e, back_stays ns n i (omega arith), ← e) next.back
       ];
       distinct = rw (pushed ([] ∷ []) ns n) (IsDistinct-push (places_in ns) P tree.distinct fresh);
       all = λ i d l. elim (cases_lt i (length ns)) [
@@ -204,7 +235,7 @@ added ns map map' n tree inside fresh updates =
 -- ---- what the calls of a tree answer
 
 pub child_answer : (ns : List Name) (map : BTreeMap Key ℕ) (at : ℕ) (s : List ℕ) (places : List Place) → IsTree ns map → places_in ns ≡ places → at < length places
-    → (r : Option ℕ) → r ≡ get key_cmp map (at, s) → MatchOption r (Contains places (below places at s) → ⊥) (λ k. IsAt places k (below places at s))
+    → (r : Option ℕ) → r ≡ get key_cmp map (s, at) → MatchOption r (Contains places (below places at s) → ⊥) (λ k. IsAt places k (below places at s))
 child_answer ns map at s places tree v inside None e = subst (λ t. Contains t (below t at s) → ⊥) v (child_told ns map at s tree (subst (λ t. at < length t) (sym v) inside) (sym e))
 child_answer ns map at s places tree v inside (Some k) e = subst (λ t. IsAt t k (below t at s)) v (child_there ns map at s k tree (sym e))
 
@@ -225,6 +256,8 @@ above_answer ns map at n places tree v inside some is =
 pub same_map : (ns ms : List Name) (map map' : BTreeMap Key ℕ) → IsTree ns map → ms ≡ ns → map'.entries ≡ map.entries → IsTree ms map'
 same_map ns ms map map' tree same e = rw same (record {
   above = tree.above;
+  depth = tree.depth;
+  back = tree.back;
   distinct = tree.distinct;
   all = λ i d l. ap (λ es. lookup (is_at (key_cmp (key_of (get_or ns i d)))) es) e ∙ tree.all i d l;
   only = λ q k told. tree.only q k (sym (ap (λ es. lookup (is_at (key_cmp q)) es) e) ∙ told);
@@ -233,12 +266,12 @@ same_map ns ms map map' tree same e = rw same (record {
 pub added_view : (ns ms : List Name) (n : Name) (places : List Place) → places_in ns ≡ places → ms ≡ ns ++ n ∷ [] → places_in ms ≡ places ++ below places n.above n.seg ∷ []
 added_view ns ms n places v e = ap places_in e ∙ pushed ([] ∷ []) ns n ∙ ap (λ t. t ++ below t n.above n.seg ∷ []) v
 
-pub added_tree : (ns ms : List Name) (map map' : BTreeMap Key ℕ) (n : Name) (places : List Place) (number : ℕ) → IsTree ns map → places_in ns ≡ places → n.above < length places
+pub added_tree : (ns ms : List Name) (map map' : BTreeMap Key ℕ) (n : Name) (places : List Place) (number : ℕ) → IsTree ns map → places_in ns ≡ places → n.above < length places → IsNext ns n
     → (Contains places (below places n.above n.seg) → ⊥) → ms ≡ ns ++ n ∷ [] → number ≡ length ns + 1
-    → Updates key_cmp map map' (n.above, n.seg) (Some number) → IsTree ms map'
-added_tree ns ms map map' n places number tree v inside fresh e count updates =
-    rw e (added ns map map' n tree (subst (λ t. n.above < length t) (sym v) inside) (subst (λ t. Contains t (below t n.above n.seg) → ⊥) (sym v) fresh)
-    (subst (λ k. Updates key_cmp map map' (n.above, n.seg) (Some k)) count updates))
+    → Updates key_cmp map map' (n.seg, n.above) (Some number) → IsTree ms map'
+added_tree ns ms map map' n places number tree v inside next fresh e count updates =
+    rw e (added ns map map' n tree (subst (λ t. n.above < length t) (sym v) inside) next (subst (λ t. Contains t (below t n.above n.seg) → ⊥) (sym v) fresh)
+    (subst (λ k. Updates key_cmp map map' (n.seg, n.above) (Some k)) count updates))
 
 pub reached_added : (old new : List Place) (k : ℕ) (place : Place) → (k ≡ length old) × (new ≡ old ++ place ∷ []) → Reaches old new k place
 reached_added old new k place e = record {
@@ -283,57 +316,6 @@ pub one_more : (base segs : Place) (i : ℕ) (s : List ℕ) → i < length segs 
 one_more base segs i s l is =
     ap (λ front. base ++ front) (take_more segs i s l ∙ ap (λ t. take i segs ++ t ∷ []) (sym is)) ∙ sym (append_assoc base (take i segs) (s ∷ []))
 
--- ---- the search from a scope
-
-pub record Sought (places : List Place) (scope : Place) (seg : List ℕ) (at : ℕ) : Type 0 where
-  pub inside : at < length places
-  pub kept : ℕ
-  pub within : kept ≤ length scope
-  pub is : get_or places at [] ≡ take kept scope
-  pub missed : (n : ℕ) → kept < n → n ≤ length scope → Contains places (take n scope ++ seg ∷ []) → ⊥
-
-pub sought_first : (places : List Place) (at : ℕ) (seg : List ℕ) → at < length places → Sought places (get_or places at []) seg at
-sought_first places at seg inside = record {
-  inside = inside;
-  kept = length (get_or places at []);
-  within = omega arith;
-  is = sym (take_all (length (get_or places at [])) (get_or places at []) (omega arith));
-  missed = λ n more fits. absurd (omega (arith, more, fits));
-}
-
-missed_here : (places : List Place) (scope : Place) (seg : List ℕ) (at n : ℕ) → (sought : Sought places scope seg at) → (Contains places (below places at seg) → ⊥)
-    → sought.kept ≤ n → n ≤ length scope → Contains places (take n scope ++ seg ∷ []) → ⊥
-missed_here places scope seg at n sought none least fits among = elim (cases_lt sought.kept n) [
-  | inl more ↦ sought.missed n more fits among
-  | inr same ↦ let e : n ≡ sought.kept = omega arith in none (subst (λ (p : Place). Contains places (p ++ seg ∷ [])) (ap (λ k. take k scope) e ∙ sym sought.is) among)
-]
-
-pub sought_nowhere : (places : List Place) (scope : Place) (seg : List ℕ) (at : ℕ) → Sought places scope seg at → (Contains places (below places at seg) → ⊥)
-    → get_or places at [] ≡ [] → IsNowhere places scope seg
-sought_nowhere places scope seg at sought none root n fits =
-    let empty : length (take sought.kept scope) ≡ 0 = ap length (sym sought.is ∙ root) in
-    let l : sought.kept ≡ 0 = sym (length-take-le sought.kept scope sought.within) ∙ empty in
-    missed_here places scope seg at n sought none (omega arith) fits
-
-pub sought_above : (places : List Place) (scope : Place) (seg : List ℕ) (at above : ℕ) (s : List ℕ) → Sought places scope seg at → (Contains places (below places at seg) → ⊥)
-    → get_or places at [] ≡ below places above s → above < at → Sought places scope seg above
-sought_above places scope seg at above s sought none is less =
-    let fits = sought.within in
-    let q = get_or places above [] in
-    let whole : take sought.kept scope ≡ q ++ s ∷ [] = sym sought.is ∙ is in
-    let count : sought.kept ≡ length q + 1 = sym (length-take-le sought.kept scope fits) ∙ ap length whole ∙ length_push q s in
-    let shift : sought.kept ≡ length q + 1 = count in
-    let inside = sought.inside in
-    let split : take (length q + 1) scope ≡ take (length q) scope ++ get_or scope (length q) s ∷ [] = take_more scope (length q) s (omega arith) in
-    let both = same_from_push q (take (length q) scope) s (get_or scope (length q) s) (sym whole ∙ ap (λ k. take k scope) shift ∙ split) in
-    record {
-      inside = omega arith;
-      kept = length q;
-      within = omega arith;
-      is = both.0;
-      missed = λ n more within. missed_here places scope seg at n sought none (omega (arith, more, shift)) within;
-    }
-
 -- ---- the way down
 
 -- the first segments of a place, but for some at its end
@@ -352,3 +334,12 @@ not_below places segs at i s closed here l is none among =
     let sum : (i + 1) + gap ≡ length segs = omega arith in
     let front = shorter_there places segs s (i + 1) gap closed sum among in
     none (subst (Contains places) (more ∙ ap (λ (p : Place). p ++ s ∷ []) (sym here.1)) front)
+
+-- the map tells a place of the tree
+pub told_child : (ns : List Name) (map : BTreeMap Key ℕ) (at : ℕ) (s : List ℕ) → IsTree ns map → at < length (places_in ns) → Contains (places_in ns) (below (places_in ns) at s)
+    → (k : ℕ) × (get key_cmp map (s, at) ≡ Some k)
+told_child ns map at s tree inside among =
+    let (i, within, up_inside, is, seg) = above_there ns map (get_or (places_in ns) at []) s tree among in
+    let same = same_index (places_in ns) (get_or ns i no_name).above at [] tree.distinct up_inside inside is in
+    let key : key_of (get_or ns i no_name) ≡ (s, at) = rw (seg, same) refl in
+    (i + 1, ap (get key_cmp map) (sym key) ∙ tree.all i no_name within)

@@ -1,7 +1,8 @@
 pub mod Distinct
 pub mod Places
 pub mod Things
+pub mod MethodNames
 pub mod Steps
 pub mod Namespace
-pub mod Trees
 pub mod Standing
+pub mod inner

@@ -1,5 +1,5 @@
 -- Places in the namespace, and where names lead (ACPI 6.5, 5.3).
-use Rattle.std.specs.Prelude.{ℕ, zero, suc, ◌-◌, ◌==◌, ◌&&◌, not, Bool, List, [], ◌++◌, length, take, nat_eq, if◌then◌else◌}
+use Rattle.std.specs.Prelude.{◌≡◌, ◌≤◌, ◌<◌, true, false, Contains, ℕ, zero, suc, ◌-◌, ◌==◌, ◌&&◌, not, Bool, List, [], ◌++◌, length, take, nat_eq, if◌then◌else◌}
 use Rattle.std.specs.List.{list_any, starts_with}
 use Rattle.std.specs.Cmp.Lexicographic.{pointwise}
 use Rattle.aml_data.specs.declared.path.Path.{Path}
@@ -36,3 +36,18 @@ found known scope segs other (suc n) =
 abbrev pub opened : List Place → Place → Path → Place
 opened known scope path =
     if is_single path then found known scope path.segs (place_of scope path) (length scope) else place_of scope path
+
+-- # Which place a Scope opens, in words
+
+-- a place is one of these, or begins one of them
+abbrev pub IsKnown : List Place → Place → Type 0
+IsKnown known place = (rest : Place) × Contains known (place ++ rest)
+
+-- A name of another form is opened where it leads. A single segment is opened in its scope where it is known there, or else
+-- in the nearest scope around it, up to the root, in which it is known; where it is known in none, in the scope itself.
+pub data Opens (known : List Place) (scope : Place) (path : Path) : Place → Type 0 where
+  opens_there : is_single path ≡ false → Opens known scope path (place_of scope path)
+  opens_nearest : is_single path ≡ true → (n : ℕ) → n ≤ length scope → IsKnown known (take n scope ++ path.segs)
+      → ((m : ℕ) → n < m → m ≤ length scope → IsKnown known (take m scope ++ path.segs) → ⊥) → Opens known scope path (take n scope ++ path.segs)
+  opens_new : is_single path ≡ true → ((m : ℕ) → m ≤ length scope → IsKnown known (take m scope ++ path.segs) → ⊥)
+      → Opens known scope path (scope ++ path.segs)

@@ -1,14 +1,15 @@
 -- What terms do in the namespace, one step after the other: each step opens a place, or places an object at it
 -- (ACPI 6.5, 5.3 and 20.2.5).
-use Rattle.std.specs.Prelude.{ℕ, ◌==◌, List, [], ◌∷◌, ◌++◌, length, map, take, Option, Some, None, Ok, Err, if◌then◌else◌}
+use Rattle.std.specs.Prelude.{◌==◌, List, [], ◌∷◌, ◌++◌, map, Option, Some, None, if◌then◌else◌}
 use Rattle.aml_data.specs.declared.data.Width.{Width}
 use Rattle.aml_data.specs.declared.path.Path.{Path}
-use Rattle.aml_data.specs.Reading.{Read, name_at}
+use Rattle.aml_terms.specs.declared.opcode.TheConstants.{METHOD_OP}
 use Rattle.aml_terms.specs.declared.term.Term.{Term, Term-F, fold-Term}
 use Rattle.aml_terms.specs.declared.term.Term.TheOpen as layer
 use Rattle.acpi_space.specs.Things.{Thing}
 use Rattle.acpi_space.specs.Things.Thing.{data_object, device, processor, method, alias_of}
 use Rattle.acpi_space.specs.Places.{Place, place_of, opened}
+use Rattle.acpi_space.specs.inner.Naming.{named_by}
 
 -- an object, and the width of its integers
 pub record Sized : Type 0 where
@@ -43,19 +44,7 @@ in_order (t ∷ ts) scope before = t scope before ++ in_order ts scope (before +
 abbrev pub then_inside : Step → List Turn → List Step → List Step
 then_inside step inside before = step ∷ in_order inside step.place (before ++ step ∷ [])
 
--- the name of a method is the one that its body begins with, where that has a segment (ACPI 6.5, 20.2.5.2)
-abbrev pub with_a_segment : Read Path → Option Path
-with_a_segment (Ok name) = if length name.0.segs == 0 then None else Some name.0
-with_a_segment (Err fault) = None
-
--- the first 2 ^ 28 bytes of a body: no PkgLength counts more (ACPI 6.5, 20.2.4)
-abbrev pub front_of : List ℕ → List ℕ
-front_of body = take 268435456 body
-
-unfoldable pub method_name : List ℕ → Option Path
-method_name body = with_a_segment (name_at (length (front_of body)) (front_of body))
-
--- a method is placed where its body has a name
+-- A method is placed where its body has a name: `named_by` tells the name that `IsMethodName` says, which is a law.
 abbrev pub method_steps : Width → Place → Option Path → List Step
 method_steps width scope None = []
 method_steps width scope (Some path) = gives width (place_of scope path) method ∷ []
@@ -67,7 +56,7 @@ steps_layer width (layer.Name path value) scope before = gives width (place_of s
 steps_layer width (layer.Scope path inside) scope before = then_inside (opens (opened (touched before) scope path)) inside before
 steps_layer width (layer.Device path inside) scope before = then_inside (gives width (place_of scope path) device) inside before
 steps_layer width (layer.Processor path id block len inside) scope before = then_inside (gives width (place_of scope path) processor) inside before
-steps_layer width (layer.Unread opcode body) scope before = if opcode == 20 then method_steps width scope (method_name body) else []
+steps_layer width (layer.Unread opcode body) scope before = if opcode == METHOD_OP then method_steps width scope (named_by body) else []
 steps_layer width (layer.Alias source alias) scope before = gives width (place_of scope alias) (alias_of source) ∷ []
 steps_layer width other scope before = []
 

@@ -1,25 +1,25 @@
 //! What stands while the terms of blocks are gone through.
 
-ghost use Rattle.std.specs.Prelude.{◌≡◌, ◌<◌, [], ◌∷◌, List, length, get_or, IfOk, OnOk};
+ghost use Rattle.std.specs.Prelude.{◌≡◌, ◌<◌, [], ◌∷◌, ◌++◌, List, length, get_or, IfOk, OnOk};
 ghost use Rattle.acpi_space.specs.Places.{place_of, opened};
 ghost use Rattle.acpi_space.specs.Steps.{Step as step_of, opens, gives, touched};
 ghost use Rattle.acpi_space.specs.Things.{thing};
-ghost use Rattle.acpi_space.specs.Trees.{IsAt, IsGrown};
-ghost use Rattle.acpi_space.specs.Standing.{Does, StandsIn};
+ghost use Rattle.acpi_space.specs.inner.Trees.{IsAt, IsGrown};
+ghost use Rattle.acpi_space.specs.inner.Standing.{Does, IsNoted, StandsIn, told_at};
 
 use crate::fault::SpaceFault;
 use crate::object::{Object, Placed};
 use crate::tree::Tree;
-use aml_data::{Path, Width};
+use aml_data::{Path, Seg, Width};
+use pw_base::Memory;
 use std::alloc::Global;
-use std::collections::BTreeMap;
 
 /// The places that are known, what is placed so far, and which object stands at a place.
-#[derive(Debug, Drop)]
+#[derive(Drop)]
 pub(crate) struct Building<'a> {
     pub(crate) tree: Tree,
     pub(crate) placed: Vec<Placed<'a>>,
-    pub(crate) index: BTreeMap<usize, usize>,
+    pub(crate) index: Vec<Option<usize>>,
 }
 
 impl<'a> Building<'a> {
@@ -30,7 +30,7 @@ impl<'a> Building<'a> {
         Building {
             tree: Tree::new(alloc),
             placed: Vec::new(alloc),
-            index: BTreeMap::new(alloc),
+            index: Vec::new(alloc),
         }
     }
 
@@ -50,19 +50,39 @@ impl<'a> Building<'a> {
         ensures done { Does self.old result self.new
             (λ _. gives width (place_of (get_or self.old.tree scope []) path.now) (thing object.entry) ∷ []) }
     {
-        let name = self.tree.touch(scope, path)?;
+        let start = self.tree.start(scope, path.root, path.ups as usize);
+        self.put_below(alloc, start, path.segs.as_slice(), object, width)
+    }
+
+    /// Places an object at segments below a place.
+    pub(crate) fn put_below(
+        &mut self,
+        alloc: Global,
+        start: usize,
+        segs: &[Seg],
+        object: Object<'a>,
+        width: Width,
+    ) -> Result<usize, SpaceFault>
+        requires { start < length self.old.tree }
+        ensures grown { OnOk result (IsGrown self.old.tree self.new.tree) }
+        ensures here { IfOk result (λ k. IsAt self.new.tree k (get_or self.old.tree start [] ++ segs.now)) }
+        ensures done { Does self.old result self.new
+            (λ _. gives width (get_or self.old.tree start [] ++ segs.now) (thing object.entry) ∷ []) }
+    {
+        let name = self.tree.reach(start, segs)?;
         self.tree.facts();
-        if self.index.contains_key(&name) {
+        if number_at(self.index.as_slice(), name).is_some() {
             let path = self.tree.path(alloc, name)?;
             return Err(SpaceFault::Twice { path });
         }
-        let number = self.placed.len();
+        let index = self.placed.len();
         self.placed.push(Placed {
             name,
+            index,
             object,
             width,
         })?;
-        self.index.insert(name, number)?;
+        note(&mut self.index, name, index)?;
         Ok(name)
     }
 
@@ -81,4 +101,25 @@ impl<'a> Building<'a> {
         self.tree.facts();
         Ok(name)
     }
+}
+
+/// The object that stands at a place.
+pub(crate) fn number_at(index: &[Option<usize>], place: usize) -> Option<usize>
+    ensures { result ≡ told_at index.now place }
+{
+    match index.get(place) {
+        Some(number) => *number,
+        None => None,
+    }
+}
+
+/// Notes which object stands at a place.
+fn note(index: &mut Vec<Option<usize>>, place: usize, number: usize) -> Result<(), Memory>
+    ensures { OnOk result (IsNoted index.old.items index.new.items place number) }
+{
+    while index.len() <= place {
+        index.push(None)?;
+    }
+    index[place] = Some(number);
+    Ok(())
 }

@@ -6,7 +6,7 @@ use pw_base::Memory;
 use std::alloc::{AllocError, AllocFailed};
 
 /// Why there is no space.
-#[derive(Debug, Drop)]
+#[derive(Drop)]
 pub enum SpaceFault {
     /// An object is placed where one was placed before: the first such place.
     Twice { path: FullPath },

@@ -3,14 +3,13 @@
 
 mod building;
 mod fault;
+mod laws;
 mod object;
 mod space;
 mod terms;
 mod tree;
 
 pub use fault::SpaceFault;
+pub use laws::{method_names, opened_place};
 pub use object::{Object, Placed};
 pub use space::Space;
-
-#[cfg(test)]
-mod tests;

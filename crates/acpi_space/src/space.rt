@@ -1,10 +1,11 @@
-ghost use Rattle.std.specs.Prelude.{◌≡◌, ◌⊎◌, ◌≤◌, ◌<◌, length, get_or, Contains, IfOk, IfErr, MatchOption};
+ghost use Rattle.std.specs.Prelude.{◌≡◌, ◌⊎◌, ◌≤◌, ◌<◌, [], ◌∷◌, ◌++◌, length, get_or, Contains, IfOk, IfErr, MatchOption};
 ghost use Rattle.std.specs.List.{All, Any};
 ghost use Rattle.acpi_space.specs.Distinct.{IsDistinct};
 ghost use Rattle.acpi_space.specs.Namespace.{Entry as entry_of, dsdt_width, entries_in, places_of};
-ghost use Rattle.acpi_space.specs.Standing.{AreObjects, IsFaultIn, entry_from};
+ghost use Rattle.acpi_space.specs.Standing.{AreObjects, IsFaultIn, IsFound};
+ghost use Rattle.acpi_space.specs.inner.Standing.{entries_at, IsIndex};
 
-use crate::building::Building;
+use crate::building::{Building, number_at};
 use crate::fault::SpaceFault;
 use crate::object::Placed;
 use crate::terms::place_terms;
@@ -13,18 +14,17 @@ use aml_block::{Block, Signature};
 use aml_data::{FullPath, Seg, Width};
 use pw_base::{Memory, Room};
 use std::alloc::Global;
-use std::collections::BTreeMap;
 use std::marker::Model;
 
 /// The objects that blocks place in the namespace, in the order of the blocks and within a block in its
 /// order (ACPI 6.5, 5.3). Contracts see the list of the objects with their full paths. Places share the
 /// names that they begin with, so that the memory of a space grows with the bytes of its blocks, however
 /// long the paths are. Its data objects are those of the blocks, which aren't copied.
-#[derive(Debug, Drop)]
+#[derive(Drop)]
 pub struct Space<'a> {
     tree: Tree,
     placed: Vec<Placed<'a>>,
-    index: BTreeMap<usize, usize>,
+    index: Vec<Option<usize>>,
 }
 
 impl<'a> Model for Space<'a> {
@@ -38,11 +38,11 @@ impl<'a> Model for Space<'a> {
 
     ghost coded = { Prim.hlevel (codes, data_of.the_row.coded) };
 
-    ghost use Rattle.acpi_space.specs.Standing.{entries_at, IsIndex};
+    ghost use Rattle.acpi_space.specs.inner.Standing.{entries_at, IsIndex};
 
     ghost view = { λ s. entries_at s.tree s.placed.items };
 
-    ghost invariant = { λ s. IsIndex s.tree s.placed.items s.index };
+    ghost invariant = { λ s. IsIndex s.tree s.placed.items s.index.items };
 }
 
 /// The width of the first block that is a DSDT.
@@ -55,6 +55,26 @@ fn dsdt_width(blocks: &[Block]) -> Option<Width>
         }
     }
     None
+}
+
+/// The object that stands at a place.
+fn object_at<'s, 'a>(
+    tree: &Tree,
+    placed: &'s [Placed<'a>],
+    index: &[Option<usize>],
+    name: usize,
+) -> Option<&'s Placed<'a>>
+    requires indexed { IsIndex tree.now placed.now index.now }
+    requires distinct { IsDistinct tree.now }
+    requires within { name < length tree.now }
+    ensures { MatchOption result
+        (Contains (places_of (entries_at tree.now placed.now)) (get_or tree.now name []) → ⊥)
+        (λ p. IsFound (entries_at tree.now placed.now) (get_or tree.now name []) p.now) }
+{
+    match number_at(index, name) {
+        Some(number) => Some(&placed[number]),
+        None => None,
+    }
 }
 
 impl<'a> Space<'a> {
@@ -86,14 +106,36 @@ impl<'a> Space<'a> {
     /// The object that is placed at a full path. It takes no memory.
     pub fn find(&self, path: &FullPath) -> Option<&Placed<'a>>
         ensures { MatchOption result (Contains (places_of self.now) path.now.segs → ⊥)
-            (λ p. Contains self.now (entry_from path.now.segs p.now)) }
+            (λ p. IsFound self.now path.now.segs p.now) }
     {
         self.tree.facts();
         match self.tree.find(path.segs.as_slice()) {
-            Some(name) => match self.index.get(&name) {
-                Some(number) => Some(&self.placed[*number]),
-                None => None,
-            },
+            Some(name) => object_at(
+                &self.tree,
+                self.placed.as_slice(),
+                self.index.as_slice(),
+                name,
+            ),
+            None => None,
+        }
+    }
+
+    /// The object that is placed at a segment below the object at a place of the list. It takes no memory.
+    pub fn find_below(&self, index: usize, seg: Seg) -> Option<&Placed<'a>>
+        requires { index < length self.now }
+        ensures { (d : entry_of) → MatchOption result
+            (Contains (places_of self.now) ((get_or self.now index d).path ++ seg ∷ []) → ⊥)
+            (λ p. IsFound self.now ((get_or self.now index d).path ++ seg ∷ []) p.now) }
+    {
+        self.tree.facts();
+        let above = &self.placed[index];
+        match self.tree.child(above.name, seg) {
+            Some(name) => object_at(
+                &self.tree,
+                self.placed.as_slice(),
+                self.index.as_slice(),
+                name,
+            ),
             None => None,
         }
     }
@@ -119,11 +161,20 @@ impl<'a> Space<'a> {
     /// Fills a buffer with the full path of the object at a place of the list. It takes no memory.
     pub fn fill_path(&self, index: usize, path: &mut Room<Seg>)
         requires within { index < length self.now }
-        requires room { All (λ (e : entry_of). length e.path ≤ path.old.capacity) self.now }
+        requires room { (d : entry_of) → length (get_or self.now index d).path ≤ path.old.capacity }
         ensures { (d : entry_of) → path.new ≡ record path.old { elements = (get_or self.now index d).path } }
     {
         let placed = &self.placed[index];
         self.tree.fill(placed.name, path);
+    }
+
+    /// How many segments the full path of the object at a place of the list has. It takes no memory.
+    pub fn path_length(&self, index: usize) -> usize
+        requires { index < length self.now }
+        ensures { (d : entry_of) → result ≡ length (get_or self.now index d).path }
+    {
+        let placed = &self.placed[index];
+        self.tree.depth(placed.name)
     }
 
     /// How many segments the longest full path of its objects has; 0 for no objects. It takes no memory.

@@ -1,28 +1,68 @@
 //! Going through the terms of blocks.
 
-ghost use Rattle.std.specs.Prelude.{◌≡◌, ◌<◌, ◌≤◌, [], length, get_or, OnOk, IfOk};
-ghost use Rattle.acpi_space.specs.Steps.{front_of, method_name, method_steps, steps_of, steps_in};
-ghost use Rattle.acpi_space.specs.Trees.{IsGrown};
-ghost use Rattle.acpi_space.specs.Standing.{Does};
+ghost use Rattle.std.specs.Prelude.{◌≡◌, ◌≢◌, ◌<◌, ◌≤◌, ℕ, true, false, [], ◌∷◌, ◌++◌, List, length, take, get_or, replicate, OnOk, IfOk, MatchOption};
+ghost use Rattle.aml_data.specs.declared.opcode.TheConstants.{PARENT_PREFIX_CHAR, ROOT_CHAR};
+ghost use Rattle.aml_data.specs.declared.path.Path.{Path as path_type};
+ghost use Rattle.acpi_space.specs.declared.terms.TheConstants.{LONGEST};
+ghost use Rattle.acpi_space.specs.MethodNames.{IsMethodName};
+ghost use Rattle.acpi_space.specs.Steps.{method_steps, steps_of, steps_in};
+ghost use Rattle.acpi_space.specs.inner.Naming.{named_by, path_of};
+ghost use Rattle.acpi_space.specs.inner.Trees.{IsGrown};
+ghost use Rattle.acpi_space.specs.inner.Standing.{Does};
 
 use crate::building::Building;
 use crate::fault::SpaceFault;
 use crate::object::Object;
 use aml_block::Term;
-use aml_data::{DataFault, Path, Width, name_of};
-use pw_base::Memory;
+use aml_data::opcode::{PARENT_PREFIX_CHAR, ROOT_CHAR};
+use aml_data::{DataFault, Seg, Width, name_of};
+use aml_terms::opcode::METHOD_OP;
+use pw_base::{CompactList, Memory};
 use std::alloc::Global;
 
-/// The opcode of a Method (ACPI 6.5, 20.2.5.2).
-const METHOD: u16 = 0x14;
+/// No name without steps up has more bytes: the root, a prefix, a count and 255 segments (ACPI 6.5, 20.2.2).
+const LONGEST: usize = 1023;
 
-/// No PkgLength counts more bytes (ACPI 6.5, 20.2.4).
-const LONGEST: usize = 0x1000_0000;
+/// The name of a method. It may lead up so many steps that no `Path` counts them.
+#[derive(Drop)]
+struct MethodName {
+    root: bool,
+    ups: usize,
+    segs: CompactList<Seg>,
+}
 
-/// As many bytes of a body as a method has at most.
+/// How many bytes 5E stand in front, and the bytes after them.
+fn steps_up(body: &[u8]) -> (usize, &[u8])
+    ensures parts { body.now ≡ replicate result.0 PARENT_PREFIX_CHAR ++ result.1.now }
+    ensures end { (rest : List ℕ) → result.1.now ≡ PARENT_PREFIX_CHAR ∷ rest → ⊥ }
+{
+    let mut ups = 0;
+    let mut rest = body;
+    while let [PARENT_PREFIX_CHAR, after @ ..] = rest {
+        ups += 1;
+        rest = after;
+    }
+    (ups, rest)
+}
+
+/// Whether a root stands behind steps up, as in no name.
+fn is_root_behind(ups: usize, rest: &[u8]) -> bool
+    ensures yes { result ≡ true → (0 < ups) × ((more : List ℕ) × (rest.now ≡ ROOT_CHAR ∷ more)) }
+    ensures no { result ≡ false → 0 < ups → (more : List ℕ) → rest.now ≡ ROOT_CHAR ∷ more → ⊥ }
+{
+    if ups == 0 {
+        return false;
+    }
+    match rest {
+        [ROOT_CHAR, _more @ ..] => true,
+        _ => false,
+    }
+}
+
+/// As many bytes as a name has at most.
 fn front_of(body: &[u8]) -> &[u8]
-    ensures value { result.now ≡ front_of body.now }
-    ensures small { length result.now ≤ 268435456 }
+    ensures value { result.now ≡ take LONGEST body.now }
+    ensures small { length result.now ≤ LONGEST }
 {
     if body.len() <= LONGEST {
         body
@@ -31,21 +71,42 @@ fn front_of(body: &[u8]) -> &[u8]
     }
 }
 
-/// The name that the body of a method begins with, where it has a segment.
-#[tactic(auto, unfolding(crate::specs::Steps::method_name))]
-fn name_of_method(alloc: Global, body: &[u8]) -> Result<Option<Path>, Memory>
-    ensures { IfOk result (λ name. name ≡ method_name body.now) }
+/// A name isn't read for what the bytes are, or for want of memory.
+fn unless_memory(fault: DataFault) -> Result<(), Memory>
+    ensures { IfOk result (λ _. fault ≢ DataFault.Memory) }
 {
-    let front = front_of(body);
+    match fault {
+        DataFault::Memory => Err(Memory),
+        _ => Ok(()),
+    }
+}
+
+/// The name that the body of a method begins with, where it has a segment. A body has any length, and is
+/// read no further than the name may go.
+fn name_of_method(alloc: Global, body: &[u8]) -> Result<Option<MethodName>, Memory>
+    ensures { IfOk result (λ name. MatchOption name ((path : path_type) → IsMethodName body.now path → ⊥)
+        (λ m. IsMethodName body.now (path_of m))) }
+{
+    let (ups, rest) = steps_up(body);
+    if is_root_behind(ups, rest) {
+        return Ok(None);
+    }
+    let front = front_of(rest);
     match name_of(alloc, front, front.len()) {
         Ok((path, _)) => {
             if path.segs.as_slice().is_empty() {
                 return Ok(None);
             }
-            Ok(Some(path))
+            Ok(Some(MethodName {
+                root: path.root,
+                ups,
+                segs: path.segs,
+            }))
         }
-        Err(DataFault::Memory) => Err(Memory),
-        Err(_) => Ok(None),
+        Err(fault) => {
+            unless_memory(fault)?;
+            Ok(None)
+        }
     }
 }
 
@@ -60,11 +121,12 @@ fn place_method<'a>(
     requires { scope < length building.old.tree }
     ensures grown { OnOk result (IsGrown building.old.tree building.new.tree) }
     ensures done { Does building.old result building.new
-        (λ _. method_steps width (get_or building.old.tree scope []) (method_name body.now)) }
+        (λ _. method_steps width (get_or building.old.tree scope []) (named_by body.now)) }
 {
     match name_of_method(alloc, body)? {
-        Some(path) => {
-            building.put(alloc, scope, &path, Object::Method, width)?;
+        Some(name) => {
+            let start = building.tree.start(scope, name.root, name.ups);
+            building.put_below(alloc, start, name.segs.as_slice(), Object::Method, width)?;
             Ok(())
         }
         None => Ok(()),
@@ -103,7 +165,7 @@ fn place_term<'a>(
             place_terms(alloc, building, terms.as_slice(), at, width)
         }
         Term::Unread { opcode, body } => {
-            if *opcode != METHOD {
+            if *opcode != METHOD_OP {
                 return Ok(());
             }
             place_method(alloc, building, body.as_slice(), scope, width)

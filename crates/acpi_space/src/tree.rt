@@ -1,11 +1,12 @@
 //! The places of a namespace as a tree of names, so that places share what they begin with.
 
-ghost use Rattle.std.specs.Prelude.{◌≡◌, ◌≤◌, ◌<◌, ◌+◌, ◌-◌, [], ◌∷◌, ◌++◌, List as list};
+ghost use Rattle.std.specs.Prelude.{◌≡◌, ◌⊎◌, ◌≤◌, ◌<◌, ◌+◌, ◌-◌, ◌^◌, ℕ, [], ◌∷◌, ◌++◌, List as list};
 ghost use Rattle.std.specs.Prelude.{length, take, get_or, if◌then◌else◌};
 ghost use Rattle.std.specs.Prelude.{Contains, MatchOption, IfOk, IfSome, OnOk};
 ghost use Rattle.acpi_space.specs.Places.{Place as place, opened, place_of, up};
-ghost use Rattle.acpi_space.specs.Trees.{below, IsAt, IsClosed, IsGrown};
-ghost use Rattle.acpi_space.specs.Trees.{IsNearest, IsNowhere, Knows, Reaches};
+ghost use Rattle.acpi_space.specs.declared.tree.Name.{Name as name_type};
+ghost use Rattle.acpi_space.specs.inner.Trees.{back_of, below, places_in, IsAt, IsClosed, IsGrown, IsNext, IsOrdered};
+ghost use Rattle.acpi_space.specs.inner.Trees.{HasNoneFrom, IsLast, IsNearest, IsNowhere, IsRisen, Knows, Reaches};
 ghost use Rattle.acpi_space.specs.Distinct.{IsDistinct};
 
 use aml_data::{FullPath, Path, Seg};
@@ -14,18 +15,21 @@ use std::alloc::Global;
 use std::collections::BTreeMap;
 use std::marker::Model;
 
-/// A name: the number of the place above it, and its segment.
-#[derive(Clone, Copy, Debug)]
+/// A name: the number of the place above it, how many segments its place has, and its last one.
+#[derive(Clone, Copy)]
 pub(crate) struct Name {
     pub(crate) above: usize,
+    pub(crate) depth: usize,
     pub(crate) seg: Seg,
+    /// So many places right before this one stand above it, each above the next; it may count too few.
+    pub(crate) back: u32,
 }
 
 /// Places, by their numbers. The root has number 0. Contracts see the list of the places.
-#[derive(Debug, Drop)]
+#[derive(Drop)]
 pub(crate) struct Tree {
     names: Vec<Name>,
-    numbers: BTreeMap<(usize, Seg), usize>,
+    numbers: BTreeMap<(Seg, usize), usize>,
 }
 
 impl Model for Tree {
@@ -36,7 +40,7 @@ impl Model for Tree {
 
     ghost coded = { coded_list (coded_list (coded_list coded_ℕ)) };
 
-    ghost use Rattle.acpi_space.specs.Trees.{places_in, IsTree};
+    ghost use Rattle.acpi_space.specs.inner.Trees.{places_in, IsTree};
 
     ghost view = { λ t. places_in t.names.items };
 
@@ -60,7 +64,7 @@ impl Tree {
         ensures { MatchOption result (Contains self.now (below self.now at seg) → ⊥)
             (λ k. IsAt self.now k (below self.now at seg)) }
     {
-        self.numbers.get(&(at, seg)).copied()
+        self.numbers.get(&(seg, at)).copied()
     }
 
     /// The place above a place, and the segment below that; the root has none.
@@ -78,6 +82,14 @@ impl Tree {
         Some((name.above, name.seg))
     }
 
+    /// How many segments a place has. It takes no memory.
+    pub(crate) fn depth(&self, at: usize) -> usize
+        requires { at < length self.now }
+        ensures { result ≡ length (get_or self.now at []) }
+    {
+        depth_in(self.names.as_slice(), at)
+    }
+
     /// Adds a place that isn't one of the tree.
     fn add(&mut self, at: usize, seg: Seg) -> Result<usize, Memory>
         requires within { at < length self.old }
@@ -85,9 +97,10 @@ impl Tree {
         ensures { IfOk result (λ k. (k ≡ length self.old)
             × (self.new ≡ self.old ++ below self.old at seg ∷ [])) }
     {
-        self.names.push(Name { above: at, seg })?;
+        let name = next_name(self.names.as_slice(), at, seg);
+        self.names.push(name)?;
         let number = self.names.len();
-        match self.numbers.insert((at, seg), number) {
+        match self.numbers.insert((seg, at), number) {
             Ok(_) => Ok(number),
             Err(_) => {
                 let _ = self.names.pop();
@@ -120,7 +133,7 @@ impl Tree {
     }
 
     /// The place so many steps up from a place; above the root it is the root.
-    fn up(&self, at: usize, steps: u32) -> usize
+    fn up(&self, at: usize, steps: usize) -> usize
         requires { at < length self.now }
         ensures { IsAt self.now result (up steps (get_or self.now at [])) }
     {
@@ -137,26 +150,53 @@ impl Tree {
     }
 
     /// The place from which a name leads on: the root, or so many steps up from a scope.
-    fn start(&self, scope: usize, path: &Path) -> usize
+    pub(crate) fn start(&self, scope: usize, root: bool, ups: usize) -> usize
         requires { scope < length self.now }
-        ensures { IsAt self.now result
-            (if path.now.root then [] else up path.now.ups (get_or self.now scope [])) }
+        ensures { IsAt self.now result (if root then [] else up ups (get_or self.now scope [])) }
     {
         self.facts();
-        if path.root {
+        if root {
             return 0;
         }
-        self.up(scope, path.ups)
+        self.up(scope, ups)
     }
 
     /// The place where a name leads from a scope.
-    pub(crate) fn touch(&mut self, scope: usize, path: &Path) -> Result<usize, Memory>
+    fn touch(&mut self, scope: usize, path: &Path) -> Result<usize, Memory>
         requires { scope < length self.old }
         ensures { IfOk result (λ k. Reaches self.old self.new k
             (place_of (get_or self.old scope []) path.now)) }
     {
-        let start = self.start(scope, path);
+        let start = self.start(scope, path.root, path.ups as usize);
         self.reach(start, path.segs.as_slice())
+    }
+
+    /// The last place, up to this number, that has the segment below it, and the number of the place there.
+    fn last(&self, seg: Seg, most: usize) -> Option<(usize, usize)>
+        requires { most < length self.now }
+        ensures { MatchOption result (HasNoneFrom self.now seg 0 most) (IsLast self.now seg most) }
+    {
+        let mut known = self.numbers.range((seg, 0)..=(seg, most));
+        match known.next_back() {
+            Some((key, number)) => Some((key.1, *number)),
+            None => None,
+        }
+    }
+
+    /// A place above another. Places between the two are passed where their numbers are greater than this
+    /// one, so that long paths take few steps.
+    fn rise(&self, at: usize, least: usize) -> usize
+        requires within { at < length self.now }
+        requires some { least < at }
+        ensures { IsRisen self.now at least result }
+    {
+        let names = &self.names;
+        let name = names[at - 1];
+        let back = name.back as usize;
+        if back == 0 {
+            return name.above;
+        }
+        if back < at - least { at - back } else { least }
     }
 
     /// The place of a segment below a scope, or below the first place above it that has it below.
@@ -165,16 +205,21 @@ impl Tree {
         ensures { MatchOption result (IsNowhere self.now (get_or self.now scope []) seg)
             (IsNearest self.now (get_or self.now scope []) seg) }
     {
+        self.facts();
         let mut here = scope;
-        loop {
-            match self.child(here, seg) {
-                Some(number) => return Some(number),
-                None => match self.above(here) {
-                    Some((above, _)) => here = above,
-                    None => return None,
-                },
+        let Some(mut found) = self.last(seg, here) else {
+            return None;
+        };
+        while found.0 < here {
+            here = self.rise(here, found.0);
+            if here < found.0 {
+                let Some(next) = self.last(seg, here) else {
+                    return None;
+                };
+                found = next;
             }
         }
+        Some(found.1)
     }
 
     /// The place that is found from a scope, where the name is one that is searched.
@@ -237,8 +282,9 @@ impl Tree {
             here = above;
         }
         segs.reverse();
-        let segs = List::from_vec(alloc, segs)?;
-        Ok(FullPath { segs })
+        Ok(FullPath {
+            segs: List::from_vec(segs),
+        })
     }
 
     /// Fills a buffer with the segments of a place. It takes no memory.
@@ -256,26 +302,54 @@ impl Tree {
         path.reverse();
     }
 
-    /// How many segments a place has. It takes no memory.
-    pub(crate) fn depth(&self, at: usize) -> usize
-        requires { at < length self.now }
-        ensures { result ≡ length (get_or self.now at []) }
-    {
-        let mut here = at;
-        let mut depth = 0;
-        while let Some((above, _)) = self.above(here) {
-            here = above;
-            depth += 1;
-        }
-        depth
-    }
-
     /// What holds of each tree.
     pub(crate) fn facts(&self)
         ensures distinct { IsDistinct self.now }
         ensures closed { IsClosed self.now }
         ensures root { IsAt self.now 0 [] }
+        ensures ordered { IsOrdered self.now }
     {
         let _ = &self.names;
+    }
+}
+
+/// How many segments a place has.
+fn depth_in(names: &[Name], at: usize) -> usize
+    requires within { at ≤ length names.now }
+    requires deep { (i : ℕ) (d : name_type) → i < length names.now
+        → (get_or names.now i d).depth ≡ length (get_or (places_in names.now) (i + 1) []) }
+    ensures { result ≡ length (get_or (places_in names.now) at []) }
+{
+    if at == 0 {
+        return 0;
+    }
+    names[at - 1].depth
+}
+
+/// How many places right before the next one will stand above it, where that comes below this one.
+fn next_back(names: &[Name], at: usize) -> u32
+    ensures { (result ≡ 0) ⊎ ((at ≡ length names.now) × (result ≤ back_of names.now at + 1)) }
+{
+    if at == 0 || at != names.len() {
+        return 0;
+    }
+    names[at - 1].back.saturating_add(1)
+}
+
+/// The name of the place that comes next, of a segment below a place.
+fn next_name(names: &[Name], at: usize, seg: Seg) -> Name
+    requires within { at ≤ length names.now }
+    requires small { length (get_or (places_in names.now) at []) ≤ at }
+    requires deep { (i : ℕ) (d : name_type) → i < length names.now
+        → (get_or names.now i d).depth ≡ length (get_or (places_in names.now) (i + 1) []) }
+    ensures above { result.above ≡ at }
+    ensures seg { result.seg ≡ seg }
+    ensures next { IsNext names.now result }
+{
+    Name {
+        above: at,
+        depth: depth_in(names, at) + 1,
+        seg,
+        back: next_back(names, at),
     }
 }

@@ -40,7 +40,7 @@ pub struct IdleRow {
 
 /// The states that a processor or container may idle in. State i is row i, counted from 1;
 /// state 0 is running. An absent table has no states, whatever rows it holds.
-#[derive(Debug, Drop)]
+#[derive(Drop)]
 pub struct IdleTable {
     pub kind: IdleKind,
     pub rows: List<IdleRow>,

@@ -17,6 +17,3 @@ pub use lpi::{EntryMethod, Lpi, LpiState};
 pub use operation::{Chain, Composite, Op};
 pub use performance::{ControlPair, Cpc, CpcEntry, PState, TState};
 pub use register::{Register, RegisterFault};
-
-#[cfg(test)]
-mod tests;

@@ -11,7 +11,7 @@ pub enum EntryMethod {
 }
 
 /// A low power idle state: an element of `_LPI` (ACPI 6.5, 8.4.3.3).
-#[derive(Debug, Drop)]
+#[derive(Drop)]
 pub struct LpiState {
     /// The least time in the state that is worth its cost, in microseconds.
     pub min_residency: u32,
@@ -35,7 +35,7 @@ pub struct LpiState {
 }
 
 /// Low power idle states: `_LPI` (ACPI 6.5, 8.4.3.3).
-#[derive(Debug, Drop)]
+#[derive(Drop)]
 pub struct Lpi {
     /// 0 where the states are entered hierarchically.
     pub level: u64,

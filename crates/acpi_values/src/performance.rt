@@ -48,7 +48,7 @@ pub enum CpcEntry {
 }
 
 /// Continuous performance control: `_CPC` (ACPI 6.5, 8.4.6.1).
-#[derive(Debug, Drop)]
+#[derive(Drop)]
 pub struct Cpc {
     pub revision: u8,
     /// The elements from the third on, in their order.

@@ -1,7 +1,7 @@
 ghost use Rattle.std.specs.Prelude.{◌≡◌, ◌≤◌, ℕ, length, sum};
 ghost use Rattle.std.specs.Int.{w64, from_le_bytes, to_le_bytes};
 ghost use Rattle.std.specs.Option.{option_map};
-ghost use Rattle.acpi_values.specs.Registers.{wrong_tag as the_wrong_tag};
+ghost use Rattle.acpi_values.specs.Registers.{wrong_tag};
 
 /// A register, as the Generic Register Descriptor gives it (ACPI 6.5, 5.2.3.2 and 6.4.3.7).
 /// The register whose fields are all 0 is the null register, which stands for none.
@@ -44,7 +44,7 @@ fn sum_of(bytes: &[u8]) -> u32
 /// The first place where a byte stands that no register has there.
 fn wrong_tag(bytes: &[u8]) -> Option<usize>
     requires { length bytes.now ≡ 17 }
-    ensures { result ≡ option_map (λ (t : ℕ × ℕ). t.0) (the_wrong_tag bytes.now) }
+    ensures { result ≡ option_map (λ (t : ℕ × ℕ). t.0) (wrong_tag bytes.now) }
 {
     if bytes[0] != 0x82 {
         return Some(0);

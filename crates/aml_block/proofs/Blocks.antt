@@ -1,12 +1,16 @@
 -- The laws of blocks, and what they say of an answer.
-use Rattle.std.proofs.Common.{◌≡◌, ◌≢◌, ℕ, List, length, drop, Result, Ok, Err, refl, sym, ap, subst, ◌∙◌, inl, inr, arith}
+use Rattle.std.proofs.Common.{◌≡◌, ◌≢◌, ℕ, List, length, drop, Result, Ok, Err, refl, sym, ap, subst, ◌∙◌, ◌⊎◌, inl, inr, arith}
 use Rattle.std.specs.Prelude.{IfOk, IfErr}
+use Rattle.pw_base.specs.Answers.{◌>>=◌, IsUnless, FailsUnless}
 use Rattle.aml_data.specs.declared.fault.DataFault.TheVariants.{Memory as no_data_memory}
+use Rattle.aml_data.specs.Decoded.{AreBytes}
 use Rattle.aml_data.proofs.Steps.{IsBytes, IsBytes-drop}
+use Rattle.aml_data.proofs.Places.{all_bytes}
 use Rattle.aml_terms.specs.declared.fault.TermFault.{TermFault}
 use Rattle.aml_terms.specs.declared.fault.TermFault.TheVariants.{Data as in_part, BadTerm as bad_term}
-use Rattle.aml_terms.specs.Reading.{terms_at}
-use Rattle.aml_terms.proofs.Causes.{IsCause, IsTermCause, block_terms_cause}
+use Rattle.aml_terms.specs.inner.Reading.{terms_at}
+use Rattle.aml_data.proofs.Causes.{IsCause}
+use Rattle.aml_terms.proofs.Causes.{IsTermCause, block_terms_cause}
 use Rattle.aml_terms.proofs.TermLists.{terms_take, terms_again, terms_fail, terms_refused}
 use Rattle.aml_block.specs.declared.block.Header.{Header}
 use Rattle.aml_block.specs.declared.block.Block.{Block}
@@ -18,9 +22,9 @@ use Rattle.aml_block.specs.Causes.{term_cause}
 use Rattle.aml_block.specs.Header.{IsHeader, HasSize, HasSignature, HasLength, HasSum}
 use Rattle.aml_block.specs.Spelling.{BlockSpells}
 use Rattle.aml_block.specs.Faults.{HeaderFails, BlockFails, fails_in_header, fails_in_terms}
-use Rattle.aml_block.specs.Answers.{IsUnlessMemory, FailsUnlessMemory}
-use Rattle.aml_block.specs.Reading.{◌>>=◌, Gives, header_part, header_at, terms_part, block_at}
-use Rattle.aml_block.proofs.Steps.{bind_ok, bind_err, terms_ok, terms_err, done, ok_is, err_is}
+use Rattle.aml_block.specs.inner.Reading.{Gives, header_part, header_at, terms_part, block_at}
+use Rattle.aml_terms.proofs.Chains.{bind_ok, bind_err, done, ok_is, err_is}
+use Rattle.aml_block.proofs.Steps.{terms_ok, terms_err}
 use Rattle.aml_block.proofs.Headers.{HeaderTold, header_told, header_again, header_refused}
 
 -- what follows the header
@@ -135,13 +139,13 @@ is_memory (in_header w) n = absurd (n (λ p. cc))
 is_memory (BadTerm at opcode) n = absurd (n (λ p. cc))
 is_memory ReadFault n = absurd (n (λ p. cc))
 
-pub is_only : (bytes : List ℕ) (r : Result Block BlockFault) → Gives (λ x. x) r (block_at bytes) → (b : Block) → BlockSpells b bytes → IsUnlessMemory r b
-is_only bytes (Ok x) given b s = let q : done x ≡ done b = sym given ∙ block_again bytes b s in ok_is x b q
+pub is_only : (bytes : List ℕ) (r : Result Block BlockFault) → Gives (λ x. x) r (block_at bytes) → (b : Block) → BlockSpells b bytes → IsUnless Memory r b
+is_only bytes (Ok x) given b s = let q : done {E = BlockFault} x ≡ done b = sym given ∙ block_again bytes b s in ok_is x b q
 is_only bytes (Err e) given b s = is_memory e (λ ne. (let q = sym (given ne) ∙ block_again bytes b s in cc))
 
-pub is_refused : (bytes : List ℕ) (r : Result Block BlockFault) → Gives (λ x. x) r (block_at bytes) → (f : BlockFault) → BlockFails bytes f → FailsUnlessMemory r f
+pub is_refused : (bytes : List ℕ) (r : Result Block BlockFault) → Gives (λ x. x) r (block_at bytes) → (f : BlockFault) → BlockFails bytes f → FailsUnless Memory r f
 is_refused bytes (Ok x) given f s = let q = sym given ∙ block_refused bytes f s in cc
-is_refused bytes (Err e) given f s = λ ne. err_is e f (sym (given ne) ∙ block_refused bytes f s)
+is_refused bytes (Err e) given f s = λ ne. err_is {A = Block} e f (sym (given ne) ∙ block_refused bytes f s)
 
 pub no_file : (bytes : List ℕ) (r : Result Block BlockFault) → IfErr r (λ f. f ≢ Memory → BlockFails bytes f) → IfErr r (λ f. f ≢ ReadFault)
 no_file bytes (Ok x) fault = tt
@@ -155,7 +159,16 @@ pub same_block : (a b : Block) (bytes : List ℕ) → BlockSpells a bytes → Bl
 same_block a b bytes s t = ok_is a b (sym (block_again bytes a s) ∙ block_again bytes b t)
 
 pub same_fault : (bytes : List ℕ) (f g : BlockFault) → BlockFails bytes f → BlockFails bytes g → f ≡ g
-same_fault bytes f g s t = err_is f g (sym (block_refused bytes f s) ∙ block_refused bytes g t)
+same_fault bytes f g s t = err_is {A = Block} f g (sym (block_refused bytes f s) ∙ block_refused bytes g t)
 
 pub no_fault : (b : Block) (bytes : List ℕ) (f : BlockFault) → BlockSpells b bytes → BlockFails bytes f → ⊥
 no_fault b bytes f s t = let q = sym (block_again bytes b s) ∙ block_refused bytes f t in cc
+
+-- ---- a block, or a fault
+
+told : (bytes : List ℕ) (r : Result Block BlockFault) → IsBytes bytes → block_at bytes ≡ r → ((b : Block) × BlockSpells b bytes) ⊎ ((f : BlockFault) × BlockFails bytes f)
+told bytes (Ok b) fits e = inl (b, block_takes bytes b fits e)
+told bytes (Err f) fits e = inr (f, block_fails bytes f fits e)
+
+pub spelled_or_fault : (bytes : List ℕ) → AreBytes bytes → ((b : Block) × BlockSpells b bytes) ⊎ ((f : BlockFault) × BlockFails bytes f)
+spelled_or_fault bytes all = told bytes (block_at bytes) (all_bytes bytes all) refl

@@ -5,7 +5,7 @@ use Rattle.std.proofs.lemmas.List.{take-append-le, length-take-le}
 use Rattle.std.proofs.Math.Seq.{take-add, take-append-add, take-append_seam}
 use Rattle.pw_base.specs.declared.failure.Failed.{Failed}
 use Rattle.pw_base.specs.Outside.{IsRead}
-use Rattle.aml_block.specs.Content.{Continues, Begins}
+use Rattle.aml_block.specs.inner.Content.{Continues, Begins}
 
 past : (a n : ℕ) (xs ys post : List ℕ) → a ≤ length xs → n ≤ length ys → take (a + n) (take a xs ++ (ys ++ post)) ≡ take a xs ++ take n ys
 past a n xs ys post h k =

@@ -11,7 +11,7 @@ use Rattle.aml_block.specs.declared.fault.HeaderFault.{HeaderFault}
 use Rattle.aml_block.specs.declared.fault.HeaderFault.TheVariants.{Large, Short, Signature as no_signature, Length, Sum}
 use Rattle.aml_block.specs.Header.{signature_text, field, number_field, IsHeader, HasSize, HasSignature, HasLength, HasSum}
 use Rattle.aml_block.specs.Faults.{HeaderFails}
-use Rattle.aml_block.specs.Reading.{signature_at, fields_at, signed_at, header_at}
+use Rattle.aml_block.specs.inner.Reading.{signature_at, fields_at, signed_at, header_at}
 
 -- a property of a choice, by the two ways that its test goes
 by_test : {A : Type 0} (P : A → Type 0) (b : Bool) (x y : A) → (b ≡ true → P x) → (b ≡ false → P y) → P (cond b x y)

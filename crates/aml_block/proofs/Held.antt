@@ -4,13 +4,14 @@ use Rattle.std.specs.Prelude.{IfOk, IfErr, IsSomeAnd}
 use Rattle.std.proofs.lemmas.Bool.{ltb-true, ltb-false}
 use Rattle.std.proofs.lemmas.List.{length-take, take-append-drop, append-nil}
 use Rattle.std.proofs.Math.ListN.{drop_of_length-le}
+use Rattle.pw_base.specs.Answers.{IsUnless, FailsUnless}
 use Rattle.aml_block.specs.declared.block.Block.{Block}
 use Rattle.aml_block.specs.declared.fault.HeaderFault.TheVariants.{Large}
 use Rattle.aml_block.specs.declared.fault.BlockFault.{BlockFault}
 use Rattle.aml_block.specs.declared.fault.BlockFault.TheVariants.{Header as in_header, ReadFault, Memory}
 use Rattle.aml_block.specs.Spelling.{BlockSpells}
 use Rattle.aml_block.specs.Faults.{BlockFails, fails_in_header}
-use Rattle.aml_block.specs.Answers.{IsUnlessMemory, FailsUnlessMemory, IsUnlessUnread, FailsUnlessUnread}
+use Rattle.aml_block.specs.Answers.{IsUnlessUnread, FailsUnlessUnread}
 use Rattle.aml_block.proofs.Blocks.{same_fault}
 
 uncut : (content : List ℕ) → length content ≤ 4194304 → take 4194305 content ≡ content
@@ -69,19 +70,19 @@ pub read_of : (held : Option (List ℕ)) (bytes content : List ℕ) → held ≡
 read_of None bytes content e read = absurd read
 read_of (Some other) bytes content e read = let q : other ≡ content = cc in read ∙ ap (take 4194305) q
 
-is_unread : (r : Result Block BlockFault) (b : Block) → IsUnlessMemory r b → IsUnlessUnread r b
+is_unread : (r : Result Block BlockFault) (b : Block) → IsUnless Memory r b → IsUnlessUnread r b
 is_unread (Ok x) b e = e
 is_unread (Err f) b e = inl e
 
-fails_unread : (r : Result Block BlockFault) (f : BlockFault) → FailsUnlessMemory r f → FailsUnlessUnread r f
+fails_unread : (r : Result Block BlockFault) (f : BlockFault) → FailsUnless Memory r f → FailsUnlessUnread r f
 fails_unread (Ok x) f e = e
 fails_unread (Err g) f e = λ m n. e m
 
-pub held_only : (r : Result Block BlockFault) (bytes content : List ℕ) → bytes ≡ take 4194305 content → ((b : Block) → BlockSpells b bytes → IsUnlessMemory r b)
+pub held_only : (r : Result Block BlockFault) (bytes content : List ℕ) → bytes ≡ take 4194305 content → ((b : Block) → BlockSpells b bytes → IsUnless Memory r b)
     → (b : Block) → BlockSpells b content → IsUnlessUnread r b
 held_only r bytes content e only b s = is_unread r b (only b (subst (BlockSpells b) (sym e) (spells_cut content b s)))
 
-pub held_refused : (r : Result Block BlockFault) (bytes content : List ℕ) → bytes ≡ take 4194305 content → ((f : BlockFault) → BlockFails bytes f → FailsUnlessMemory r f)
+pub held_refused : (r : Result Block BlockFault) (bytes content : List ℕ) → bytes ≡ take 4194305 content → ((f : BlockFault) → BlockFails bytes f → FailsUnless Memory r f)
     → (f : BlockFault) → BlockFails content f → FailsUnlessUnread r f
 held_refused r bytes content e refused f s = fails_unread r f (refused f (subst (λ (l : List ℕ). BlockFails l f) (sym e) (fails_cut content f s)))
 

@@ -141,3 +141,32 @@ header_written h body r small =
       rw (total, ← blank) fits,
       rest_is h r body h.signature whole chosen,
     )
+
+signature_size : (s : Signature) → length (signature_text s) ≡ 4
+signature_size Dsdt = refl
+signature_size Ssdt = refl
+
+-- a header has 36 bytes, whatever its length and checksum say
+header_size : (h : Header) (s : Signature) (whole checksum : ℕ) → length h.oem_id ≡ 6 → length h.oem_table_id ≡ 8 → length h.creator_id ≡ 4
+    → length (written_header (record h { signature = s }) whole checksum) ≡ 36
+header_size h s whole checksum id table creator =
+    let front = signature_text s ++ to_le_bytes w32 whole in
+    let named = front ++ h.revision ∷ checksum ∷ h.oem_id in
+    let tabled = named ++ h.oem_table_id in
+    let revised = tabled ++ to_le_bytes w32 h.oem_revision in
+    let created = revised ++ h.creator_id in
+    let a = length-append (signature_text s) (to_le_bytes w32 whole) in
+    let b = length-append front (h.revision ∷ checksum ∷ h.oem_id) in
+    let c = length-append named h.oem_table_id in
+    let d = length-append tabled (to_le_bytes w32 h.oem_revision) in
+    let e = length-append revised h.creator_id in
+    let f = length-append created (to_le_bytes w32 h.creator_revision) in
+    omega (arith, a, b, c, d, e, f, id, table, creator, signature_size s)
+
+-- what is written of a block has 36 bytes more than its terms
+pub size_written : (h : Header) (body : List ℕ) → length h.oem_id ≡ 6 → length h.oem_table_id ≡ 8 → length h.creator_id ≡ 4 → length (written_behind h body) ≡ 36 + length body
+size_written h body id table creator =
+    let whole = 36 + length body in
+    let chosen = checksum_for (sum (written_header h whole 0 ++ body)) in
+    let size = header_size h h.signature whole chosen id table creator in
+    omega (arith, size, length-append (written_header h whole chosen) body)

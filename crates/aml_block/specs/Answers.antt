@@ -3,16 +3,6 @@ use Rattle.std.specs.Prelude.{◌≡◌, ◌⊎◌, ◌≢◌, ℕ, Bool, true, 
 use Rattle.aml_block.specs.declared.fault.BlockFault.{BlockFault}
 use Rattle.aml_block.specs.declared.fault.BlockFault.TheVariants.{Memory, ReadFault}
 
--- this value, unless memory ran out
-abbrev pub IsUnlessMemory : {X : Type 0} → Result X BlockFault → X → Type 0
-IsUnlessMemory (Ok x) y = x ≡ y
-IsUnlessMemory (Err e) y = e ≡ Memory
-
--- this fault, unless memory ran out
-abbrev pub FailsUnlessMemory : {X : Type 0} → Result X BlockFault → BlockFault → Type 0
-FailsUnlessMemory (Ok x) fault = ⊥
-FailsUnlessMemory (Err e) fault = e ≢ Memory → e ≡ fault
-
 -- this value, unless memory ran out or the file couldn't be read
 abbrev pub IsUnlessUnread : {X : Type 0} → Result X BlockFault → X → Type 0
 IsUnlessUnread (Ok x) y = x ≡ y

@@ -7,13 +7,14 @@ use Rattle.aml_block.specs.declared.fault.HeaderFault.{HeaderFault}
 use Rattle.aml_block.specs.declared.fault.HeaderFault.TheVariants.{Large, Short, Signature, Length, Sum}
 use Rattle.aml_block.specs.declared.fault.BlockFault.{BlockFault}
 use Rattle.aml_block.specs.declared.fault.BlockFault.TheVariants.{Header as in_header}
+use Rattle.aml_block.specs.declared.header.TheConstants.{LARGEST, HEADER_SIZE}
 use Rattle.aml_block.specs.Causes.{term_cause}
 use Rattle.aml_block.specs.Header.{HasSize, HasSignature, HasLength, HasSum}
 
 -- The first of the five that holds, in this order.
 abbrev pub HeaderFails : List ℕ → HeaderFault → Type 0
-HeaderFails bytes Large = 4194304 < length bytes
-HeaderFails bytes Short = length bytes < 36
+HeaderFails bytes Large = LARGEST < length bytes
+HeaderFails bytes Short = length bytes < HEADER_SIZE
 HeaderFails bytes Signature = HasSize bytes × (HasSignature bytes → ⊥)
 HeaderFails bytes Length = HasSize bytes × HasSignature bytes × (HasLength bytes → ⊥)
 HeaderFails bytes Sum = HasSize bytes × HasSignature bytes × HasLength bytes × (HasSum bytes → ⊥)
@@ -22,4 +23,4 @@ HeaderFails bytes Sum = HasSize bytes × HasSignature bytes × HasLength bytes �
 pub data BlockFails : List ℕ → BlockFault → Type 0 where
   fails_in_header : {bytes : List ℕ} {why : HeaderFault} → HeaderFails bytes why → BlockFails bytes (in_header why)
   fails_in_terms : {bytes : List ℕ} (fault : TermFault) → HasSize bytes → HasSignature bytes → HasLength bytes → HasSum bytes
-      → TermsFail (length bytes) (drop 36 bytes) fault → BlockFails bytes (term_cause fault)
+      → TermsFail (length bytes) (drop HEADER_SIZE bytes) fault → BlockFails bytes (term_cause fault)

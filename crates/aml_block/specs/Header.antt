@@ -6,6 +6,7 @@ use Rattle.aml_data.specs.declared.data.Width.TheVariants.{W32, W64}
 use Rattle.aml_block.specs.declared.block.Signature.{Signature}
 use Rattle.aml_block.specs.declared.block.Signature.TheVariants.{Dsdt, Ssdt}
 use Rattle.aml_block.specs.declared.block.Header.{Header}
+use Rattle.aml_block.specs.declared.header.TheConstants.{LARGEST, HEADER_SIZE}
 
 -- the text of a signature
 abbrev pub signature_text : Signature → List ℕ
@@ -32,7 +33,7 @@ pub record IsHeader (header : Header) (bytes : List ℕ) : Type 0 where
 
 -- the header fits, and the block is at most 4 MiB
 abbrev pub HasSize : List ℕ → Type 0
-HasSize bytes = (36 ≤ length bytes) × (length bytes ≤ 4194304)
+HasSize bytes = (HEADER_SIZE ≤ length bytes) × (length bytes ≤ LARGEST)
 
 -- the signature is that of a definition block
 abbrev pub HasSignature : List ℕ → Type 0

@@ -3,6 +3,5 @@ pub mod Header
 pub mod Spelling
 pub mod Written
 pub mod Faults
-pub mod Reading
 pub mod Answers
-pub mod Content
+pub mod inner

@@ -2,6 +2,7 @@
 use Rattle.std.specs.Prelude.{ℕ, List, drop}
 use Rattle.aml_terms.specs.Grammar.{TermsSpell}
 use Rattle.aml_block.specs.declared.block.Block.{Block}
+use Rattle.aml_block.specs.declared.header.TheConstants.{HEADER_SIZE}
 use Rattle.aml_block.specs.Header.{IsHeader, HasSize, HasLength, HasSum}
 
 -- The whole bytes spell a block.
@@ -10,4 +11,4 @@ pub record BlockSpells (block : Block) (bytes : List ℕ) : Type 0 where
   pub header : IsHeader block.header bytes
   pub length_field : HasLength bytes
   pub checksum : HasSum bytes
-  pub terms : TermsSpell block.terms (drop 36 bytes)
+  pub terms : TermsSpell block.terms (drop HEADER_SIZE bytes)

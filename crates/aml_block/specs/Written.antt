@@ -4,6 +4,7 @@ use Rattle.std.specs.Int.{w32, to_le_bytes}
 use Rattle.aml_terms.specs.Written.{written_terms, AreWritableTerms}
 use Rattle.aml_block.specs.declared.block.Block.{Block}
 use Rattle.aml_block.specs.declared.block.Header.{Header}
+use Rattle.aml_block.specs.declared.header.TheConstants.{LARGEST, HEADER_SIZE}
 use Rattle.aml_block.specs.Header.{signature_text}
 
 -- a header with this length and checksum (ACPI 6.5, 5.2.6)
@@ -19,7 +20,7 @@ checksum_for total = (256 - total % 256) % 256
 -- terms behind the header that fits them
 abbrev pub written_behind : Header → List ℕ → List ℕ
 written_behind h terms =
-    let whole = 36 + length terms in
+    let whole = HEADER_SIZE + length terms in
     written_header h whole (checksum_for (sum (written_header h whole 0 ++ terms))) ++ terms
 
 -- a block
@@ -31,7 +32,7 @@ written_block block = written_behind block.header (written_terms block.terms)
 -- A block that can be written: each of its terms can, and together with the header they have at most 4 MiB.
 pub record IsWritableBlock (block : Block) : Type 0 where
   pub terms : AreWritableTerms block.terms
-  pub short : 36 + length (written_terms block.terms) ≤ 4194304
+  pub short : HEADER_SIZE + length (written_terms block.terms) ≤ LARGEST
 
 -- A header whose fields are in their ranges, as those of each `Header` are.
 pub record IsInRange (h : Header) : Type 0 where

@@ -2,7 +2,7 @@ ghost use Rattle.std.specs.Prelude.{◌≡◌};
 
 use aml_data::Width;
 use aml_terms::Term;
-use pw_base::List;
+use pw_base::CompactList;
 
 /// Which table a block is.
 #[derive(Clone, Copy, Debug, PartialEq, Eq)]
@@ -26,10 +26,10 @@ pub struct Header {
 }
 
 /// A definition block.
-#[derive(Debug, Drop)]
+#[derive(Drop)]
 pub struct Block {
     pub header: Header,
-    pub terms: List<Term>,
+    pub terms: CompactList<Term>,
 }
 
 impl Block {

@@ -117,13 +117,11 @@ impl From<FileFault> for BlockFault {
 }
 
 /// Why a block isn't written whole.
-#[derive(Clone, Copy, Debug, PartialEq, Eq, Error)]
+#[derive(Clone, Copy, Debug, PartialEq, Eq)]
 pub enum WriteFault {
     /// The sink failed.
-    #[error("write fault")]
     Sink,
     /// Want of memory.
-    #[error("out of memory")]
     Memory,
 }
 

@@ -3,20 +3,17 @@ ghost use Rattle.std.specs.Prelude.{IfOk, IfErr, OnOk, OnErr};
 ghost use Rattle.pw_base.specs.Outside.{Rose, KeepsFiles};
 ghost use Rattle.aml_block.specs.declared.file.FileFault.TheVariants as file_faults;
 ghost use Rattle.aml_block.specs.Answers.{IsHeldAnd};
-ghost use Rattle.aml_block.specs.Content.{Continues};
+ghost use Rattle.aml_block.specs.inner.Content.{Continues};
 
 use pw_base::{Failed, Files};
 use std::alloc::{AllocError, Global};
-use thiserror::Error;
 
 /// Why a file wasn't read.
-#[derive(Clone, Copy, Debug, PartialEq, Eq, Error)]
+#[derive(Clone, Copy, Debug, PartialEq, Eq)]
 pub enum FileFault {
     /// A read failed, or there is no such file.
-    #[error("read fault")]
     ReadFault,
     /// Want of memory.
-    #[error("out of memory")]
     Memory,
 }
 

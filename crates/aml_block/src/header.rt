@@ -1,6 +1,6 @@
 ghost use Rattle.std.specs.Prelude.{◌≡◌, ◌+◌, ◌≤◌, length, sum, IfOk};
 ghost use Rattle.aml_block.specs.Header.{HasSize, field, number_field};
-ghost use Rattle.aml_block.specs.Reading.{signature_at, fields_at, header_at};
+ghost use Rattle.aml_block.specs.inner.Reading.{signature_at, fields_at, header_at};
 
 use crate::block::{Header, Signature};
 use crate::fault::HeaderFault;
@@ -31,13 +31,13 @@ fn number_at(bytes: &[u8], at: usize) -> u32
 
 /// The sum of all bytes.
 pub(crate) fn sum_of(bytes: &[u8]) -> u32
-    requires { length bytes.now ≤ 4194304 }
+    requires { length bytes.now ≤ LARGEST }
     ensures { result ≡ sum bytes.now }
 {
     bytes.iter().map(|byte| u32::from(*byte)).sum()
 }
 
-#[tactic(auto, unfolding(crate::specs::Reading::signature_at))]
+#[tactic(auto, unfolding(crate::specs::inner::Reading::signature_at))]
 fn signature_of(text: &[u8]) -> Result<Signature, HeaderFault>
     ensures { result ≡ signature_at text.now }
 {
@@ -50,9 +50,9 @@ fn signature_of(text: &[u8]) -> Result<Signature, HeaderFault>
     }
 }
 
-#[tactic(auto, unfolding(crate::specs::Reading::fields_at))]
+#[tactic(auto, unfolding(crate::specs::inner::Reading::fields_at))]
 fn fields_of(signature: Signature, bytes: &[u8]) -> Header
-    requires { 36 ≤ length bytes.now }
+    requires { HEADER_SIZE ≤ length bytes.now }
     ensures { result ≡ fields_at signature bytes.now }
 {
     Header {
@@ -67,7 +67,7 @@ fn fields_of(signature: Signature, bytes: &[u8]) -> Header
 }
 
 /// The header of a block of these bytes, or the first thing that is wrong with it.
-#[tactic(auto, unfolding(crate::specs::Reading::header_at))]
+#[tactic(auto, unfolding(crate::specs::inner::Reading::header_at))]
 pub(crate) fn header_of(bytes: &[u8]) -> Result<Header, HeaderFault>
     ensures value { result ≡ header_at bytes.now }
     ensures size { IfOk result (λ _. HasSize bytes.now) }

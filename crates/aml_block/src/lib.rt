@@ -15,10 +15,7 @@ pub use block::{Block, Header, Signature};
 pub use fault::{BlockFault, HeaderFault, WriteFault};
 pub use file::{FileFault, read_all};
 pub use header::LARGEST;
-pub use laws::{one_block, one_fault, written_blocks};
+pub use laws::{block_or_fault, countable_objects, one_block, one_fault, written_blocks};
 pub use parsing::parse;
 pub use reading::read;
 pub use writing::{encode_block, is_writable_block, write};
-
-#[cfg(test)]
-mod tests;

@@ -1,12 +1,12 @@
 ghost use Rattle.std.specs.Prelude.{◌≡◌, ◌≢◌, IfOk, IfErr};
+ghost use Rattle.pw_base.specs.Answers.{IsUnless, FailsUnless};
 ghost use Rattle.aml_data.specs.declared.fault.DataFault.TheVariants.{Memory as no_data_memory};
 ghost use Rattle.aml_block.specs.declared.block.Block.{Block as block};
 ghost use Rattle.aml_block.specs.declared.fault.BlockFault.{BlockFault as fault_type};
 ghost use Rattle.aml_block.specs.Spelling.{BlockSpells};
 ghost use Rattle.aml_block.specs.Written.{IsWritableBlock};
 ghost use Rattle.aml_block.specs.Faults.{BlockFails};
-ghost use Rattle.aml_block.specs.Answers.{IsUnlessMemory, FailsUnlessMemory};
-ghost use Rattle.aml_block.specs.Reading.{Gives, block_at};
+ghost use Rattle.aml_block.specs.inner.Reading.{Gives, block_at};
 
 use crate::block::Block;
 use crate::fault::BlockFault;
@@ -14,7 +14,7 @@ use crate::header::{HEADER_SIZE, header_of};
 use aml_terms::terms_of;
 use std::alloc::Global;
 
-#[tactic(auto, unfolding(crate::specs::Reading::block_at))]
+#[tactic(auto, unfolding(crate::specs::inner::Reading::block_at))]
 fn block_of(alloc: Global, bytes: &[u8]) -> Result<Block, BlockFault>
     ensures { Gives (λ x. x) result (block_at bytes.now) }
 {
@@ -31,11 +31,11 @@ pub fn parse(alloc: Global, bytes: &[u8]) -> Result<Block, BlockFault>
     // What is read can be written.
     ensures writable { IfOk result IsWritableBlock }
     // What the bytes spell is read, unless memory runs out.
-    ensures only { (b : block) → BlockSpells b bytes.now → IsUnlessMemory result b }
+    ensures only { (b : block) → BlockSpells b bytes.now → IsUnless BlockFault.Memory result b }
     // Otherwise it is the first fault.
     ensures fault { IfErr result (λ f. f ≢ BlockFault.Memory → BlockFails bytes.now f) }
     // The first fault is answered, unless memory runs out before it is met.
-    ensures refused { (f : fault_type) → BlockFails bytes.now f → FailsUnlessMemory result f }
+    ensures refused { (f : fault_type) → BlockFails bytes.now f → FailsUnless BlockFault.Memory result f }
     // No file is read here.
     ensures no_file { IfErr result (λ f. f ≢ BlockFault.ReadFault) }
     // Want of memory has its one name.

@@ -3,7 +3,8 @@ ghost use Rattle.std.specs.Prelude.{IsTrue, IfOk, OnOk, OnErr, All};
 ghost use Rattle.pw_base.specs.Outside.{Rose, KeepsSink, GrewByPart};
 ghost use Rattle.aml_block.specs.Header.{signature_text};
 ghost use Rattle.aml_block.specs.Written.{checksum_for, written_behind, written_block, written_header};
-ghost use Rattle.aml_block.specs.Written.{IsWritableBlock};
+ghost use Rattle.aml_block.specs.Written.{IsInRange, IsWritableBlock};
+ghost use Rattle.aml_block.specs.Spelling.{BlockSpells};
 
 use crate::block::{Block, Header, Signature};
 use crate::fault::WriteFault;
@@ -33,6 +34,21 @@ fn signature_bytes(signature: Signature) -> [u8; 4]
     }
 }
 
+/// The fields of a header are in their ranges, as those of each are: contracts see them without a bound.
+fn fields_fit(header: &Header)
+    ensures { IsInRange header.now }
+{
+    let Header {
+        signature: _signature,
+        revision: _revision,
+        oem_id: _oem_id,
+        oem_table_id: _oem_table_id,
+        oem_revision: _oem_revision,
+        creator_id: _creator_id,
+        creator_revision: _creator_revision,
+    } = *header;
+}
+
 /// Appends a header with this length and checksum 0.
 fn put_header(header: &Header, whole: u32, out: &mut Vec<u8>) -> Result<(), Memory>
     ensures { OnOk result (out.new.items ≡ out.old.items ++ written_header header.now whole 0) }
@@ -56,10 +72,9 @@ fn checksum_of(total: u32) -> u8
     ((256 - total % 256) % 256) as u8
 }
 
-/// The written form of a block: of every part the shortest spelling, with its length and checksum
-/// (ACPI 6.5, 5.2.6 and 20.2).
+/// The header and the terms, with the length and the checksum that fit them.
 #[tactic(auto, unfolding(crate::specs::Written::written_block))]
-pub fn encode_block(alloc: Global, block: &Block) -> Result<Vec<u8>, Memory>
+fn block_bytes(alloc: Global, block: &Block) -> Result<Vec<u8>, Memory>
     requires { IsWritableBlock block.now }
     ensures { IfOk result (λ bytes. bytes.items ≡ written_block block.now) }
 {
@@ -70,6 +85,19 @@ pub fn encode_block(alloc: Global, block: &Block) -> Result<Vec<u8>, Memory>
     encode_terms(alloc, terms, &mut bytes)?;
     let checksum = checksum_of(sum_of(bytes.as_slice()));
     bytes[CHECKSUM] = checksum;
+    Ok(bytes)
+}
+
+/// The written form of a block: of every part the shortest spelling, with its length and checksum
+/// (ACPI 6.5, 5.2.6 and 20.2).
+pub fn encode_block(alloc: Global, block: &Block) -> Result<Vec<u8>, Memory>
+    requires { IsWritableBlock block.now }
+    ensures value { IfOk result (λ bytes. bytes.items ≡ written_block block.now) }
+    // What is written is a block, and is read as this one.
+    ensures spelled { IfOk result (λ bytes. BlockSpells block.now bytes.items) }
+{
+    let bytes = block_bytes(alloc, block)?;
+    fields_fit(&block.header);
     Ok(bytes)
 }
 

@@ -7,7 +7,7 @@ use Rattle.std.proofs.lemmas.Nat.{le_bytes_2, le_bytes_4, le_bytes_8, from_le_by
 use Rattle.aml_data.specs.declared.fault.DataFault.{DataFault}
 use Rattle.aml_data.specs.declared.fault.DataFault.TheVariants.{Short}
 use Rattle.aml_data.specs.Grammar.{Const, spells_zero, spells_one, spells_byte, spells_word, spells_double, spells_quad}
-use Rattle.aml_data.specs.Reading.{byte_at, number_at, constant_at}
+use Rattle.aml_data.specs.inner.Reading.{byte_at, number_at, constant_at}
 use Rattle.aml_data.specs.Faults.{Follows, follows_byte, follows_word, follows_double, follows_quad, ConstFails, fails_no_constant, fails_few_bytes, fails_other_byte}
 use Rattle.aml_data.proofs.Steps.{done, failed, chosen, ok_is, err_is, no_ok_err, no_err_ok, IsBytes, IsBytes-drop, IsBytes-take, IsBytes-rest, Takes}
 

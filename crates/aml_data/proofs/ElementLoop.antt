@@ -2,8 +2,8 @@
 use Rattle.std.proofs.Common.{◌≡◌, ℕ, zero, suc, ◌-◌, ◌<◌, List, [], ◌∷◌, ◌++◌, length, Result, Ok, Err, refl, sym, ap, ◌∙◌, append_assoc, arith}
 use Rattle.aml_data.specs.declared.data.Data.{Data}
 use Rattle.aml_data.specs.declared.fault.DataFault.{DataFault}
-use Rattle.aml_data.specs.Reading.{◌>>=◌, Read, constant_at, window_at}
-use Rattle.aml_data.specs.ReadingObjects.{elements_at, var_package_at, object_within, within}
+use Rattle.aml_data.specs.inner.Reading.{◌>>=◌, Read}
+use Rattle.aml_data.specs.inner.ReadingObjects.{counted_at, elements_at, pack_at, object_within, within}
 
 -- the elements that were read before, and those still to be read
 abbrev pub with_elements : List Data → Result (List Data) DataFault → Result (List Data) DataFault
@@ -24,12 +24,12 @@ elements_go_on read front end (suc n) (b ∷ bytes) after v total some long h so
     let k : suc n - 1 ≡ n = omega arith in
     rw k (sym one ∙ so_far)
 
-pub var_package_ends : (depth at end count : ℕ) (bytes inside after body : List ℕ) (fault : DataFault) → 0 < depth → window_at end bytes ≡ Ok (inside, after)
-    → constant_at (end - length after) inside ≡ Ok (count, body) → elements_at (object_within (depth - 1)) count (end - length after) body ≡ Err fault
-    → var_package_at (within depth) at end bytes ≡ Err fault
-unfolding var_package_at within
-var_package_ends zero at end count bytes inside after body fault deep window counted fails = absurd (omega arith)
-var_package_ends (suc depth) at end count bytes inside after body fault deep window counted fails =
+pub pack_ends : (count : ℕ → List ℕ → Read ℕ) (make : ℕ → List Data → Data) (depth at end n : ℕ) (bytes after body : List ℕ) (fault : DataFault) → 0 < depth
+    → counted_at count end bytes ≡ Ok ((n, body), after) → elements_at (object_within (depth - 1)) n (end - length after) body ≡ Err fault
+    → pack_at count make (within depth) at end bytes ≡ Err fault
+unfolding pack_at within
+pack_ends count make zero at end n bytes after body fault deep counted fails = absurd (omega arith)
+pack_ends count make (suc depth) at end n bytes after body fault deep counted fails =
     let k : suc depth - 1 ≡ depth = omega arith in
-    let e : elements_at (object_within depth) count (end - length after) body ≡ Err fault = rw k at fails in
-    rw (window, counted, e) refl
+    let e : elements_at (object_within depth) n (end - length after) body ≡ Err fault = rw k at fails in
+    rw (counted, e) refl

@@ -5,11 +5,12 @@ use Rattle.std.proofs.lemmas.List.{take_at, drop_at, take-append-drop, length-ap
 use Rattle.aml_data.specs.declared.fault.DataFault.{DataFault}
 use Rattle.aml_data.specs.declared.fault.DataFault.TheVariants.{Short}
 use Rattle.aml_data.specs.Grammar.{Len}
-use Rattle.aml_data.specs.Reading.{Read, Tells, length_value, length_at}
+use Rattle.aml_data.specs.inner.Reading.{Read, Tells, length_value, length_at}
 use Rattle.aml_data.specs.Faults.{LenFails}
-use Rattle.aml_data.specs.Decoded.{IsLengthAt, length_from_place}
+use Rattle.aml_data.specs.Decoded.{AreBytes, IsLengthAt, LengthOrFails}
+use Rattle.aml_data.specs.inner.Places.{length_from_place}
 use Rattle.aml_data.proofs.Steps.{bind_ok, bind_err, ok_is, no_ok_err, IsBytes, IsBytes-drop}
-use Rattle.aml_data.proofs.Places.{Again, told_is, one_spelled}
+use Rattle.aml_data.proofs.Places.{Again, told_is, one_spelled, all_bytes}
 use Rattle.aml_data.proofs.LengthSpellings.{len_parts, TakesLength, length_takes, length_again, length_fails, length_refused}
 
 length_spelled : (bytes : List ℕ) (at : ℕ) (x : ℕ × List ℕ) → at ≤ length bytes → TakesLength (drop at bytes) x
@@ -83,6 +84,15 @@ length_fault bytes at (Err e) fits given = length_fails (length bytes) (drop at 
 
 pub length_first_fault : (bytes : List ℕ) (at : ℕ) (r : Result (ℕ × ℕ) DataFault) → Tells (λ x. x) r (length_from_place at bytes) → (f : DataFault) → LenFails (length bytes) (drop at bytes) f → r ≡ Err f
 length_first_fault bytes at r given f h = sym (told_is r (length_from_place at bytes) given) ∙ place_refused bytes at f h
+
+-- ---- a length, or a fault
+
+answered : (bytes : List ℕ) (at : ℕ) → IsBytes bytes → at ≤ length bytes → (r : Result (ℕ × ℕ) DataFault) → length_from_place at bytes ≡ r → LengthOrFails bytes at
+answered bytes at fits within (Ok x) e = inl (x.0, x.1, place_takes bytes at x fits within e)
+answered bytes at fits within (Err f) e = inr (f, length_fails (length bytes) (drop at bytes) f (IsBytes-drop at bytes fits) (place_fails bytes at f e))
+
+pub length_or_fails : (bytes : List ℕ) (at : ℕ) → AreBytes bytes → at ≤ length bytes → LengthOrFails bytes at
+length_or_fails bytes at all within = answered bytes at (all_bytes bytes all) within (length_from_place at bytes) refl
 
 -- ---- at most one length, and at most one fault
 

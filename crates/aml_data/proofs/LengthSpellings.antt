@@ -6,7 +6,7 @@ use Rattle.std.proofs.lemmas.List.{take_at, drop_at, take-append-drop, length-ap
 use Rattle.aml_data.specs.declared.fault.DataFault.{DataFault}
 use Rattle.aml_data.specs.declared.fault.DataFault.TheVariants.{Short, BadLength}
 use Rattle.aml_data.specs.Grammar.{Len, spells_one_byte_length, spells_two_byte_length, spells_three_byte_length, spells_four_byte_length}
-use Rattle.aml_data.specs.Reading.{length_value, left_at, length_at, window_at}
+use Rattle.aml_data.specs.inner.Reading.{length_value, left_at, length_at, window_at}
 use Rattle.aml_data.specs.Faults.{LenFails, fails_no_length, fails_reserved_bit, fails_few_following, fails_wrong_length}
 use Rattle.aml_data.proofs.Steps.{failed, bind_ok, bind_err, chosen, known, ok_is, err_is, IsBytes, IsBytes-drop, IsBytes-take, IsBytes-rest}
 

@@ -5,6 +5,9 @@ pub mod Names
 pub mod NameFaults
 pub mod Texts
 pub mod Leads
+pub mod Held
+pub mod Packages
+pub mod PackageFaults
 pub mod Objects
 pub mod ObjectFaults
 pub mod Places
@@ -14,3 +17,5 @@ pub mod ElementLoop
 pub mod Appending
 pub mod WrittenLayers
 pub mod WrittenLengths
+pub mod Causes
+pub mod Room

@@ -4,7 +4,7 @@ use Rattle.std.proofs.lemmas.Bool.{eqb-true, eqb-false, ne_eqb}
 use Rattle.aml_data.specs.declared.fault.DataFault.{DataFault}
 use Rattle.aml_data.specs.declared.fault.DataFault.TheVariants.{Short, BadName}
 use Rattle.aml_data.specs.Segment.{is_letter, is_word}
-use Rattle.aml_data.specs.Reading.{◌>>=◌, letter_at, segment_at, several_at, many_at, segments_at, prefix_at, name_at}
+use Rattle.aml_data.specs.inner.Reading.{◌>>=◌, letter_at, segment_at, several_at, many_at, segments_at, prefix_at, name_at}
 use Rattle.aml_data.specs.Faults.{LetterFails, fails_no_letter, fails_wrong_letter, SegmentFails, fails_at_first, fails_at_second, fails_at_third, fails_at_fourth}
 use Rattle.aml_data.specs.Faults.{SeveralFail, fails_this_segment, fails_later_segment}
 use Rattle.aml_data.specs.Faults.{SegmentsFail, fails_no_segments, fails_in_two, fails_no_count, fails_count_zero, fails_in_many, fails_in_one, NameFails, fails_in_segments}

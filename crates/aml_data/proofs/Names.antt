@@ -6,7 +6,7 @@ use Rattle.std.proofs.lemmas.Bool.{eqb-true, eqb-false, ne_eqb}
 use Rattle.aml_data.specs.declared.path.Path.{Path}
 use Rattle.aml_data.specs.Segment.{is_letter, is_word, IsSegment, joined}
 use Rattle.aml_data.specs.Grammar.{Prefix, spells_root, spells_ups, Segments, spells_no_segment, spells_one_segment, spells_two_segments, spells_many_segments, NameOf, spells_name}
-use Rattle.aml_data.specs.Reading.{◌>>=◌, letter_at, segment_at, several_at, many_at, segments_at, ups_at, prefix_at, name_at}
+use Rattle.aml_data.specs.inner.Reading.{◌>>=◌, letter_at, segment_at, several_at, many_at, segments_at, ups_at, prefix_at, name_at}
 use Rattle.aml_data.specs.Faults.{EndsPrefix, ends_root, ends_bytes, ends_ups}
 use Rattle.aml_data.proofs.Steps.{done, bind_ok, chosen, known, ok_is, IsBytes, IsBytes-rest, IsBytes-after, Takes}
 

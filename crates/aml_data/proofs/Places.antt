@@ -1,11 +1,13 @@
 -- What a decoder answers at a place, of any part whose reading and spelling are tied by the four laws.
-use Rattle.std.proofs.Common.{◌≡◌, ◌≢◌, ◌≤◌, ◌+◌, ◌-◌, ℕ, List, ◌++◌, length, take, drop, Result, Ok, Err, refl, ap, sym, subst, ◌∙◌, arith, inl, inr}
+use Rattle.std.proofs.Common.{◌≡◌, ◌≢◌, ◌≤◌, ◌+◌, ◌-◌, ℕ, zero, suc, List, [], ◌∷◌, ◌++◌, length, take, drop, Result, Ok, Err, refl, ap, sym, subst, ◌∙◌, arith, inl, inr}
 use Rattle.std.specs.Prelude.{IfOk, IfErr}
 use Rattle.std.proofs.lemmas.List.{take_at, take-append-drop, length-append, length-drop, append_cancel_right}
 use Rattle.aml_data.specs.declared.fault.DataFault.{DataFault}
 use Rattle.aml_data.specs.declared.fault.DataFault.TheVariants.{Short, BadLead, BadLength, BadName, BadText, TooMany, TooDeep, Memory}
-use Rattle.aml_data.specs.Reading.{Read, Gives, Tells}
-use Rattle.aml_data.specs.Decoded.{IsSpelledAt, IsUnlessMemory, IsFaultUnlessMemory, from_place}
+use Rattle.aml_data.specs.inner.Reading.{Read, Gives, Tells}
+use Rattle.pw_base.specs.Answers.{IsUnless, FailsUnless}
+use Rattle.aml_data.specs.Decoded.{AreBytes, IsSpelledAt, SpelledOrFails}
+use Rattle.aml_data.specs.inner.Places.{from_place}
 use Rattle.aml_data.proofs.Steps.{bind_ok, bind_err, ok_is, err_is, no_ok_err, IsBytes, IsBytes-drop, Takes}
 
 -- The four laws of a part: read, so spelled; spelled, so read, whatever follows; failing, so the first fault; and back.
@@ -83,7 +85,7 @@ is_found S read takes bytes at (Ok x) fits within given = place_takes S read tak
 is_found S read takes bytes at (Err e) fits within given = tt
 
 pub is_only : {A : Type 0} (S : A → List ℕ → Type 0) (read : ℕ → List ℕ → Read A) → Again S read → (bytes : List ℕ) (at : ℕ) (r : Result (A × ℕ) DataFault)
-    → Gives (λ x. x) r (from_place read at bytes) → (v : A) (n : ℕ) → IsSpelledAt S bytes at v n → IsUnlessMemory r (v, n)
+    → Gives (λ x. x) r (from_place read at bytes) → (v : A) (n : ℕ) → IsSpelledAt S bytes at v n → IsUnless Memory r (v, n)
 is_only S read again bytes at (Ok x) given v n h = ok_is x (v, n) (sym given ∙ place_again S read again bytes at v n h)
 is_only S read again bytes at (Err e) given v n h = is_memory e (λ other. no_ok_err (v, n) e (sym (place_again S read again bytes at v n h) ∙ given other))
 
@@ -93,7 +95,7 @@ is_fault F read fails bytes at (Ok x) fits given = tt
 is_fault F read fails bytes at (Err e) fits given = λ other. fails (length bytes) (drop at bytes) e (IsBytes-drop at bytes fits) (place_fails read bytes at e (given other))
 
 pub is_refused : {A : Type 0} (F : ℕ → List ℕ → DataFault → Type 0) (read : ℕ → List ℕ → Read A) → Refused F read → (bytes : List ℕ) (at : ℕ) (r : Result (A × ℕ) DataFault)
-    → Gives (λ x. x) r (from_place read at bytes) → (f : DataFault) → F (length bytes) (drop at bytes) f → IsFaultUnlessMemory r f
+    → Gives (λ x. x) r (from_place read at bytes) → (f : DataFault) → F (length bytes) (drop at bytes) f → FailsUnless Memory r f
 is_refused F read refused bytes at (Ok x) given f h = no_ok_err x f (sym given ∙ place_refused read bytes at f (refused (length bytes) (drop at bytes) f h))
 is_refused {A} F read refused bytes at (Err e) given f h = λ other. err_is {A = A × ℕ} e f (sym (given other) ∙ place_refused read bytes at f (refused (length bytes) (drop at bytes) f h))
 
@@ -141,3 +143,20 @@ one_fault {A} F read refused end b f g p q = err_is {A = A × List ℕ} f g (sym
 pub no_fault : {A : Type 0} (S : A → List ℕ → Type 0) (F : ℕ → List ℕ → DataFault → Type 0) (read : ℕ → List ℕ → Read A) → Again S read → Refused F read
     → (end : ℕ) (v : A) (b x : List ℕ) (f : DataFault) → S v b → F end (b ++ x) f → ⊥
 no_fault S F read again refused end v b x f p q = no_ok_err (v, x) f (sym (again end v b x p) ∙ refused end (b ++ x) f q)
+
+-- ---- a spelling, or a fault
+
+pub all_bytes : (bytes : List ℕ) → AreBytes bytes → IsBytes bytes
+all_bytes [] h i = omega arith
+all_bytes (b ∷ bytes) h zero = h.0
+all_bytes (b ∷ bytes) h (suc i) = all_bytes bytes h.1 i
+
+answered : {A : Type 0} (S : A → List ℕ → Type 0) (F : ℕ → List ℕ → DataFault → Type 0) (read : ℕ → List ℕ → Read A) → Taking S read → Failing F read
+    → (bytes : List ℕ) (at : ℕ) → IsBytes bytes → at ≤ length bytes → (r : Result (A × ℕ) DataFault) → from_place read at bytes ≡ r → SpelledOrFails S F bytes at
+answered S F read takes fails bytes at fits within (Ok x) e = inl (x.0, x.1, place_takes S read takes bytes at x fits within e)
+answered S F read takes fails bytes at fits within (Err f) e = inr (f, fails (length bytes) (drop at bytes) f (IsBytes-drop at bytes fits) (place_fails read bytes at f e))
+
+pub spelled_or_fails : {A : Type 0} (S : A → List ℕ → Type 0) (F : ℕ → List ℕ → DataFault → Type 0) (read : ℕ → List ℕ → Read A) → Taking S read → Failing F read
+    → (bytes : List ℕ) (at : ℕ) → AreBytes bytes → at ≤ length bytes → SpelledOrFails S F bytes at
+spelled_or_fails S F read takes fails bytes at all within =
+    answered S F read takes fails bytes at (all_bytes bytes all) within (from_place read at bytes) refl

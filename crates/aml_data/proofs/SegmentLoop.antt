@@ -2,7 +2,7 @@
 use Rattle.std.proofs.Common.{◌≡◌, ℕ, suc, ◌-◌, ◌+◌, ◌≤◌, ◌<◌, List, [], ◌∷◌, ◌++◌, Ok, Err, refl, sym, ap, ◌∙◌, append_assoc, arith}
 use Rattle.std.proofs.lemmas.List.{append-nil}
 use Rattle.aml_data.specs.declared.fault.DataFault.{DataFault}
-use Rattle.aml_data.specs.Reading.{◌>>=◌, Read, segment_at, several_at}
+use Rattle.aml_data.specs.inner.Reading.{◌>>=◌, Read, segment_at, several_at}
 
 -- the segments that were read before, and those still to be read
 abbrev pub with_front : List (List ℕ) → Read (List (List ℕ)) → Read (List (List ℕ))

@@ -3,7 +3,7 @@ use Rattle.std.proofs.Common.{◌≡◌, ◌<◌, ◌+◌, ◌⊎◌, ℕ, suc, 
 use Rattle.std.proofs.lemmas.Bool.{cases_lt}
 use Rattle.std.proofs.lemmas.List.{get_or-drop, get_or-take, get_or_past, length-take, drop_at}
 use Rattle.aml_data.specs.declared.fault.DataFault.{DataFault}
-use Rattle.aml_data.specs.Reading.{◌>>=◌}
+pub use Rattle.pw_base.proofs.Answers.{bind_ok, bind_err, ok_is, err_is, no_ok_err, no_err_ok}
 
 -- ---- steps
 
@@ -13,17 +13,6 @@ done x = Ok x
 abbrev pub failed : {A : Type 0} → DataFault → Result A DataFault
 failed d = Err d
 
--- the value of a step that didn't fail
-pub bind_ok : {A B : Type 0} (r : Result A DataFault) (f : A → Result B DataFault) (y : B) → (r >>= f) ≡ Ok y → (x : A) × (r ≡ Ok x) × (f x ≡ Ok y)
-bind_ok (Ok x) f y e = (x, refl, e)
-bind_ok (Err d) f y e = absurd cc
-
--- two steps fail in the first, or in the second
-pub bind_err : {A B : Type 0} (r : Result A DataFault) (f : A → Result B DataFault) (d : DataFault) → (r >>= f) ≡ Err d
-    → (r ≡ Err d) ⊎ ((x : A) × (r ≡ Ok x) × (f x ≡ Err d))
-bind_err (Ok x) f d e = inr (x, refl, e)
-bind_err (Err c) f d e = inl cc
-
 -- which way a test went
 pub chosen : {A : Type 0} (b : Bool) (x y z : A) → cond b x y ≡ z → ((b ≡ true) × (x ≡ z)) ⊎ ((b ≡ false) × (y ≡ z))
 chosen true x y z e = inl (refl, e)
@@ -32,18 +21,6 @@ chosen false x y z e = inr (refl, e)
 pub known : (b : Bool) → (b ≡ true) ⊎ (b ≡ false)
 known true = inl refl
 known false = inr refl
-
-pub ok_is : {A : Type 0} (x y : A) → done x ≡ done y → x ≡ y
-ok_is x y e = cc
-
-pub err_is : {A : Type 0} (c d : DataFault) → failed {A = A} c ≡ failed d → c ≡ d
-err_is c d e = cc
-
-pub no_ok_err : {A : Type 0} (x : A) (d : DataFault) → done x ≡ failed d → ⊥
-no_ok_err x d e = cc
-
-pub no_err_ok : {A : Type 0} (x : A) (d : DataFault) → failed d ≡ done x → ⊥
-no_err_ok x d e = cc
 
 -- ---- bytes
 

@@ -5,8 +5,8 @@ use Rattle.std.proofs.lemmas.Bool.{eqb-true, eqb-false, ne_eqb, leb-true, leb-fa
 use Rattle.aml_data.specs.declared.fault.DataFault.{DataFault}
 use Rattle.aml_data.specs.declared.fault.DataFault.TheVariants.{Short, BadText}
 use Rattle.aml_data.specs.Grammar.{IsAscii}
-use Rattle.aml_data.specs.Reading.{◌>>=◌}
-use Rattle.aml_data.specs.ReadingObjects.{text_at}
+use Rattle.aml_data.specs.inner.Reading.{◌>>=◌}
+use Rattle.aml_data.specs.inner.ReadingObjects.{text_at}
 use Rattle.aml_data.specs.Faults.{TextFails, fails_no_end, fails_high_byte}
 use Rattle.aml_data.proofs.Steps.{bind_ok, bind_err, chosen, ok_is, err_is}
 

@@ -121,46 +121,6 @@ content_fits n h =
           omega arith
     ]
 
--- the number of bytes that a PkgLength counts, as it is told, and that of the last part
-pub record IsContent (told last : ℕ) (content : List ℕ) : Type 0 where
-  pub fits : told ≤ 268435451
-  pub is : told ≡ length content
-  pub part : last < 2 ^ 28
-
-pub package_content : (count len : ℕ) (vs : List Data) → length (written (Package count vs)) < 2 ^ 28 → len ≡ min (2 ^ 28) (length (joined (map written vs)))
-    → IsContent (1 + len) (length (joined (map written vs))) (count ∷ joined (map written vs))
-package_content count len vs short e =
-    let whole = length-Package count vs in
-    let exact : len ≡ length (joined (map written vs)) = omega arith in
-    let same : 1 + length (joined (map written vs)) ≡ 1 + len = omega arith in
-    record {
-      fits = content_fits (1 + len) (subst (λ (n : ℕ). 1 + length (written_length n) + n < 2 ^ 28) same (rw whole at short));
-      is = omega arith;
-      part = omega arith;
-    }
-
-pub var_package_content : (count head len : ℕ) (vs : List Data) → length (written (VarPackage count vs)) < 2 ^ 28 → head ≡ length (written_constant count)
-    → len ≡ min (2 ^ 28) (length (joined (map written vs))) → IsContent (head + len) (length (joined (map written vs))) (written_constant count ++ joined (map written vs))
-var_package_content count head len vs short h e =
-    let whole = length-VarPackage count vs in
-    let exact : len ≡ length (joined (map written vs)) = omega arith in
-    let same : length (written_constant count) + length (joined (map written vs)) ≡ head + len = omega arith in
-    record {
-      fits = content_fits (head + len) (subst (λ (n : ℕ). 1 + length (written_length n) + n < 2 ^ 28) same (rw whole at short));
-      is = omega (arith, length-append (written_constant count) (joined (map written vs)));
-      part = omega arith;
-    }
-
-pub buffer_content : (size head : ℕ) (bytes : List ℕ) → length (written (Buffer size bytes)) < 2 ^ 28 → head ≡ length (written_constant size)
-    → IsContent (head + length bytes) (length bytes) (written_constant size ++ bytes)
-buffer_content size head bytes short h =
-    let whole = length-Buffer size (head + length bytes) bytes (omega arith) in
-    record {
-      fits = content_fits (head + length bytes) (rw whole at short);
-      is = omega (arith, length-append (written_constant size) bytes);
-      part = omega arith;
-    }
-
 -- each object is no longer than all of them
 pub one_le_all : {X : Type 0} (f : X → List ℕ) (xs : List X) (i : ℕ) (x : X) → i < length xs → x ≡ get_or xs i x → length (f x) ≤ length (joined (map f xs))
 one_le_all f xs i x inside is =

@@ -1,9 +1,8 @@
 -- What a decoder answers at a place.
-use Rattle.std.specs.Prelude.{◌≡◌, ◌≢◌, ℕ, ◌+◌, ◌-◌, ◌≤◌, List, length, take, drop, Result, Ok, Err}
+use Rattle.std.specs.Prelude.{◌⊎◌, ℕ, ◌+◌, ◌-◌, ◌<◌, ◌≤◌, ◌^◌, List, length, take, drop}
+use Rattle.std.specs.List.{AllByRecursion}
 use Rattle.aml_data.specs.declared.fault.DataFault.{DataFault}
-use Rattle.aml_data.specs.declared.fault.DataFault.TheVariants.{Memory}
-use Rattle.aml_data.specs.Grammar.{Len}
-use Rattle.aml_data.specs.Reading.{◌>>=◌, Read, length_at}
+use Rattle.aml_data.specs.Lengths.{Len, LenFails}
 
 -- The n bytes from a place spell this value.
 pub record IsSpelledAt {A : Type 0} (Spelling : A → List ℕ → Type 0) (bytes : List ℕ) (at : ℕ) (value : A) (n : ℕ) : Type 0 where
@@ -16,21 +15,15 @@ pub record IsLengthAt (bytes : List ℕ) (at end n : ℕ) : Type 0 where
   pub within : end ≤ length bytes
   pub spelled : Len (end - at) (take n (drop at bytes))
 
--- this answer, unless memory ran out
-abbrev pub IsUnlessMemory : {X : Type 0} → Result X DataFault → X → Type 0
-IsUnlessMemory (Ok x) y = x ≡ y
-IsUnlessMemory (Err e) y = e ≡ Memory
+-- each of them is a byte
+abbrev pub AreBytes : List ℕ → Type 0
+AreBytes bytes = AllByRecursion (λ b. b < 2 ^ 8) bytes
 
--- this fault, unless memory ran out
-abbrev pub IsFaultUnlessMemory : {X : Type 0} → Result X DataFault → DataFault → Type 0
-IsFaultUnlessMemory (Ok x) f = ⊥
-IsFaultUnlessMemory (Err e) f = e ≢ Memory → e ≡ f
+-- From a place on a value is spelled, or there is a first fault.
+abbrev pub SpelledOrFails : {A : Type 0} → (A → List ℕ → Type 0) → (ℕ → List ℕ → DataFault → Type 0) → List ℕ → ℕ → Type 0
+SpelledOrFails {A} Spelling Faults bytes at =
+    ((value : A) × (n : ℕ) × IsSpelledAt Spelling bytes at value n) ⊎ ((fault : DataFault) × Faults (length bytes) (drop at bytes) fault)
 
--- what is read from a place, and how many bytes it has
-abbrev pub from_place : {A : Type 0} → (ℕ → List ℕ → Read A) → ℕ → List ℕ → Result (A × ℕ) DataFault
-from_place read at bytes = read (length bytes) (drop at bytes) >>= λ x. Ok (x.0, length (drop at bytes) - length x.1)
-
--- where the length that is read from a place ends, and how many bytes it has
-abbrev pub length_from_place : ℕ → List ℕ → Result (ℕ × ℕ) DataFault
-length_from_place at bytes =
-    length_at (length bytes) (drop at bytes) >>= λ x. Ok (length bytes - length x.1 + x.0, length (drop at bytes) - length x.1)
+-- The same of a PkgLength, which reaches to an end.
+abbrev pub LengthOrFails : List ℕ → ℕ → Type 0
+LengthOrFails bytes at = ((end n : ℕ) × IsLengthAt bytes at end n) ⊎ ((fault : DataFault) × LenFails (length bytes) (drop at bytes) fault)

@@ -1,40 +1,34 @@
 -- The first fault: the parts before it are spelled in order, and the next part fails. The bytes end at `end`, so a
 -- byte that stands before n more has the place end - (n + 1).
-use Rattle.std.specs.Prelude.{◌≡◌, ◌≢◌, ◌⊎◌, ℕ, zero, suc, ◌+◌, ◌-◌, ◌/◌, ◌%◌, ◌<◌, ◌≤◌, Bool, true, false, IsTrue, List, [], ◌∷◌, ◌++◌, length}
+use Rattle.std.specs.Prelude.{◌≡◌, ◌≢◌, ℕ, zero, suc, ◌-◌, ◌<◌, ◌≤◌, Bool, true, false, IsTrue, List, [], ◌∷◌, ◌++◌, length}
 use Rattle.std.specs.List.{AllByRecursion}
+use Rattle.aml_data.specs.declared.opcode.TheConstants.{ZERO_OP, ONE_OP, BYTE_PREFIX, WORD_PREFIX, DWORD_PREFIX, QWORD_PREFIX, STRING_PREFIX, BUFFER_OP, PACKAGE_OP, VAR_PACKAGE_OP}
+use Rattle.aml_data.specs.declared.opcode.TheConstants.{REVISION_OP, EXT_OP_PREFIX, ONES_OP, NULL_NAME, DUAL_NAME_PREFIX, MULTI_NAME_PREFIX, ROOT_CHAR, PARENT_PREFIX_CHAR}
+use Rattle.aml_data.specs.declared.limits.TheConstants.{DEEPEST}
 use Rattle.aml_data.specs.declared.data.Data.{Data}
 use Rattle.aml_data.specs.declared.fault.DataFault.{DataFault}
-use Rattle.aml_data.specs.declared.fault.DataFault.TheVariants.{Short, BadLead, BadLength, BadName, BadText, TooMany, TooDeep}
-use Rattle.aml_data.specs.Grammar.{Const, Len, Prefix, IsAscii, SpellsWithin}
+use Rattle.aml_data.specs.declared.fault.DataFault.TheVariants.{Short, BadLead, BadName, BadText, TooMany, TooDeep}
+use Rattle.aml_data.specs.Grammar.{Const, Prefix, IsAscii, SpellsWithin}
+use Rattle.aml_data.specs.Layouts.{Octet, FewerThan, Holds, SizedFails}
+pub use Rattle.aml_data.specs.Lengths.{LenFails, fails_no_length, fails_reserved_bit, fails_few_following, fails_wrong_length}
 use Rattle.aml_data.specs.Segment.{is_letter, is_word, IsSegment, begins_name}
 
 -- how many bytes follow the lead byte of an integer constant
 pub data Follows : ℕ → ℕ → Type 0 where
-  follows_byte : Follows 10 1
-  follows_word : Follows 11 2
-  follows_double : Follows 12 4
-  follows_quad : Follows 14 8
+  follows_byte : Follows BYTE_PREFIX 1
+  follows_word : Follows WORD_PREFIX 2
+  follows_double : Follows DWORD_PREFIX 4
+  follows_quad : Follows QWORD_PREFIX 8
 
 -- a byte that begins no integer constant
 abbrev pub IsNoConstant : ℕ → Type 0
-IsNoConstant lead = (lead ≢ 0) × (lead ≢ 1) × (lead ≢ 10) × (lead ≢ 11) × (lead ≢ 12) × (lead ≢ 14)
+IsNoConstant lead = (lead ≢ ZERO_OP) × (lead ≢ ONE_OP) × (lead ≢ BYTE_PREFIX) × (lead ≢ WORD_PREFIX) × (lead ≢ DWORD_PREFIX) × (lead ≢ QWORD_PREFIX)
 
 -- an integer constant: its lead byte, and then the bytes of its number
 pub data ConstFails : ℕ → List ℕ → DataFault → Type 0 where
   fails_no_constant : {end : ℕ} → ConstFails end [] (Short end)
   fails_few_bytes : {end lead n : ℕ} {rest : List ℕ} → Follows lead n → length rest < n → ConstFails end (lead ∷ rest) (Short end)
   fails_other_byte : {end lead : ℕ} {rest : List ℕ} → IsNoConstant lead → ConstFails end (lead ∷ rest) (BadLead (end - length (lead ∷ rest)) lead)
-
--- PkgLength: the reserved bits of its lead byte, then the bytes that follow it, then whether the length is at least that of
--- its own bytes and at most that of all bytes (ACPI 6.5, 20.2.4)
-pub data LenFails : ℕ → List ℕ → DataFault → Type 0 where
-  fails_no_length : {end : ℕ} → LenFails end [] (Short end)
-  fails_reserved_bit : {end lead : ℕ} {rest : List ℕ} → 64 ≤ lead → lead / 16 % 4 ≢ 0
-      → LenFails end (lead ∷ rest) (BadLength (end - length (lead ∷ rest)))
-  fails_few_following : {end lead : ℕ} {rest : List ℕ} → (64 ≤ lead → lead / 16 % 4 ≡ 0) → length rest < lead / 64
-      → LenFails end (lead ∷ rest) (Short end)
-  fails_wrong_length : {end n : ℕ} (p rest : List ℕ) → Len n p → (n < length p) ⊎ (length (p ++ rest) < n)
-      → LenFails end (p ++ rest) (BadLength (end - length (p ++ rest)))
 
 -- a string behind its lead byte: its bytes up to the 0 that ends it
 pub data TextFails : ℕ → List ℕ → DataFault → Type 0 where
@@ -66,18 +60,18 @@ pub data SeveralFail : ℕ → ℕ → List ℕ → DataFault → Type 0 where
 -- the segments of a name, by their first byte
 pub data SegmentsFail : ℕ → List ℕ → DataFault → Type 0 where
   fails_no_segments : {end : ℕ} → SegmentsFail end [] (Short end)
-  fails_in_two : {end : ℕ} {bytes : List ℕ} {fault : DataFault} → SeveralFail 2 end bytes fault → SegmentsFail end (46 ∷ bytes) fault
-  fails_no_count : {end : ℕ} → SegmentsFail end (47 ∷ []) (Short end)
-  fails_count_zero : {end : ℕ} {rest : List ℕ} → SegmentsFail end (47 ∷ 0 ∷ rest) (BadName (end - length (0 ∷ rest)))
-  fails_in_many : {end n : ℕ} {bytes : List ℕ} {fault : DataFault} → 0 < n → SeveralFail n end bytes fault → SegmentsFail end (47 ∷ n ∷ bytes) fault
-  fails_in_one : {end b : ℕ} {rest : List ℕ} {fault : DataFault} → b ≢ 0 → b ≢ 46 → b ≢ 47 → SeveralFail 1 end (b ∷ rest) fault
+  fails_in_two : {end : ℕ} {bytes : List ℕ} {fault : DataFault} → SeveralFail 2 end bytes fault → SegmentsFail end (DUAL_NAME_PREFIX ∷ bytes) fault
+  fails_no_count : {end : ℕ} → SegmentsFail end (MULTI_NAME_PREFIX ∷ []) (Short end)
+  fails_count_zero : {end : ℕ} {rest : List ℕ} → SegmentsFail end (MULTI_NAME_PREFIX ∷ 0 ∷ rest) (BadName (end - length (0 ∷ rest)))
+  fails_in_many : {end n : ℕ} {bytes : List ℕ} {fault : DataFault} → 0 < n → SeveralFail n end bytes fault → SegmentsFail end (MULTI_NAME_PREFIX ∷ n ∷ bytes) fault
+  fails_in_one : {end b : ℕ} {rest : List ℕ} {fault : DataFault} → b ≢ NULL_NAME → b ≢ DUAL_NAME_PREFIX → b ≢ MULTI_NAME_PREFIX → SeveralFail 1 end (b ∷ rest) fault
       → SegmentsFail end (b ∷ rest) fault
 
 -- the longest prefix stands in front
 pub data EndsPrefix : Bool → ℕ → List ℕ → Type 0 where
   ends_root : {rest : List ℕ} → EndsPrefix true 0 rest
   ends_bytes : {ups : ℕ} → EndsPrefix false ups []
-  ends_ups : {ups b : ℕ} {rest : List ℕ} → b ≢ 94 → (ups ≡ 0 → b ≢ 92) → EndsPrefix false ups (b ∷ rest)
+  ends_ups : {ups b : ℕ} {rest : List ℕ} → b ≢ PARENT_PREFIX_CHAR → (ups ≡ 0 → b ≢ ROOT_CHAR) → EndsPrefix false ups (b ∷ rest)
 
 -- a name: its prefix never fails, its segments may
 pub data NameFails : ℕ → List ℕ → DataFault → Type 0 where
@@ -87,41 +81,36 @@ pub data NameFails : ℕ → List ℕ → DataFault → Type 0 where
 -- a byte that begins no data object
 pub record BeginsNothing (lead : ℕ) : Type 0 where
   pub constant : IsNoConstant lead
-  pub ones : lead ≢ 255
-  pub revision : lead ≢ 91
-  pub string : lead ≢ 13
-  pub buffer : lead ≢ 17
-  pub pack : lead ≢ 18
-  pub var_pack : lead ≢ 19
+  pub ones : lead ≢ ONES_OP
+  pub revision : lead ≢ EXT_OP_PREFIX
+  pub string : lead ≢ STRING_PREFIX
+  pub buffer : lead ≢ BUFFER_OP
+  pub pack : lead ≢ PACKAGE_OP
+  pub var_pack : lead ≢ VAR_PACKAGE_OP
   pub name : begins_name lead ≡ false
 
 -- A data object that may nest so deep: its lead byte, and then the parts that the lead byte says. In a package these are
--- the nesting, the PkgLength, the count and the elements; what is inside a PkgLength ends where its bytes end.
+-- the nesting, the PkgLength with the count that it holds, and the elements.
 mutual
   pub data FailsWithin : ℕ → ℕ → List ℕ → DataFault → Type 0 where
     fails_no_object : {depth end : ℕ} → FailsWithin depth end [] (Short end)
     fails_other_lead : {depth end lead : ℕ} {rest : List ℕ} → BeginsNothing lead
         → FailsWithin depth end (lead ∷ rest) (BadLead (end - length (lead ∷ rest)) lead)
     fails_in_constant : {depth end lead n : ℕ} {rest : List ℕ} → Follows lead n → length rest < n → FailsWithin depth end (lead ∷ rest) (Short end)
-    fails_no_second : {depth end : ℕ} → FailsWithin depth end (91 ∷ []) (Short end)
-    fails_other_second : {depth end b : ℕ} {rest : List ℕ} → b ≢ 48 → FailsWithin depth end (91 ∷ b ∷ rest) (BadLead (end - length (b ∷ rest)) b)
-    fails_in_text : {depth end : ℕ} {rest : List ℕ} {fault : DataFault} → TextFails end rest fault → FailsWithin depth end (13 ∷ rest) fault
+    fails_no_second : {depth end : ℕ} → FailsWithin depth end (EXT_OP_PREFIX ∷ []) (Short end)
+    fails_other_second : {depth end b : ℕ} {rest : List ℕ} → b ≢ REVISION_OP → FailsWithin depth end (EXT_OP_PREFIX ∷ b ∷ rest) (BadLead (end - length (b ∷ rest)) b)
+    fails_in_text : {depth end : ℕ} {rest : List ℕ} {fault : DataFault} → TextFails end rest fault → FailsWithin depth end (STRING_PREFIX ∷ rest) fault
     fails_in_path : {depth end lead : ℕ} {rest : List ℕ} {fault : DataFault} → begins_name lead ≡ true → NameFails end (lead ∷ rest) fault
         → FailsWithin depth end (lead ∷ rest) fault
-    fails_in_buffer_length : {depth end : ℕ} {rest : List ℕ} {fault : DataFault} → LenFails end rest fault → FailsWithin depth end (17 ∷ rest) fault
-    fails_in_buffer_size : {depth end : ℕ} {fault : DataFault} (p inside rest : List ℕ) → Len (length p + length inside) p
-        → ConstFails (end - length rest) inside fault → FailsWithin depth end (17 ∷ (p ++ (inside ++ rest))) fault
-    fails_too_deep : {end : ℕ} {rest : List ℕ} → FailsWithin zero end (18 ∷ rest) (TooDeep (end - length (18 ∷ rest)))
-    fails_in_package_length : {depth end : ℕ} {rest : List ℕ} {fault : DataFault} → LenFails end rest fault → FailsWithin (suc depth) end (18 ∷ rest) fault
-    fails_no_package_count : {depth end : ℕ} (p rest : List ℕ) → Len (length p) p → FailsWithin (suc depth) end (18 ∷ (p ++ rest)) (Short (end - length rest))
-    fails_in_package_elements : {depth end count : ℕ} {fault : DataFault} (p body rest : List ℕ) → Len (length p + length (count ∷ body)) p
-        → ElementsFail depth count (end - length rest) body fault → FailsWithin (suc depth) end (18 ∷ (p ++ ((count ∷ body) ++ rest))) fault
-    fails_var_too_deep : {end : ℕ} {rest : List ℕ} → FailsWithin zero end (19 ∷ rest) (TooDeep (end - length (19 ∷ rest)))
-    fails_in_var_package_length : {depth end : ℕ} {rest : List ℕ} {fault : DataFault} → LenFails end rest fault → FailsWithin (suc depth) end (19 ∷ rest) fault
-    fails_in_var_package_count : {depth end : ℕ} {fault : DataFault} (p inside rest : List ℕ) → Len (length p + length inside) p
-        → ConstFails (end - length rest) inside fault → FailsWithin (suc depth) end (19 ∷ (p ++ (inside ++ rest))) fault
-    fails_in_var_package_elements : {depth end count : ℕ} {fault : DataFault} (p c body rest : List ℕ) → Len (length p + length (c ++ body)) p → Const count c
-        → ElementsFail depth count (end - length rest) body fault → FailsWithin (suc depth) end (19 ∷ (p ++ ((c ++ body) ++ rest))) fault
+    fails_in_buffer : {depth end : ℕ} {rest : List ℕ} {fault : DataFault} → SizedFails ConstFails end rest fault → FailsWithin depth end (BUFFER_OP ∷ rest) fault
+    fails_too_deep : {end : ℕ} {rest : List ℕ} → FailsWithin zero end (PACKAGE_OP ∷ rest) (TooDeep (end - length (PACKAGE_OP ∷ rest)))
+    fails_in_count : {depth end : ℕ} {rest : List ℕ} {fault : DataFault} → SizedFails (FewerThan 1) end rest fault → FailsWithin (suc depth) end (PACKAGE_OP ∷ rest) fault
+    fails_in_elements : {depth end count : ℕ} {fault : DataFault} {c body : List ℕ} (b rest : List ℕ) → Holds (c ++ body) b → Octet count c
+        → ElementsFail depth count (end - length rest) body fault → FailsWithin (suc depth) end (PACKAGE_OP ∷ (b ++ rest)) fault
+    fails_var_too_deep : {end : ℕ} {rest : List ℕ} → FailsWithin zero end (VAR_PACKAGE_OP ∷ rest) (TooDeep (end - length (VAR_PACKAGE_OP ∷ rest)))
+    fails_in_var_count : {depth end : ℕ} {rest : List ℕ} {fault : DataFault} → SizedFails ConstFails end rest fault → FailsWithin (suc depth) end (VAR_PACKAGE_OP ∷ rest) fault
+    fails_in_var_elements : {depth end count : ℕ} {fault : DataFault} {c body : List ℕ} (b rest : List ℕ) → Holds (c ++ body) b → Const count c
+        → ElementsFail depth count (end - length rest) body fault → FailsWithin (suc depth) end (VAR_PACKAGE_OP ∷ (b ++ rest)) fault
 
   -- the elements of a package of so many, where its bytes go on: one too many, this one, or one after it
   pub data ElementsFail : ℕ → ℕ → ℕ → List ℕ → DataFault → Type 0 where
@@ -133,4 +122,4 @@ mutual
 
 -- a data object, at most 32 levels deep
 abbrev pub Fails : ℕ → List ℕ → DataFault → Type 0
-Fails end bytes fault = FailsWithin 32 end bytes fault
+Fails end bytes fault = FailsWithin DEEPEST end bytes fault

@@ -1,9 +1,12 @@
+pub mod inner
 pub mod Segment
 pub mod Objects
+pub mod Lengths
+pub mod Layouts
 pub mod Grammar
-pub mod Reading
-pub mod ReadingObjects
 pub mod Faults
 pub mod Decoded
 pub mod Meaning
 pub mod Written
+pub mod Nesting
+pub mod Countable

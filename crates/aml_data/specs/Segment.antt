@@ -1,5 +1,6 @@
 -- Segments of names (ACPI 6.5, 20.2.2).
 use Rattle.std.specs.Prelude.{ℕ, Bool, ◌&&◌, ◌||◌, List, [], ◌∷◌, ◌++◌, nat_le, ◌==◌, IsTrue}
+use Rattle.aml_data.specs.declared.opcode.TheConstants.{DUAL_NAME_PREFIX, MULTI_NAME_PREFIX, ROOT_CHAR, PARENT_PREFIX_CHAR}
 
 -- A to Z, or _
 abbrev pub is_letter : ℕ → Bool
@@ -21,4 +22,4 @@ joined (text ∷ texts) = text ++ joined texts
 
 -- a byte that begins a name with a prefix or a segment
 abbrev pub begins_name : ℕ → Bool
-begins_name b = is_letter b || (b == 92) || (b == 94) || (b == 46) || (b == 47)
+begins_name b = is_letter b || (b == ROOT_CHAR) || (b == PARENT_PREFIX_CHAR) || (b == DUAL_NAME_PREFIX) || (b == MULTI_NAME_PREFIX)

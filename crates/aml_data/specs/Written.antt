@@ -1,7 +1,10 @@
 -- The written form: of every part the shortest spelling (ACPI 6.5, 20.2), and which objects have one.
-use Rattle.std.specs.Prelude.{◌≡◌, ℕ, zero, suc, ◌+◌, ◌/◌, ◌%◌, ◌<◌, ◌≤◌, ◌^◌, Bool, true, false, List, [], ◌∷◌, ◌++◌, length, take, replicate, nat_lt, ◌==◌, if◌then◌else◌}
+use Rattle.std.specs.Prelude.{◌≡◌, ℕ, zero, suc, ◌+◌, ◌/◌, ◌%◌, ◌<◌, ◌≤◌, ◌^◌, true, List, [], ◌∷◌, ◌++◌, length, replicate, nat_lt, ◌==◌, if◌then◌else◌}
 use Rattle.std.specs.List.{AllByRecursion}
 use Rattle.std.specs.Int.{w16, w32, w64, to_le_bytes}
+use Rattle.aml_data.specs.declared.opcode.TheConstants.{ZERO_OP, ONE_OP, BYTE_PREFIX, WORD_PREFIX, DWORD_PREFIX, QWORD_PREFIX, STRING_PREFIX, BUFFER_OP, PACKAGE_OP, VAR_PACKAGE_OP}
+use Rattle.aml_data.specs.declared.opcode.TheConstants.{REVISION_OP, EXT_OP_PREFIX, ONES_OP, NULL_NAME, DUAL_NAME_PREFIX, MULTI_NAME_PREFIX, ROOT_CHAR, PARENT_PREFIX_CHAR}
+use Rattle.aml_data.specs.declared.limits.TheConstants.{DEEPEST, TOO_MANY_SEGMENTS, TOO_LONG}
 use Rattle.aml_data.specs.declared.data.Data.{Data, Data-F, fold-Data, out-Data}
 use Rattle.aml_data.specs.declared.data.Data.TheOpen as layer
 use Rattle.aml_data.specs.declared.path.Path.{Path}
@@ -11,12 +14,12 @@ use Rattle.aml_data.specs.Grammar.{IsAscii, HasPart}
 -- an integer constant: the first spelling that holds the number
 abbrev pub written_constant : ℕ → List ℕ
 written_constant n =
-    if n == 0 then 0 ∷ []
-    else (if n == 1 then 1 ∷ []
-    else (if nat_lt n 256 then 10 ∷ n ∷ []
-    else (if nat_lt n 65536 then 11 ∷ to_le_bytes w16 n
-    else (if nat_lt n 4294967296 then 12 ∷ to_le_bytes w32 n
-    else 14 ∷ to_le_bytes w64 n))))
+    if n == 0 then ZERO_OP ∷ []
+    else (if n == 1 then ONE_OP ∷ []
+    else (if nat_lt n 0x100 then BYTE_PREFIX ∷ n ∷ []
+    else (if nat_lt n 0x1_0000 then WORD_PREFIX ∷ to_le_bytes w16 n
+    else (if nat_lt n 0x1_0000_0000 then DWORD_PREFIX ∷ to_le_bytes w32 n
+    else QWORD_PREFIX ∷ to_le_bytes w64 n))))
 
 -- a PkgLength of one byte
 abbrev pub one_byte_length : ℕ → List ℕ
@@ -48,11 +51,11 @@ sized content = written_length (length content) ++ content
 
 -- what stands before the segments of a name
 abbrev pub written_prefix : Path → List ℕ
-written_prefix path = if path.root then 92 ∷ [] else replicate path.ups 94
+written_prefix path = if path.root then ROOT_CHAR ∷ [] else replicate path.ups PARENT_PREFIX_CHAR
 
 -- what says how many segments follow: one alone needs nothing
 abbrev pub segments_lead : ℕ → List ℕ
-segments_lead n = if n == 0 then 0 ∷ [] else (if n == 1 then [] else (if n == 2 then 46 ∷ [] else 47 ∷ n ∷ []))
+segments_lead n = if n == 0 then NULL_NAME ∷ [] else (if n == 1 then [] else (if n == 2 then DUAL_NAME_PREFIX ∷ [] else MULTI_NAME_PREFIX ∷ n ∷ []))
 
 -- the segments of a name
 abbrev pub written_segments : List (List ℕ) → List ℕ
@@ -65,12 +68,12 @@ written_name path = written_prefix path ++ written_segments path.segs
 -- one layer of an object, whose elements are written already
 abbrev pub written_layer : Data-F (List ℕ) → List ℕ
 written_layer (layer.Int n) = written_constant n
-written_layer layer.Ones = 255 ∷ []
-written_layer layer.Revision = 91 ∷ 48 ∷ []
-written_layer (layer.Text text) = 13 ∷ text ++ 0 ∷ []
-written_layer (layer.Buffer buffer) = 17 ∷ sized (written_constant buffer.size ++ buffer.bytes)
-written_layer (layer.Package count elements) = 18 ∷ sized (count ∷ joined elements)
-written_layer (layer.VarPackage counted) = 19 ∷ sized (written_constant counted.count ++ joined counted.elements)
+written_layer layer.Ones = ONES_OP ∷ []
+written_layer layer.Revision = EXT_OP_PREFIX ∷ REVISION_OP ∷ []
+written_layer (layer.Text text) = STRING_PREFIX ∷ text ++ 0 ∷ []
+written_layer (layer.Buffer buffer) = BUFFER_OP ∷ sized (written_constant buffer.size ++ buffer.bytes)
+written_layer (layer.Package count elements) = PACKAGE_OP ∷ sized (count ∷ joined elements)
+written_layer (layer.VarPackage counted) = VAR_PACKAGE_OP ∷ sized (written_constant counted.count ++ joined counted.elements)
 written_layer (layer.Path path) = written_name path
 
 -- a data object
@@ -79,7 +82,7 @@ written = fold-Data (List ℕ) written_layer
 
 -- A name that can be written: its segments can be counted by a byte, and the root has no steps up.
 pub record IsWritablePath (path : Path) : Type 0 where
-  pub few : length path.segs < 256
+  pub few : length path.segs < TOO_MANY_SEGMENTS
   pub no_ups : path.root ≡ true → path.ups ≡ 0
   pub segments : AllByRecursion IsSegment path.segs
 
@@ -111,10 +114,5 @@ IsWritableWithin (suc depth) v = IsWritableLayer (IsWritableWithin depth) (out-D
 
 -- A data object that can be written: every PkgLength in it holds its length.
 pub record IsWritable (v : Data) : Type 0 where
-  pub within : IsWritableWithin 32 v
-  pub short : length (written v) < 2 ^ 28
-
--- A list grew by these bytes, or, where memory ran out, at least what it was before still stands in front.
-abbrev pub Appends : List ℕ → List ℕ → List ℕ → Bool → Type 0
-Appends old new bytes true = new ≡ old ++ bytes
-Appends old new bytes false = take (length old) new ≡ old
+  pub within : IsWritableWithin DEEPEST v
+  pub short : length (written v) < TOO_LONG

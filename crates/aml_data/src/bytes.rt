@@ -1,6 +1,6 @@
 ghost use Rattle.std.specs.Prelude.{◌<◌, length, IfOk};
 ghost use Rattle.std.specs.Int.{w16, w32, w64};
-ghost use Rattle.aml_data.specs.Reading.{Tells, byte_at, number_at};
+ghost use Rattle.aml_data.specs.inner.Reading.{Tells, byte_at, number_at};
 
 use crate::fault::DataFault;
 

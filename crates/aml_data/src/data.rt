@@ -3,11 +3,11 @@ ghost use Rattle.aml_data.specs.declared.data.Data.TheVariants.{Path as at_path}
 ghost use Rattle.aml_data.specs.Objects.{Buffer as at_buffer, VarPackage as at_var_package};
 
 use crate::path::{Path, copy_path};
-use pw_base::{Boxed, List, Memory};
+use pw_base::{Boxed, CompactList, Memory};
 use std::alloc::Global;
 
 /// A data object: a constant, a string, a buffer, a package or a name (ACPI 6.5, 20.2.3).
-#[derive(Debug, Drop)]
+#[derive(Drop)]
 pub enum Data {
     /// An integer constant.
     Int(u64),
@@ -16,11 +16,14 @@ pub enum Data {
     /// The revision of the interpreter.
     Revision,
     /// A string: its bytes are 1 to 0x7F, without the 0 that ends it.
-    Text(List<u8>),
+    Text(CompactList<u8>),
     /// A buffer.
     Buffer(Boxed<Buffer>),
     /// A package of so many elements, of which the first are given and the rest uninitialised.
-    Package { count: u8, elements: List<Data> },
+    Package {
+        count: u8,
+        elements: CompactList<Data>,
+    },
     /// A package that a constant counts.
     VarPackage(Boxed<Counted<Data>>),
     /// A name.
@@ -29,17 +32,17 @@ pub enum Data {
 
 /// A buffer: its content is these bytes, and then zeros up to its size where that is greater
 /// (ACPI 6.5, 20.2.5.4).
-#[derive(Debug, Drop)]
+#[derive(Drop)]
 pub struct Buffer {
     pub size: u64,
-    pub bytes: List<u8>,
+    pub bytes: CompactList<u8>,
 }
 
 /// So many elements, of which the first are given and the rest uninitialised (ACPI 6.5, 20.2.5.4).
-#[derive(Debug, Drop)]
+#[derive(Drop)]
 pub struct Counted<T> {
     pub count: u64,
-    pub elements: List<T>,
+    pub elements: CompactList<T>,
 }
 
 // A package of small numbers is little else than its elements: two words each.
@@ -47,7 +50,7 @@ const _: () = prove!(size_of::<Data>() == 16);
 
 impl Data {
     /// A buffer of this size, which begins with these bytes.
-    pub fn buffer(alloc: Global, size: u64, bytes: List<u8>) -> Result<Data, Memory>
+    pub fn buffer(alloc: Global, size: u64, bytes: CompactList<u8>) -> Result<Data, Memory>
         ensures { IfOk result (λ object. object ≡ at_buffer size bytes) }
     {
         let buffer = Boxed::new(alloc, Buffer { size, bytes })?;
@@ -55,7 +58,11 @@ impl Data {
     }
 
     /// A package that a constant counts, of so many elements, which begins with these.
-    pub fn var_package(alloc: Global, count: u64, elements: List<Data>) -> Result<Data, Memory>
+    pub fn var_package(
+        alloc: Global,
+        count: u64,
+        elements: CompactList<Data>,
+    ) -> Result<Data, Memory>
         ensures { IfOk result (λ object. object ≡ at_var_package count elements) }
     {
         let counted = Boxed::new(alloc, Counted { count, elements })?;
@@ -79,10 +86,10 @@ pub enum Width {
     W64,
 }
 
-fn copy_bytes(alloc: Global, bytes: &List<u8>) -> Result<List<u8>, Memory>
+fn copy_bytes(alloc: Global, bytes: &CompactList<u8>) -> Result<CompactList<u8>, Memory>
     ensures { IfOk result (λ copy. copy ≡ bytes.now) }
 {
-    List::from_slice(alloc, bytes.as_slice())
+    CompactList::from_slice(alloc, bytes.as_slice())
 }
 
 /// A data object equal to this one.
@@ -121,12 +128,12 @@ pub fn copy_data(alloc: Global, object: &Data) -> Result<Data, Memory>
 }
 
 #[cycle(copy)]
-fn copy_elements(alloc: Global, elements: &[Data]) -> Result<List<Data>, Memory>
+fn copy_elements(alloc: Global, elements: &[Data]) -> Result<CompactList<Data>, Memory>
     ensures { IfOk result (λ copies. copies ≡ elements.now) }
 {
     let mut copies = Vec::new(alloc);
     for element in elements {
         copies.push(copy_data(alloc, element)?)?;
     }
-    List::from_vec(alloc, copies)
+    CompactList::from_vec(alloc, copies)
 }

@@ -4,12 +4,13 @@ ghost use Rattle.aml_data.specs.declared.data.Data.{Data as object};
 ghost use Rattle.aml_data.specs.declared.path.Path.{Path as name};
 ghost use Rattle.aml_data.specs.declared.fault.DataFault.{DataFault as data_fault};
 ghost use Rattle.aml_data.specs.declared.fault.DataFault.TheVariants.{Memory as no_memory};
+ghost use Rattle.pw_base.specs.Answers.{IsUnless, FailsUnless};
 ghost use Rattle.aml_data.specs.Grammar.{Const, NameOf, Spells};
 ghost use Rattle.aml_data.specs.Faults.{ConstFails, LenFails, NameFails, Fails};
-ghost use Rattle.aml_data.specs.Decoded.{IsSpelledAt, IsLengthAt, IsUnlessMemory};
-ghost use Rattle.aml_data.specs.Decoded.{IsFaultUnlessMemory, from_place, length_from_place};
-ghost use Rattle.aml_data.specs.Reading.{Gives, Tells, constant_at, name_at};
-ghost use Rattle.aml_data.specs.ReadingObjects.{object_at};
+ghost use Rattle.aml_data.specs.Decoded.{IsSpelledAt, IsLengthAt};
+ghost use Rattle.aml_data.specs.inner.Places.{from_place, length_from_place};
+ghost use Rattle.aml_data.specs.inner.Reading.{Gives, Tells, constant_at, name_at};
+ghost use Rattle.aml_data.specs.inner.ReadingObjects.{object_at};
 
 use crate::constant::constant_of;
 use crate::data::Data;
@@ -91,12 +92,12 @@ pub fn decode_name(alloc: Global, bytes: &[u8], at: usize) -> Result<(Path, usiz
     ensures found { IfOk result (λ r. IsSpelledAt NameOf bytes.now at r.0 r.1) }
     // What is spelled there is read, unless memory runs out.
     ensures only { (path : name) (n : ℕ) → IsSpelledAt NameOf bytes.now at path n
-        → IsUnlessMemory result (path, n) }
+        → IsUnless no_memory result (path, n) }
     // Otherwise it is the first fault.
     ensures fault { IfErr result (λ f. f ≢ no_memory → NameFails (length bytes.now) (drop at bytes.now) f) }
     // Where there is a first fault it is the answer, unless memory runs out.
     ensures refused { (f : data_fault) → NameFails (length bytes.now) (drop at bytes.now) f
-        → IsFaultUnlessMemory result f }
+        → FailsUnless no_memory result f }
 {
     name_from(alloc, bytes, at)
 }
@@ -120,12 +121,12 @@ pub fn decode(alloc: Global, bytes: &[u8], at: usize) -> Result<(Data, usize), D
     ensures found { IfOk result (λ r. IsSpelledAt Spells bytes.now at r.0 r.1) }
     // What is spelled there is read, unless memory runs out.
     ensures only { (value : object) (n : ℕ) → IsSpelledAt Spells bytes.now at value n
-        → IsUnlessMemory result (value, n) }
+        → IsUnless no_memory result (value, n) }
     // Otherwise it is the first fault.
     ensures fault { IfErr result (λ f. f ≢ no_memory → Fails (length bytes.now) (drop at bytes.now) f) }
     // Where there is a first fault it is the answer, unless memory runs out.
     ensures refused { (f : data_fault) → Fails (length bytes.now) (drop at bytes.now) f
-        → IsFaultUnlessMemory result f }
+        → FailsUnless no_memory result f }
 {
     object_from(alloc, bytes, at)
 }

@@ -1,144 +1,136 @@
-ghost use Rattle.std.specs.Prelude.{◌≡◌, ◌+◌, ◌<◌, ◌≤◌, ◌^◌, ◌++◌, ◌∷◌, [], length, map, is_ok};
+ghost use Rattle.std.specs.Prelude.{◌≡◌, ◌+◌, ◌<◌, ◌≤◌, ◌^◌, ◌++◌, ◌∷◌, [], length, map};
 ghost use Rattle.std.specs.Prelude.{OnOk, OnErr};
 ghost use Rattle.std.specs.List.{AllByRecursion};
 ghost use Rattle.aml_data.specs.Segment.{joined};
-ghost use Rattle.aml_data.specs.Written.{Appends, written, written_length};
+ghost use Rattle.aml_data.specs.Written.{written, written_length};
 ghost use Rattle.aml_data.specs.Written.{IsWritable, IsWritableWithin};
+ghost use Rattle.aml_data.specs.inner.Filling.{Fills};
 
 use crate::data::{Buffer, Counted, Data};
-use crate::lengths::{constant_len, elements_len};
-use crate::writing::{encode_constant, encode_length, encode_name, put};
+use crate::filling::{fill, fill_constant, fill_length, fill_name};
+use crate::lengths::written_len;
+use crate::limits::{DEEPEST, LONGEST_CONTENT, TOO_LONG};
+use crate::opcode::{
+    BUFFER_OP, EXT_OP_PREFIX, ONES_OP, PACKAGE_OP, REVISION_OP, STRING_PREFIX, VAR_PACKAGE_OP,
+};
 use pw_base::Memory;
 use std::alloc::Global;
 
-/// Appends a string.
-#[tactic(auto, using(crate::proofs::Appending::appending))]
-fn put_text(text: &[u8], out: &mut Vec<u8>) -> Result<(), Memory>
-    ensures { Appends out.old.items out.new.items (13 ∷ text.now ++ 0 ∷ []) (is_ok result) }
+/// Puts a string right before `end`, and answers where it begins, as all that follow do.
+#[tactic(auto, using(crate::proofs::Room::filling))]
+fn fill_text(text: &[u8], room: &mut [u8], end: usize) -> usize
+    requires fits { length text.now + 2 ≤ end }
+    requires within { end ≤ length room.old }
+    ensures { Fills room.old room.new result end (STRING_PREFIX ∷ text.now ++ 0 ∷ []) }
 {
-    put(&[0x0D], out)?;
-    put(text, out)?;
-    put(&[0x00], out)
+    let zero = fill(&[0x00], room, end);
+    let start = fill(text, room, zero);
+    fill(&[STRING_PREFIX], room, start)
 }
 
-/// Appends a lead byte, and the PkgLength of so many bytes after it.
-#[tactic(auto, using(crate::proofs::Appending::appending))]
-fn put_head(alloc: Global, lead: u8, content: u64, out: &mut Vec<u8>) -> Result<(), Memory>
-    requires { content ≤ 268435451 }
-    ensures { Appends out.old.items out.new.items (lead ∷ written_length content) (is_ok result) }
+/// Puts a lead byte, and the PkgLength of so many bytes after it.
+#[tactic(auto, using(crate::proofs::Room::filling))]
+fn fill_head(lead: u8, content: usize, room: &mut [u8], end: usize) -> usize
+    requires short { content ≤ LONGEST_CONTENT }
+    requires fits { 1 + length (written_length content) ≤ end }
+    requires within { end ≤ length room.old }
+    ensures { Fills room.old room.new result end (lead ∷ written_length content) }
 {
-    put(&[lead], out)?;
-    encode_length(alloc, content as usize, out)
+    let start = fill_length(content, room, end);
+    fill(&[lead], room, start)
 }
 
-/// Appends a buffer.
-#[tactic(auto, using(crate::proofs::Appending::appending))]
-fn put_buffer(alloc: Global, buffer: &Buffer, out: &mut Vec<u8>) -> Result<(), Memory>
-    requires { length (written (Data.Buffer buffer.now)) < 2 ^ 28 }
-    ensures { Appends out.old.items out.new.items (written (Data.Buffer buffer.now)) (is_ok result) }
+/// Puts a buffer.
+fn fill_buffer(buffer: &Buffer, room: &mut [u8], end: usize) -> usize
+    requires short { length (written (Data.Buffer buffer.now)) < TOO_LONG }
+    requires fits { length (written (Data.Buffer buffer.now)) ≤ end }
+    requires within { end ≤ length room.old }
+    ensures { Fills room.old room.new result end (written (Data.Buffer buffer.now)) }
 {
-    let bytes = buffer.bytes.as_slice();
-    put_head(
-        alloc,
-        0x11,
-        constant_len(buffer.size) + bytes.len() as u64,
-        out,
-    )?;
-    encode_constant(alloc, buffer.size, out)?;
-    put(bytes, out)
+    let bytes = fill(buffer.bytes.as_slice(), room, end);
+    let content = fill_constant(buffer.size, room, bytes);
+    fill_head(BUFFER_OP, end - content, room, content)
 }
 
-/// Appends an object. Its packages nest at most `depth` deep.
+/// Puts an object. Its packages nest at most `depth` deep.
 #[cycle(objects)]
-#[tactic(auto, using(crate::proofs::Appending::appending, crate::proofs::WrittenLayers::layers))]
-fn put_object(alloc: Global, value: &Data, depth: u32, out: &mut Vec<u8>) -> Result<(), Memory>
-    requires within { IsWritableWithin depth value.now }
-    requires short { length (written value.now) < 2 ^ 28 }
-    ensures { Appends out.old.items out.new.items (written value.now) (is_ok result) }
+#[tactic(auto, using(crate::proofs::WrittenLayers::layers))]
+fn fill_object(value: &Data, depth: u32, room: &mut [u8], end: usize) -> usize
+    requires nested { IsWritableWithin depth value.now }
+    requires short { length (written value.now) < TOO_LONG }
+    requires fits { length (written value.now) ≤ end }
+    requires within { end ≤ length room.old }
+    ensures { Fills room.old room.new result end (written value.now) }
 {
     match value {
-        Data::Int(number) => encode_constant(alloc, *number, out),
-        Data::Ones => put(&[0xFF], out),
-        Data::Revision => put(&[0x5B, 0x30], out),
-        Data::Text(text) => put_text(text.as_slice(), out),
-        Data::Buffer(buffer) => put_buffer(alloc, buffer.get(), out),
+        Data::Int(number) => fill_constant(*number, room, end),
+        Data::Ones => fill(&[ONES_OP], room, end),
+        Data::Revision => fill(&[EXT_OP_PREFIX, REVISION_OP], room, end),
+        Data::Text(text) => fill_text(text.as_slice(), room, end),
+        Data::Buffer(buffer) => fill_buffer(buffer.get(), room, end),
         Data::Package { count, elements } => {
-            put_package(alloc, *count, elements.as_slice(), depth - 1, out)
+            fill_package(*count, elements.as_slice(), depth - 1, room, end)
         }
-        Data::VarPackage(counted) => put_var_package(alloc, counted.get(), depth - 1, out),
-        Data::Path(path) => encode_name(alloc, path.get(), out),
+        Data::VarPackage(counted) => fill_var_package(counted.get(), depth - 1, room, end),
+        Data::Path(path) => fill_name(path.get(), room, end),
     }
 }
 
-/// Appends a package, whose elements nest at most `depth` deep.
+/// Puts a package, whose elements nest at most `depth` deep.
 #[cycle(objects)]
-#[tactic(auto, using(crate::proofs::Appending::appending))]
-fn put_package(
-    alloc: Global,
-    count: u8,
-    elements: &[Data],
-    depth: u32,
-    out: &mut Vec<u8>,
-) -> Result<(), Memory>
-    requires within { AllByRecursion (IsWritableWithin depth) elements.now }
-    requires short { length (written (Data.Package count elements.now)) < 2 ^ 28 }
-    ensures { Appends out.old.items out.new.items (written (Data.Package count elements.now)) (is_ok result) }
+fn fill_package(count: u8, elements: &[Data], depth: u32, room: &mut [u8], end: usize) -> usize
+    requires nested { AllByRecursion (IsWritableWithin depth) elements.now }
+    requires short { length (written (Data.Package count elements.now)) < TOO_LONG }
+    requires fits { length (written (Data.Package count elements.now)) ≤ end }
+    requires within { end ≤ length room.old }
+    ensures { Fills room.old room.new result end (written (Data.Package count elements.now)) }
 {
-    put_head(alloc, 0x12, 1 + elements_len(elements, depth), out)?;
-    put(&[count], out)?;
-    put_elements(alloc, elements, depth, out)
+    let body = fill_elements(elements, depth, room, end);
+    let content = fill(&[count], room, body);
+    fill_head(PACKAGE_OP, end - content, room, content)
 }
 
-/// Appends a package that is counted by a constant, whose elements nest at most `depth` deep.
+/// Puts a package that is counted by a constant, whose elements nest at most `depth` deep.
 #[cycle(objects)]
-#[tactic(auto, using(crate::proofs::Appending::appending))]
-fn put_var_package(
-    alloc: Global,
-    counted: &Counted<Data>,
-    depth: u32,
-    out: &mut Vec<u8>,
-) -> Result<(), Memory>
-    requires within { AllByRecursion (IsWritableWithin depth) counted.now.elements }
-    requires short { length (written (Data.VarPackage counted.now)) < 2 ^ 28 }
-    ensures { Appends out.old.items out.new.items (written (Data.VarPackage counted.now)) (is_ok result) }
+fn fill_var_package(counted: &Counted<Data>, depth: u32, room: &mut [u8], end: usize) -> usize
+    requires nested { AllByRecursion (IsWritableWithin depth) counted.now.elements }
+    requires short { length (written (Data.VarPackage counted.now)) < TOO_LONG }
+    requires fits { length (written (Data.VarPackage counted.now)) ≤ end }
+    requires within { end ≤ length room.old }
+    ensures { Fills room.old room.new result end (written (Data.VarPackage counted.now)) }
 {
-    let elements = counted.elements.as_slice();
-    let content = constant_len(counted.count) + elements_len(elements, depth);
-    put_head(alloc, 0x13, content, out)?;
-    encode_constant(alloc, counted.count, out)?;
-    put_elements(alloc, elements, depth, out)
+    let body = fill_elements(counted.elements.as_slice(), depth, room, end);
+    let content = fill_constant(counted.count, room, body);
+    fill_head(VAR_PACKAGE_OP, end - content, room, content)
 }
 
-/// Appends the elements of a package, which nest at most `depth` deep.
+/// Puts the elements of a package, which nest at most `depth` deep.
 #[cycle(objects)]
-#[tactic(auto, using(crate::proofs::Appending::appending))]
-fn put_elements(
-    alloc: Global,
-    elements: &[Data],
-    depth: u32,
-    out: &mut Vec<u8>,
-) -> Result<(), Memory>
-    requires within { AllByRecursion (IsWritableWithin depth) elements.now }
-    requires short { length (joined (map written elements.now)) < 2 ^ 28 }
-    ensures { Appends out.old.items out.new.items (joined (map written elements.now)) (is_ok result) }
+fn fill_elements(elements: &[Data], depth: u32, room: &mut [u8], end: usize) -> usize
+    requires nested { AllByRecursion (IsWritableWithin depth) elements.now }
+    requires short { length (joined (map written elements.now)) < TOO_LONG }
+    requires fits { length (joined (map written elements.now)) ≤ end }
+    requires within { end ≤ length room.old }
+    ensures { Fills room.old room.new result end (joined (map written elements.now)) }
 {
-    for element in elements {
-        put_object(alloc, element, depth, out)?;
+    let mut start = end;
+    let mut left = elements.len();
+    while left > 0 {
+        left -= 1;
+        start = fill_object(&elements[left], depth, room, start);
     }
-    Ok(())
+    start
 }
 
 /// Appends the written form of a data object: of every part the shortest spelling (ACPI 6.5, 20.2).
 /// After want of memory the vector is as it was.
-pub fn encode(alloc: Global, value: &Data, out: &mut Vec<u8>) -> Result<(), Memory>
+pub fn encode(_alloc: Global, value: &Data, out: &mut Vec<u8>) -> Result<(), Memory>
     requires { IsWritable value.now }
     ensures ok { OnOk result (out.new.items ≡ out.old.items ++ written value.now) }
     ensures err { OnErr result (out.new.items ≡ out.old.items) }
 {
-    let before = out.len();
-    let encoded = put_object(alloc, value, 32, out);
-    if encoded.is_err() {
-        out.truncate(before);
-    }
-    encoded
+    let end = out.len() + written_len(value) as usize;
+    out.resize(end, 0)?;
+    fill_object(value, DEEPEST, out.as_mut_slice(), end);
+    Ok(())
 }

@@ -6,7 +6,8 @@ ghost use Rattle.aml_data.specs.declared.path.Path.{Path};
 ghost use Rattle.aml_data.specs.declared.fault.DataFault.{DataFault};
 ghost use Rattle.aml_data.specs.Grammar.{Const, Len, NameOf, Spells};
 ghost use Rattle.aml_data.specs.Faults.{ConstFails, LenFails, NameFails, Fails};
-ghost use Rattle.aml_data.specs.Decoded.{IsSpelledAt, IsLengthAt};
+ghost use Rattle.aml_data.specs.Decoded.{IsSpelledAt, IsLengthAt, AreBytes};
+ghost use Rattle.aml_data.specs.Decoded.{SpelledOrFails, LengthOrFails};
 
 /// At each place at most one integer constant is spelled, and no spelling begins another.
 pub fn one_constant()
@@ -67,4 +68,24 @@ pub fn one_object_fault()
     ensures one { (end : ℕ) (b : List ℕ) (f g : DataFault) → Fails end b f → Fails end b g → f ≡ g }
     ensures apart { (end : ℕ) (v : Data) (b x : List ℕ) (f : DataFault) → Spells v b
         → Fails end (b ++ x) f → ⊥ }
+{}
+
+/// From each place in a list of bytes an integer constant is spelled, or there is a first fault.
+pub fn constant_or_fault()
+    ensures { (bytes : List ℕ) (at : ℕ) → AreBytes bytes → at ≤ length bytes → SpelledOrFails Const ConstFails bytes at }
+{}
+
+/// From each place in a list of bytes there is a PkgLength, or there is a first fault.
+pub fn length_or_fault()
+    ensures { (bytes : List ℕ) (at : ℕ) → AreBytes bytes → at ≤ length bytes → LengthOrFails bytes at }
+{}
+
+/// From each place in a list of bytes a name is spelled, or there is a first fault.
+pub fn name_or_fault()
+    ensures { (bytes : List ℕ) (at : ℕ) → AreBytes bytes → at ≤ length bytes → SpelledOrFails NameOf NameFails bytes at }
+{}
+
+/// From each place in a list of bytes a data object is spelled, or there is a first fault.
+pub fn object_or_fault()
+    ensures { (bytes : List ℕ) (at : ℕ) → AreBytes bytes → at ≤ length bytes → SpelledOrFails Spells Fails bytes at }
 {}

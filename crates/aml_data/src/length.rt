@@ -1,5 +1,5 @@
 ghost use Rattle.std.specs.Prelude.{◌≡◌, ◌+◌, ◌<◌, ◌≤◌, length, IfOk};
-ghost use Rattle.aml_data.specs.Reading.{Tells, left_at, length_at, length_value, window_at};
+ghost use Rattle.aml_data.specs.inner.Reading.{Tells, left_at, length_at, length_value, window_at};
 
 use crate::fault::DataFault;
 
@@ -39,7 +39,7 @@ fn left_of(lead: u8, more: usize, rest: &[u8], end: usize) -> Result<(usize, &[u
 
 /// The PkgLength that stands first: how many bytes after it belong to its object, and the bytes after
 /// it. `end` is the place where the bytes end (ACPI 6.5, 20.2.4).
-#[tactic(auto, unfolding(crate::specs::Reading::length_at))]
+#[tactic(auto, unfolding(crate::specs::inner::Reading::length_at))]
 pub fn length_of(bytes: &[u8], end: usize) -> Result<(usize, &[u8]), DataFault>
     requires within { length bytes.now ≤ end }
     ensures value { Tells (λ x. (x.0, x.1.now)) result (length_at end bytes.now) }
@@ -64,7 +64,7 @@ pub fn length_of(bytes: &[u8], end: usize) -> Result<(usize, &[u8]), DataFault>
 
 /// The bytes that the PkgLength that stands first counts after itself, and the bytes after them. `end`
 /// is the place where the bytes end (ACPI 6.5, 20.2.4).
-#[tactic(auto, unfolding(crate::specs::Reading::window_at))]
+#[tactic(auto, unfolding(crate::specs::inner::Reading::window_at))]
 pub fn window_of(bytes: &[u8], end: usize) -> Result<(&[u8], &[u8]), DataFault>
     requires within { length bytes.now ≤ end }
     ensures value { Tells (λ x. (x.0.now, x.1.now)) result (window_at end bytes.now) }

@@ -6,11 +6,8 @@ ghost use Rattle.aml_data.specs.Written.{written_prefix, written_name};
 ghost use Rattle.aml_data.specs.Written.{IsWritable, IsWritablePath, IsWritableWithin};
 
 use crate::data::{Buffer, Data};
+use crate::limits::{DEEPEST, TOO_LONG};
 use crate::path::Path;
-
-/// No object of so many bytes or more can be written, since its PkgLength couldn't count them
-/// (ACPI 6.5, 20.2.4). Lengths are counted up to here.
-pub(crate) const TOO_LONG: u64 = 0x1000_0000;
 
 /// How many bytes the shortest integer constant of a number has (ACPI 6.5, 20.2.3).
 pub fn constant_len(number: u64) -> u64
@@ -67,7 +64,7 @@ pub fn name_len(path: &Path) -> u64
 /// How many bytes an object has, whose content follows a PkgLength.
 fn sized_len(content: u64) -> u64
     requires { content + 5 < 2 ^ 64 }
-    ensures { result ≡ min (2 ^ 28) (1 + length (written_length content) + content) }
+    ensures { result ≡ min TOO_LONG (1 + length (written_length content) + content) }
 {
     TOO_LONG.min(1 + length_len(content) + content)
 }
@@ -75,7 +72,7 @@ fn sized_len(content: u64) -> u64
 /// How many bytes the written form of a buffer has, counted up to `TOO_LONG`.
 #[tactic(auto, using(crate::proofs::WrittenLengths::lengths))]
 fn buffer_len(buffer: &Buffer) -> u64
-    ensures { result ≡ min (2 ^ 28) (length (written (Data.Buffer buffer.now))) }
+    ensures { result ≡ min TOO_LONG (length (written (Data.Buffer buffer.now))) }
 {
     sized_len(constant_len(buffer.size) + buffer.bytes.as_slice().len() as u64)
 }
@@ -87,7 +84,7 @@ fn buffer_len(buffer: &Buffer) -> u64
 #[tactic(auto, using(crate::proofs::WrittenLengths::lengths))]
 pub(crate) fn object_len(value: &Data, depth: u32) -> u64
     requires { IsWritableWithin depth value.now }
-    ensures { result ≡ min (2 ^ 28) (length (written value.now)) }
+    ensures { result ≡ min TOO_LONG (length (written value.now)) }
 {
     if let Data::Int(number) = value {
         return constant_len(*number);
@@ -100,7 +97,7 @@ pub(crate) fn object_len(value: &Data, depth: u32) -> u64
 #[tactic(auto, using(crate::proofs::WrittenLengths::lengths))]
 fn any_len(value: &Data, depth: u32) -> u64
     requires { IsWritableWithin depth value.now }
-    ensures { result ≡ min (2 ^ 28) (length (written value.now)) }
+    ensures { result ≡ min TOO_LONG (length (written value.now)) }
 {
     match value {
         Data::Int(number) => constant_len(*number),
@@ -125,7 +122,7 @@ fn any_len(value: &Data, depth: u32) -> u64
 #[tactic(auto, using(crate::proofs::WrittenLengths::lengths))]
 pub(crate) fn elements_len(elements: &[Data], depth: u32) -> u64
     requires { AllByRecursion (IsWritableWithin depth) elements.now }
-    ensures { result ≡ min (2 ^ 28) (length (joined (map written elements.now))) }
+    ensures { result ≡ min TOO_LONG (length (joined (map written elements.now))) }
 {
     let mut total = 0;
     for element in elements {
@@ -141,7 +138,7 @@ pub(crate) fn elements_len(elements: &[Data], depth: u32) -> u64
 pub fn written_len(value: &Data) -> u64
     requires { IsWritable value.now }
     ensures value { result ≡ length (written value.now) }
-    ensures small { result < 2 ^ 28 }
+    ensures small { result < TOO_LONG }
 {
-    object_len(value, 32)
+    object_len(value, DEEPEST)
 }

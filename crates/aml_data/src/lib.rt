@@ -7,12 +7,15 @@ mod data;
 mod decoding;
 mod encoding;
 mod fault;
+mod filling;
 mod laws;
 mod length;
 mod lengths;
+pub mod limits;
 mod meaning;
 mod name;
 mod object;
+pub mod opcode;
 mod path;
 mod seg;
 mod text;
@@ -26,8 +29,9 @@ pub use decoding::{decode, decode_constant, decode_length, decode_name};
 pub use encoding::encode;
 pub use fault::DataFault;
 pub use laws::{
-    one_constant, one_constant_fault, one_length, one_length_fault, one_name, one_name_fault,
-    one_object, one_object_fault,
+    constant_or_fault, length_or_fault, name_or_fault, object_or_fault, one_constant,
+    one_constant_fault, one_length, one_length_fault, one_name, one_name_fault, one_object,
+    one_object_fault,
 };
 pub use length::{length_of, window_of};
 pub use lengths::{constant_len, length_len, name_len, written_len};
@@ -38,10 +42,3 @@ pub use path::{FullPath, Path, copy_full_path, copy_path};
 pub use seg::Seg;
 pub use writable::{is_writable, is_writable_name};
 pub use writing::{encode_constant, encode_length, encode_name};
-
-#[cfg(test)]
-mod object_tests;
-#[cfg(test)]
-mod tests;
-#[cfg(test)]
-mod writing_tests;

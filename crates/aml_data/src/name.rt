@@ -1,10 +1,13 @@
 ghost use Rattle.std.specs.Prelude.{◌≡◌, ◌+◌, ◌<◌, ◌≤◌, ◌^◌, length, IfOk};
-ghost use Rattle.aml_data.specs.Reading.{Gives, ups_at, prefix_at, several_at, many_at, segments_at, name_at};
+ghost use Rattle.aml_data.specs.inner.Reading.{Gives, ups_at, prefix_at, several_at, many_at, segments_at, name_at};
 
 use crate::fault::DataFault;
+use crate::opcode::{
+    DUAL_NAME_PREFIX, MULTI_NAME_PREFIX, NULL_NAME, PARENT_PREFIX_CHAR, ROOT_CHAR,
+};
 use crate::path::Path;
 use crate::seg::{Seg, segment_of};
-use pw_base::List;
+use pw_base::CompactList;
 use std::alloc::Global;
 
 /// How many bytes 5E stand in front, and the bytes after them.
@@ -15,7 +18,7 @@ fn ups_of(bytes: &[u8]) -> (u32, &[u8])
 {
     let mut ups = 0;
     let mut rest = bytes;
-    while let [0x5E, after @ ..] = rest {
+    while let [PARENT_PREFIX_CHAR, after @ ..] = rest {
         ups += 1;
         rest = after;
     }
@@ -23,7 +26,7 @@ fn ups_of(bytes: &[u8]) -> (u32, &[u8])
 }
 
 /// Whether the root stands in front, how many steps up, and the bytes after them.
-#[tactic(auto, unfolding(crate::specs::Reading::prefix_at))]
+#[tactic(auto, unfolding(crate::specs::inner::Reading::prefix_at))]
 fn prefix_of(bytes: &[u8]) -> (bool, u32, &[u8])
     requires { length bytes.now < 2 ^ 32 }
     ensures value { (result.0, result.1, result.2.now) ≡ prefix_at bytes.now }
@@ -31,7 +34,7 @@ fn prefix_of(bytes: &[u8]) -> (bool, u32, &[u8])
 {
     match bytes {
         [] => (false, 0, bytes),
-        [0x5C, rest @ ..] => (true, 0, rest),
+        [ROOT_CHAR, rest @ ..] => (true, 0, rest),
         [_, ..] => {
             let (ups, rest) = ups_of(bytes);
             (false, ups, rest)
@@ -76,7 +79,7 @@ fn many_of(alloc: Global, bytes: &[u8], end: usize) -> Result<(Vec<Seg>, &[u8]),
 }
 
 /// The segments of a name, and the bytes after them.
-#[tactic(auto, unfolding(crate::specs::Reading::segments_at))]
+#[tactic(auto, unfolding(crate::specs::inner::Reading::segments_at))]
 fn segments_of(alloc: Global, bytes: &[u8], end: usize) -> Result<(Vec<Seg>, &[u8]), DataFault>
     requires { length bytes.now ≤ end }
     ensures value { Gives (λ x. (x.0.items, x.1.now)) result (segments_at end bytes.now) }
@@ -84,16 +87,16 @@ fn segments_of(alloc: Global, bytes: &[u8], end: usize) -> Result<(Vec<Seg>, &[u
 {
     match bytes {
         [] => Err(DataFault::Short { at: end }),
-        [0x00, rest @ ..] => Ok((Vec::new(alloc), rest)),
-        [0x2E, rest @ ..] => several_of(alloc, rest, end, 2),
-        [0x2F, rest @ ..] => many_of(alloc, rest, end),
+        [NULL_NAME, rest @ ..] => Ok((Vec::new(alloc), rest)),
+        [DUAL_NAME_PREFIX, rest @ ..] => several_of(alloc, rest, end, 2),
+        [MULTI_NAME_PREFIX, rest @ ..] => many_of(alloc, rest, end),
         [_, ..] => several_of(alloc, bytes, end, 1),
     }
 }
 
 /// The name that stands first, and the bytes after it. `end` is the place where the bytes end
 /// (ACPI 6.5, 20.2.2).
-#[tactic(auto, unfolding(crate::specs::Reading::name_at))]
+#[tactic(auto, unfolding(crate::specs::inner::Reading::name_at))]
 pub fn name_of(alloc: Global, bytes: &[u8], end: usize) -> Result<(Path, &[u8]), DataFault>
     requires within { length bytes.now ≤ end }
     requires small { end < 2 ^ 32 }
@@ -102,6 +105,6 @@ pub fn name_of(alloc: Global, bytes: &[u8], end: usize) -> Result<(Path, &[u8]),
 {
     let (root, ups, rest) = prefix_of(bytes);
     let (segs, after) = segments_of(alloc, rest, end)?;
-    let segs = List::from_vec(alloc, segs)?;
+    let segs = CompactList::from_vec(alloc, segs)?;
     Ok((Path { root, ups, segs }, after))
 }

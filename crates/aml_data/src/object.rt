@@ -1,22 +1,24 @@
-ghost use Rattle.std.specs.Prelude.{◌≡◌, ◌<◌, ◌≤◌, ◌-◌, ◌^◌, suc, length, IfOk};
+ghost use Rattle.std.specs.Prelude.{◌≡◌, ◌+◌, ◌<◌, ◌≤◌, ◌-◌, ◌^◌, suc, length, IfOk};
 ghost use Rattle.aml_data.specs.Segment.{begins_name};
-ghost use Rattle.aml_data.specs.Reading.{Gives, Tells};
-ghost use Rattle.aml_data.specs.ReadingObjects.{revision_at, buffer_at, package_at, var_package_at};
-ghost use Rattle.aml_data.specs.ReadingObjects.{elements_at, within, object_within, object_at};
+ghost use Rattle.aml_data.specs.inner.Reading.{Gives, Tells, byte_at, constant_at};
+ghost use Rattle.aml_data.specs.inner.ReadingObjects.{revision_at, counted_at, buffer_at, package_at, var_package_at};
+ghost use Rattle.aml_data.specs.inner.ReadingObjects.{elements_at, within, object_within, object_at};
 
 use crate::bytes::byte_of;
 use crate::constant::constant_of;
 use crate::data::Data;
 use crate::fault::DataFault;
 use crate::length::window_of;
+use crate::limits::DEEPEST;
 use crate::name::name_of;
+use crate::opcode::{
+    BUFFER_OP, DUAL_NAME_PREFIX, EXT_OP_PREFIX, MULTI_NAME_PREFIX, ONES_OP, PACKAGE_OP,
+    PARENT_PREFIX_CHAR, REVISION_OP, ROOT_CHAR, STRING_PREFIX, VAR_PACKAGE_OP,
+};
 use crate::seg::is_letter;
 use crate::text::text_of;
-use pw_base::List;
+use pw_base::CompactList;
 use std::alloc::Global;
-
-/// How deep packages nest at most: a limit of this project's profile.
-const DEEPEST: u32 = 32;
 
 /// As many elements as most packages have at most.
 const FEW: u64 = 8;
@@ -25,7 +27,11 @@ const FEW: u64 = 8;
 fn begins_name(byte: u8) -> bool
     ensures { result ≡ begins_name byte }
 {
-    is_letter(byte) || byte == 0x5C || byte == 0x5E || byte == 0x2E || byte == 0x2F
+    is_letter(byte)
+        || byte == ROOT_CHAR
+        || byte == PARENT_PREFIX_CHAR
+        || byte == DUAL_NAME_PREFIX
+        || byte == MULTI_NAME_PREFIX
 }
 
 /// The revision of the interpreter behind the byte 5B, and the bytes after it.
@@ -36,7 +42,7 @@ fn revision_of(bytes: &[u8], end: usize) -> Result<(Data, &[u8]), DataFault>
 {
     match bytes {
         [] => Err(DataFault::Short { at: end }),
-        [0x30, rest @ ..] => Ok((Data::Revision, rest)),
+        [REVISION_OP, rest @ ..] => Ok((Data::Revision, rest)),
         [byte, ..] => Err(DataFault::BadLead {
             at: end - bytes.len(),
             byte: *byte,
@@ -44,23 +50,46 @@ fn revision_of(bytes: &[u8], end: usize) -> Result<(Data, &[u8]), DataFault>
     }
 }
 
+/// The PkgLength that stands first, and what it holds: a byte and the bytes behind it; and the bytes
+/// after them.
+#[tactic(auto, unfolding(crate::specs::inner::ReadingObjects::counted_at))]
+fn counted_by_byte(bytes: &[u8], end: usize) -> Result<(u8, &[u8], &[u8]), DataFault>
+    requires { length bytes.now ≤ end }
+    ensures value { Tells (λ x. ((x.0, x.1.now), x.2.now)) result (counted_at byte_at end bytes.now) }
+    ensures shorter { IfOk result (λ x. length x.1.now + length x.2.now < length bytes.now) }
+{
+    let (inside, after) = window_of(bytes, end)?;
+    let (count, content) = byte_of(inside, end - after.len())?;
+    Ok((count, content, after))
+}
+
+/// The same where an integer constant stands first in what the PkgLength holds.
+#[tactic(auto, unfolding(crate::specs::inner::ReadingObjects::counted_at))]
+fn counted_by_constant(bytes: &[u8], end: usize) -> Result<(u64, &[u8], &[u8]), DataFault>
+    requires { length bytes.now ≤ end }
+    ensures value { Tells (λ x. ((x.0, x.1.now), x.2.now)) result (counted_at constant_at end bytes.now) }
+    ensures shorter { IfOk result (λ x. length x.1.now + length x.2.now < length bytes.now) }
+{
+    let (inside, after) = window_of(bytes, end)?;
+    let (count, content) = constant_of(inside, end - after.len())?;
+    Ok((count, content, after))
+}
+
 /// The buffer behind its lead byte, and the bytes after it. Its content past its bytes is never made.
-#[tactic(auto, unfolding(crate::specs::ReadingObjects::buffer_at))]
 fn buffer_of(alloc: Global, bytes: &[u8], end: usize) -> Result<(Data, &[u8]), DataFault>
     requires { length bytes.now ≤ end }
     ensures value { Gives (λ x. (x.0, x.1.now)) result (buffer_at end bytes.now) }
     ensures shorter { IfOk result (λ x. length x.1.now < length bytes.now) }
 {
-    let (inside, after) = window_of(bytes, end)?;
-    let (size, content) = constant_of(inside, end - after.len())?;
-    let bytes = List::from_slice(alloc, content)?;
+    let (size, content, after) = counted_by_constant(bytes, end)?;
+    let bytes = CompactList::from_slice(alloc, content)?;
     Ok((Data::buffer(alloc, size, bytes)?, after))
 }
 
 /// The package behind its lead byte, and the bytes after it. `depth` levels may be opened, its own among
 /// them.
 #[cycle(objects)]
-#[tactic(auto, unfolding(crate::specs::ReadingObjects::package_at, crate::specs::ReadingObjects::within))]
+#[tactic(auto, unfolding(crate::specs::inner::ReadingObjects::pack_at, crate::specs::inner::ReadingObjects::within))]
 fn package_of(
     alloc: Global,
     bytes: &[u8],
@@ -77,16 +106,20 @@ fn package_of(
         let at = end - bytes.len() - 1;
         return Err(DataFault::TooDeep { at });
     }
-    let (inside, after) = window_of(bytes, end)?;
-    let end = end - after.len();
-    let (count, inside) = byte_of(inside, end)?;
-    let elements = elements_of(alloc, inside, end, u64::from(count), depth - 1)?;
+    let (count, content, after) = counted_by_byte(bytes, end)?;
+    let elements = elements_of(
+        alloc,
+        content,
+        end - after.len(),
+        u64::from(count),
+        depth - 1,
+    )?;
     Ok((Data::Package { count, elements }, after))
 }
 
 /// The same of a package that a constant counts.
 #[cycle(objects)]
-#[tactic(auto, unfolding(crate::specs::ReadingObjects::var_package_at, crate::specs::ReadingObjects::within))]
+#[tactic(auto, unfolding(crate::specs::inner::ReadingObjects::pack_at, crate::specs::inner::ReadingObjects::within))]
 fn var_package_of(
     alloc: Global,
     bytes: &[u8],
@@ -103,10 +136,8 @@ fn var_package_of(
         let at = end - bytes.len() - 1;
         return Err(DataFault::TooDeep { at });
     }
-    let (inside, after) = window_of(bytes, end)?;
-    let end = end - after.len();
-    let (count, inside) = constant_of(inside, end)?;
-    let elements = elements_of(alloc, inside, end, count, depth - 1)?;
+    let (count, content, after) = counted_by_constant(bytes, end)?;
+    let elements = elements_of(alloc, content, end - after.len(), count, depth - 1)?;
     Ok((Data::var_package(alloc, count, elements)?, after))
 }
 
@@ -124,7 +155,7 @@ fn elements_of(
     end: usize,
     count: u64,
     depth: u32,
-) -> Result<List<Data>, DataFault>
+) -> Result<CompactList<Data>, DataFault>
     requires within { length bytes.now ≤ end }
     requires small { end < 2 ^ 32 }
     ensures { Gives (λ x. x) result (elements_at (object_within depth) count end bytes.now) }
@@ -142,12 +173,12 @@ fn elements_of(
         rest = after;
         left -= 1;
     }
-    Ok(List::from_vec(alloc, elements)?)
+    Ok(CompactList::from_vec(alloc, elements)?)
 }
 
 /// The data object that stands first, nesting at most so deep, and the bytes after it.
 #[cycle(objects)]
-#[tactic(auto, unfolding(crate::specs::ReadingObjects::object_by))]
+#[tactic(auto, unfolding(crate::specs::inner::ReadingObjects::object_by))]
 fn object_within(
     alloc: Global,
     bytes: &[u8],
@@ -161,15 +192,15 @@ fn object_within(
 {
     match bytes {
         [] => Err(DataFault::Short { at: end }),
-        [0xFF, rest @ ..] => Ok((Data::Ones, rest)),
-        [0x5B, rest @ ..] => revision_of(rest, end),
-        [0x0D, rest @ ..] => {
+        [ONES_OP, rest @ ..] => Ok((Data::Ones, rest)),
+        [EXT_OP_PREFIX, rest @ ..] => revision_of(rest, end),
+        [STRING_PREFIX, rest @ ..] => {
             let (text, rest) = text_of(alloc, rest, end)?;
             Ok((Data::Text(text), rest))
         }
-        [0x11, rest @ ..] => buffer_of(alloc, rest, end),
-        [0x12, rest @ ..] => package_of(alloc, rest, end, depth),
-        [0x13, rest @ ..] => var_package_of(alloc, rest, end, depth),
+        [BUFFER_OP, rest @ ..] => buffer_of(alloc, rest, end),
+        [PACKAGE_OP, rest @ ..] => package_of(alloc, rest, end, depth),
+        [VAR_PACKAGE_OP, rest @ ..] => var_package_of(alloc, rest, end, depth),
         [lead, ..] => {
             if begins_name(*lead) {
                 let (path, rest) = name_of(alloc, bytes, end)?;
@@ -183,7 +214,7 @@ fn object_within(
 
 /// The data object that stands first, and the bytes after it. `end` is the place where the bytes end
 /// (ACPI 6.5, 20.2.3).
-#[tactic(auto, unfolding(crate::specs::ReadingObjects::object_at))]
+#[tactic(auto, unfolding(crate::specs::inner::ReadingObjects::object_at))]
 pub fn object_of(alloc: Global, bytes: &[u8], end: usize) -> Result<(Data, &[u8]), DataFault>
     requires within { length bytes.now ≤ end }
     requires small { end < 2 ^ 32 }

@@ -1,6 +1,6 @@
 ghost use Rattle.std.specs.Prelude.{◌≡◌, ◌+◌, ◌<◌, ◌≤◌, ◌↔◌, length, IsTrue, IfOk, MatchOption};
 ghost use Rattle.aml_data.specs.Segment.{is_letter, is_word, IsSegment};
-ghost use Rattle.aml_data.specs.Reading.{Tells, letter_at, segment_at};
+ghost use Rattle.aml_data.specs.inner.Reading.{Tells, letter_at, segment_at};
 
 use crate::fault::DataFault;
 use std::marker::Model;
@@ -113,7 +113,7 @@ fn word_character_of(bytes: &[u8], end: usize) -> Result<(u8, &[u8]), DataFault>
 
 /// The four bytes of the segment that stands first, and the bytes after it. `end` is the place where
 /// the bytes end.
-#[tactic(auto, unfolding(crate::specs::Reading::segment_at))]
+#[tactic(auto, unfolding(crate::specs::inner::Reading::segment_at))]
 pub(crate) fn segment_of(bytes: &[u8], end: usize) -> Result<([u8; 4], &[u8]), DataFault>
     requires { length bytes.now ≤ end }
     ensures value { Tells (λ x. (x.0, x.1.now)) result (segment_at end bytes.now) }

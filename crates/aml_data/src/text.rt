@@ -1,13 +1,13 @@
 ghost use Rattle.std.specs.Prelude.{◌≡◌, ◌+◌, ◌<◌, ◌≤◌, length, take, drop, IfOk};
-ghost use Rattle.aml_data.specs.Reading.{Gives, Tells};
-ghost use Rattle.aml_data.specs.ReadingObjects.{text_at};
+ghost use Rattle.aml_data.specs.inner.Reading.{Gives, Tells};
+ghost use Rattle.aml_data.specs.inner.ReadingObjects.{text_at};
 
 use crate::fault::DataFault;
-use pw_base::List;
+use pw_base::CompactList;
 use std::alloc::Global;
 
 /// How many bytes stand before the 0 that ends a string.
-#[tactic(auto, unfolding(crate::specs::ReadingObjects::text_at))]
+#[tactic(auto, unfolding(crate::specs::inner::ReadingObjects::text_at))]
 fn text_length(bytes: &[u8], end: usize) -> Result<usize, DataFault>
     requires { length bytes.now ≤ end }
     ensures value { Tells (λ n. (take n bytes.now, drop (n + 1) bytes.now)) result
@@ -33,7 +33,7 @@ pub(crate) fn text_of(
     alloc: Global,
     bytes: &[u8],
     end: usize,
-) -> Result<(List<u8>, &[u8]), DataFault>
+) -> Result<(CompactList<u8>, &[u8]), DataFault>
     requires { length bytes.now ≤ end }
     ensures value { Gives (λ x. (x.0, x.1.now)) result (text_at end bytes.now) }
     ensures shorter { IfOk result (λ x. length x.1.now < length bytes.now) }
@@ -41,6 +41,6 @@ pub(crate) fn text_of(
     let count = text_length(bytes, end)?;
     let (text, _) = bytes.split_at(count);
     let (_, rest) = bytes.split_at(count + 1);
-    let text = List::from_slice(alloc, text)?;
+    let text = CompactList::from_slice(alloc, text)?;
     Ok((text, rest))
 }

@@ -5,7 +5,8 @@ ghost use Rattle.aml_data.specs.Segment.{IsSegment};
 ghost use Rattle.aml_data.specs.Written.{AreElements, IsWritable, IsWritablePath, IsWritableWithin};
 
 use crate::data::Data;
-use crate::lengths::{TOO_LONG, object_len};
+use crate::lengths::object_len;
+use crate::limits::{DEEPEST, TOO_LONG, TOO_MANY_SEGMENTS};
 use crate::path::Path;
 use crate::seg::Seg;
 
@@ -39,7 +40,7 @@ fn count_of(count: u8) -> u64
 }
 
 /// Whether these are segments, as each `Seg` is: contracts see its four bytes alone.
-fn are_segments(segs: &[Seg]) -> bool
+pub(crate) fn are_segments(segs: &[Seg]) -> bool
     ensures value { IsTrue result }
     ensures segments { AllByRecursion IsSegment segs.now }
 {
@@ -55,7 +56,7 @@ pub fn is_writable_name(path: &Path) -> bool
     ensures { IsTrue result ↔ IsWritablePath path.now }
 {
     let segs = path.segs.as_slice();
-    if segs.len() > 255 || (path.root && path.ups > 0) {
+    if segs.len() >= TOO_MANY_SEGMENTS || (path.root && path.ups > 0) {
         return false;
     }
     are_segments(segs)
@@ -115,5 +116,5 @@ fn are_elements(elements: &[Data], count: u64, depth: u32) -> bool
 pub fn is_writable(value: &Data) -> bool
     ensures { IsTrue result ↔ IsWritable value.now }
 {
-    is_within(value, 32) && object_len(value, 32) < TOO_LONG
+    is_within(value, DEEPEST) && object_len(value, DEEPEST) < TOO_LONG
 }

@@ -1,5 +1,5 @@
 -- Data objects: what is written spells the object, no spelling is shorter, and what is spelled can be written.
-use Rattle.std.proofs.Common.{◌≡◌, ◌+◌, ◌-◌, ◌<◌, ◌≤◌, ◌^◌, ℕ, zero, suc, List, [], ◌∷◌, ◌++◌, map, length, refl, sym, ap, subst, ◌∙◌, arith, length-append, append_assoc}
+use Rattle.std.proofs.Common.{◌≡◌, ◌+◌, ◌-◌, ◌<◌, ◌≤◌, ◌^◌, ℕ, zero, suc, List, [], ◌∷◌, ◌++◌, map, length, refl, sym, ap, subst, ◌∙◌, arith, length-append}
 use Rattle.std.specs.List.{AllByRecursion}
 use Rattle.aml_data.specs.declared.data.Data.{Data, Data-F, out-Data, roll-Data, roll-out-Data}
 use Rattle.aml_data.specs.declared.data.Data.TheOpen as layer
@@ -8,9 +8,10 @@ use Rattle.aml_data.specs.Objects.{Buffer, VarPackage}
 use Rattle.aml_data.specs.declared.data.Data.TheViews.{rolls-Int, rolls-Ones, rolls-Revision, rolls-Text, rolls-Buffer, rolls-Package, rolls-VarPackage, rolls-Path}
 use Rattle.aml_data.specs.declared.path.Path.{Path}
 use Rattle.aml_data.specs.Segment.{joined}
+use Rattle.aml_data.specs.Layouts.{Octet, Rest, Both, Holds, holds, Sized}
 use Rattle.aml_data.specs.Grammar.{HasPart, Const, Len, SpellsWithin, spells_integer, spells_ones, spells_revision, spells_text, spells_buffer, spells_path, spells_package, spells_var_package}
 use Rattle.aml_data.specs.Grammar.{AllSpelled, spells_none, spells_more, Spells}
-use Rattle.aml_data.specs.Written.{written, written_constant, written_length, written_name, IsWritablePath, IsWritableWithin, IsWritable}
+use Rattle.aml_data.specs.Written.{written, written_constant, written_length, written_name, sized, IsWritablePath, IsWritableWithin, IsWritable}
 use Rattle.aml_data.proofs.WrittenLayers.{within-Int, within-Ones, within-Revision, within-Text, within-Buffer, within-Path, nested-Package, nested-VarPackage, Package-nested, VarPackage-nested}
 use Rattle.aml_data.proofs.WrittenLayers.{written-Int, written-Ones, written-Revision, written-Text, written-Buffer, written-Package, written-VarPackage, written-Path}
 use Rattle.aml_data.proofs.WrittenLengths.{content_fits, length-Buffer, length-Package, length-VarPackage}
@@ -25,13 +26,13 @@ mutual
   object_writable depth v b spells_ones = rw (within-Ones depth) tt
   object_writable depth v b spells_revision = rw (within-Revision depth) tt
   object_writable depth v b (spells_text t all) = rw (within-Text depth t) all
-  object_writable depth v b (spells_buffer {size = size} {c = c} bytes len h) = rw (within-Buffer depth size bytes) (constant_fits size c h)
+  object_writable depth v b (spells_buffer {size = size} {bytes = bytes} h) = rw (within-Buffer depth size bytes) (let parts = h.spelled in constant_fits size parts.front parts.one)
   object_writable depth v b (spells_path {name = path} {b = bs} name part) = rw (within-Path depth path) (name_writable path bs name, part)
-  object_writable (suc depth) v b (spells_package {count = count} {elements = vs} {body = body} len lt all few) =
+  object_writable (suc depth) v b (spells_package {count = count} {elements = vs} {body = body} held octet all few) =
       let within = elements_writable depth vs body all in
       let same : suc depth - 1 ≡ depth = omega arith in
-      Package-nested (suc depth) count vs (record { some = omega arith; counted = lt; few = few; inner = subst (λ d. AllByRecursion (IsWritableWithin d) vs) (sym same) within })
-  object_writable (suc depth) v b (spells_var_package {count = count} {elements = vs} {c = c} {body = body} len h all few) =
+      Package-nested (suc depth) count vs (record { some = omega arith; counted = octet.fits; few = few; inner = subst (λ d. AllByRecursion (IsWritableWithin d) vs) (sym same) within })
+  object_writable (suc depth) v b (spells_var_package {count = count} {elements = vs} {c = c} {body = body} held h all few) =
       let within = elements_writable depth vs body all in
       let same : suc depth - 1 ≡ depth = omega arith in
       VarPackage-nested (suc depth) count vs
@@ -51,24 +52,22 @@ IsSpelled depth v = IsWritableWithin depth v → length (written v) < 2 ^ 28 →
 as_written : (depth : ℕ) (v : Data) (b : List ℕ) → written v ≡ b → SpellsWithin depth v b → SpellsWithin depth v (written v)
 as_written depth v b e h = subst (λ (c : List ℕ). SpellsWithin depth v c) (sym e) h
 
--- a PkgLength before contents of two parts
-two_parts_length : (middle rest : List ℕ) (n : ℕ) → 1 + length (written_length n) + n < 2 ^ 28 → length middle + length rest ≡ n
-    → Len (length (written_length (length (middle ++ rest))) + length middle + length rest) (written_length (length (middle ++ rest)))
-two_parts_length middle rest n short e =
+-- contents of two parts behind their PkgLength
+two_parts_held : (middle rest : List ℕ) (n : ℕ) → 1 + length (written_length n) + n < 2 ^ 28 → length middle + length rest ≡ n → Holds (middle ++ rest) (sized (middle ++ rest))
+two_parts_held middle rest n short e =
     let content : length (middle ++ rest) ≡ n = length-append middle rest ∙ e in
-    let whole : length (written_length n) + n ≡ length (written_length n) + length middle + length rest = omega arith in
-    subst (λ (k : ℕ). Len (length (written_length k) + length middle + length rest) (written_length k)) (sym content)
-    (subst (λ (k : ℕ). Len k (written_length n)) whole (length_spelled n (content_fits n short)))
+    let fits : 1 + length (written_length (length (middle ++ rest))) + length (middle ++ rest) < 2 ^ 28 = rw content short in
+    holds (written_length (length (middle ++ rest))) (middle ++ rest) (length_spelled (length (middle ++ rest)) (content_fits (length (middle ++ rest)) fits))
 
 buffer_spelled : (depth size : ℕ) (bytes : List ℕ) → IsSpelled depth (Buffer size bytes)
 buffer_spelled depth size bytes within short =
     let c = written_constant size in
     let fits : size < 2 ^ 64 = rw (within-Buffer depth size bytes) at within in
     let n = length c + length bytes in
-    let len = two_parts_length c bytes n (rw (length-Buffer size n bytes refl) at short) refl in
-    let p = written_length (length (c ++ bytes)) in
-    let regroup : 17 ∷ (p ++ (c ++ bytes)) ≡ 17 ∷ p ++ c ++ bytes = ap (λ (t : List ℕ). 17 ∷ t) (sym (append_assoc p c bytes)) in
-    as_written depth (Buffer size bytes) (17 ∷ p ++ c ++ bytes) (written-Buffer size bytes ∙ regroup) (spells_buffer bytes len (constant_spelled size fits))
+    let held = two_parts_held c bytes n (rw (length-Buffer size n bytes refl) at short) refl in
+    let parts : Sized (Both Const Rest) (size, bytes) (sized (c ++ bytes)) =
+    record { content = c ++ bytes; held = held; spelled = record { front = c; back = bytes; parts = refl; one = constant_spelled size fits; other = refl } } in
+    as_written depth (Buffer size bytes) (17 ∷ sized (c ++ bytes)) (written-Buffer size bytes) (spells_buffer parts)
 
 -- the elements of a package, one after the other
 elements_spelled : (depth : ℕ) → ((v : Data) → IsSpelled depth v) → (vs : List Data) → AllByRecursion (IsWritableWithin depth) vs
@@ -86,9 +85,9 @@ package_spelled depth inner count vs within short =
     let same : suc depth - 1 ≡ depth = omega arith in
     let all = subst (λ d. AllByRecursion (IsWritableWithin d) vs) same h.inner in
     let whole = length-Package count vs in
-    let len = two_parts_length (count ∷ []) body (1 + length body) (rw whole at short) refl in
-    as_written (suc depth) (Package count vs) (18 ∷ written_length (length (count ∷ body)) ++ count ∷ body) (written-Package count vs)
-    (spells_package len h.counted (elements_spelled depth inner vs all (omega arith)) h.few)
+    let held = two_parts_held (count ∷ []) body (1 + length body) (rw whole at short) refl in
+    as_written (suc depth) (Package count vs) (18 ∷ sized (count ∷ body)) (written-Package count vs)
+    (spells_package held (record { is = refl; fits = h.counted }) (elements_spelled depth inner vs all (omega arith)) h.few)
 
 var_package_spelled : (depth : ℕ) → ((v : Data) → IsSpelled depth v) → (count : ℕ) (vs : List Data) → IsSpelled (suc depth) (VarPackage count vs)
 var_package_spelled depth inner count vs within short =
@@ -98,11 +97,9 @@ var_package_spelled depth inner count vs within short =
     let same : suc depth - 1 ≡ depth = omega arith in
     let all = subst (λ d. AllByRecursion (IsWritableWithin d) vs) same h.inner in
     let whole = length-VarPackage count vs in
-    let len = two_parts_length c body (length c + length body) (rw whole at short) refl in
-    let p = written_length (length (c ++ body)) in
-    let regroup : 19 ∷ (p ++ (c ++ body)) ≡ 19 ∷ p ++ c ++ body = ap (λ (t : List ℕ). 19 ∷ t) (sym (append_assoc p c body)) in
-    as_written (suc depth) (VarPackage count vs) (19 ∷ p ++ c ++ body) (written-VarPackage count vs ∙ regroup)
-    (spells_var_package len (constant_spelled count h.counted) (elements_spelled depth inner vs all (omega arith)) h.few)
+    let held = two_parts_held c body (length c + length body) (rw whole at short) refl in
+    as_written (suc depth) (VarPackage count vs) (19 ∷ sized (c ++ body)) (written-VarPackage count vs)
+    (spells_var_package held (constant_spelled count h.counted) (elements_spelled depth inner vs all (omega arith)) h.few)
 
 int_spelled : (depth n : ℕ) → IsSpelled depth (Int n)
 int_spelled depth n within short = as_written depth (Int n) (written_constant n) (written-Int n) (spells_integer (constant_spelled n (rw (within-Int depth n) at within)))
@@ -164,33 +161,37 @@ sized_least n m p le len =
     let least = length_least m p len in
     omega arith
 
-buffer_least : (size : ℕ) (bytes p c : List ℕ) → Len (length p + length c + length bytes) p → Const size c → length (written (Buffer size bytes)) ≤ length (17 ∷ p ++ c ++ bytes)
-buffer_least size bytes p c len h =
+-- contents that are no longer, behind their shortest length, are no longer with it
+held_least : (n : ℕ) (content b : List ℕ) → n ≤ length content → Holds content b → 1 + length (written_length n) + n ≤ 1 + length b
+held_least n content b le (holds p _ len) =
+    let least = sized_least n (length content) p le len in
+    omega (arith, length-append p content)
+
+buffer_least : (size : ℕ) (bytes b : List ℕ) → Sized (Both Const Rest) (size, bytes) b → length (written (Buffer size bytes)) ≤ length (17 ∷ b)
+buffer_least size bytes b h =
+    let parts = h.spelled in
+    let shorter = constant_least size parts.front parts.one in
+    let all = ap (λ (t : List ℕ). length t) parts.parts in
+    let rest = ap (λ (t : List ℕ). length t) parts.other in
     let n = length (written_constant size) + length bytes in
-    let m = length c + length bytes in
-    let shorter = constant_least size c h in
-    let regroup : length p + length c + length bytes ≡ length p + m = omega arith in
-    let least = sized_least n m p (omega arith) (subst (λ (k : ℕ). Len k p) regroup len) in
-    rw (length-Buffer size n bytes refl) (omega (arith, length-append (17 ∷ p ++ c) bytes, length-append p c))
+    let least = held_least n h.content b (omega (arith, length-append parts.front parts.back)) h.held in
+    rw (length-Buffer size n bytes refl) (omega arith)
 
-package_least : (count : ℕ) (vs : List Data) (p body : List ℕ) → Len (length p + 1 + length body) p → length (joined (map written vs)) ≤ length body
-    → length (written (Package count vs)) ≤ length (18 ∷ p ++ count ∷ body)
-package_least count vs p body len shorter =
+package_least : (count : ℕ) (vs : List Data) (c body b : List ℕ) → Holds (c ++ body) b → Octet count c → length (joined (map written vs)) ≤ length body
+    → length (written (Package count vs)) ≤ length (18 ∷ b)
+package_least count vs c body b held octet shorter =
     let n = 1 + length (joined (map written vs)) in
-    let m = 1 + length body in
-    let regroup : length p + 1 + length body ≡ length p + m = omega arith in
-    let least = sized_least n m p (omega arith) (subst (λ (k : ℕ). Len k p) regroup len) in
-    rw (length-Package count vs) (omega (arith, length-append p (count ∷ body)))
+    let one = ap (λ (t : List ℕ). length t) octet.is in
+    let least = held_least n (c ++ body) b (omega (arith, length-append c body)) held in
+    rw (length-Package count vs) (omega arith)
 
-var_package_least : (count : ℕ) (vs : List Data) (p c body : List ℕ) → Len (length p + length c + length body) p → Const count c → length (joined (map written vs)) ≤ length body
-    → length (written (VarPackage count vs)) ≤ length (19 ∷ p ++ c ++ body)
-var_package_least count vs p c body len h shorter =
+var_package_least : (count : ℕ) (vs : List Data) (c body b : List ℕ) → Holds (c ++ body) b → Const count c → length (joined (map written vs)) ≤ length body
+    → length (written (VarPackage count vs)) ≤ length (19 ∷ b)
+var_package_least count vs c body b held h shorter =
     let n = length (written_constant count) + length (joined (map written vs)) in
-    let m = length c + length body in
     let head = constant_least count c h in
-    let regroup : length p + length c + length body ≡ length p + m = omega arith in
-    let least = sized_least n m p (omega arith) (subst (λ (k : ℕ). Len k p) regroup len) in
-    rw (length-VarPackage count vs) (omega (arith, length-append (19 ∷ p ++ c) body, length-append p c))
+    let least = held_least n (c ++ body) b (omega (arith, length-append c body)) held in
+    rw (length-VarPackage count vs) (omega arith)
 
 mutual
   pub object_least : (depth : ℕ) (v : Data) (b : List ℕ) → SpellsWithin depth v b → length (written v) ≤ length b
@@ -198,12 +199,12 @@ mutual
   object_least depth v b spells_ones = rw written-Ones (omega arith)
   object_least depth v b spells_revision = rw written-Revision (omega arith)
   object_least depth v b (spells_text t all) = rw (written-Text t) (omega arith)
-  object_least depth v b (spells_buffer {size = size} {p = p} {c = c} bytes len h) = buffer_least size bytes p c len h
+  object_least depth v b (spells_buffer {size = size} {bytes = bytes} {b = bs} h) = buffer_least size bytes bs h
   object_least depth v b (spells_path {name = path} {b = bs} name part) = rw (written-Path path) (name_least path bs name)
-  object_least (suc depth) v b (spells_package {count = count} {elements = vs} {p = p} {body = body} len lt all few) =
-      package_least count vs p body len (elements_least depth vs body all)
-  object_least (suc depth) v b (spells_var_package {count = count} {elements = vs} {p = p} {c = c} {body = body} len h all few) =
-      var_package_least count vs p c body len h (elements_least depth vs body all)
+  object_least (suc depth) v b (spells_package {count = count} {elements = vs} {c = c} {body = body} {b = bs} held octet all few) =
+      package_least count vs c body bs held octet (elements_least depth vs body all)
+  object_least (suc depth) v b (spells_var_package {count = count} {elements = vs} {c = c} {body = body} {b = bs} held h all few) =
+      var_package_least count vs c body bs held h (elements_least depth vs body all)
 
   elements_least : (depth : ℕ) (vs : List Data) (b : List ℕ) → AllSpelled depth vs b → length (joined (map written vs)) ≤ length b
   elements_least depth vs b spells_none = omega arith

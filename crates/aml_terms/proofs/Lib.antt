@@ -5,8 +5,10 @@ pub mod OpcodeCases
 pub mod TermParts
 pub mod Holders
 pub mod TermSteps
+pub mod Appended
 pub mod WrittenTerms
 pub mod TermLengths
 pub mod ShortestTerms
 pub mod TermLists
+pub mod TermValues
 pub mod Causes

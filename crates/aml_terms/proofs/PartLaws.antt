@@ -1,6 +1,6 @@
 -- The four laws of the parts of terms, and of parts that stand one after the other: read, so spelled; spelled, so read,
 -- whatever follows; read as a fault, so the first fault; and back.
-use Rattle.std.proofs.Common.{◌≡◌, ◌<◌, ◌-◌, ◌^◌, ℕ, zero, suc, false, eqb, List, [], ◌∷◌, ◌++◌, length, Ok, Err, refl, sym, ap, subst, ◌∙◌, arith, inl, inr, append_assoc}
+use Rattle.std.proofs.Common.{◌≡◌, ◌<◌, ◌-◌, ◌^◌, ℕ, zero, suc, true, false, eqb, List, [], ◌∷◌, ◌++◌, length, Ok, Err, refl, sym, ap, subst, ◌∙◌, arith, inl, inr, append_assoc}
 use Rattle.std.specs.Int.{w32}
 use Rattle.std.proofs.lemmas.Bool.{eqb-true}
 use Rattle.std.proofs.lemmas.Bool.Decides.{nat_tests}
@@ -9,19 +9,27 @@ use Rattle.aml_data.specs.declared.fault.DataFault.{DataFault}
 use Rattle.aml_data.specs.declared.fault.DataFault.TheVariants.{Short, BadName}
 use Rattle.aml_data.specs.Grammar.{Const, Segments, spells_no_segment, spells_one_segment, spells_two_segments, spells_many_segments, NameOf, spells_name, Spells}
 use Rattle.aml_data.specs.Faults.{ConstFails, NameFails, Fails}
-use Rattle.aml_data.specs.Reading.{◌>>=◌, Read, byte_at, constant_at, name_at}
-use Rattle.aml_data.specs.ReadingObjects.{object_at}
-use Rattle.aml_data.proofs.Steps.{bind_ok, bind_err, chosen, err_is, IsBytes-rest, Takes-as, Takes-is}
+use Rattle.aml_data.specs.inner.Reading.{◌>>=◌, Read, byte_at, constant_at, name_at}
+use Rattle.aml_data.specs.inner.ReadingObjects.{object_at}
+use Rattle.aml_data.proofs.Steps.{done, bind_ok, bind_err, chosen, err_is, IsBytes-rest, Takes-as, Takes-is}
 use Rattle.aml_data.proofs.Places.{Taking, Again, Failing, Refused}
 use Rattle.aml_data.proofs.Constants.{wide32, NumberOf, number_takes, number_again, number_fails, number_refused, constant_takes, constant_again, constant_fails, constant_refused}
 use Rattle.aml_data.proofs.Names.{name_takes, name_again}
 use Rattle.aml_data.proofs.NameFaults.{name_fails, name_refused}
 use Rattle.aml_data.proofs.Objects.{object_takes, object_again}
 use Rattle.aml_data.proofs.ObjectFaults.{object_fails, object_refused}
-use Rattle.aml_terms.specs.Layouts.{Named, NamedFails, fails_as_name, fails_without_segment, Byte, Double, FewerThan, fails_few, Both, BothFail, fails_in_one, fails_in_other}
+use Rattle.aml_data.specs.Layouts.{Byte, Double, FewerThan, fails_few, Both, BothFail, fails_in_one, fails_in_other}
+use Rattle.aml_terms.specs.Layouts.{Named, NamedFails, fails_as_name, fails_without_segment}
 use Rattle.aml_terms.specs.Layouts.{NameLayout, NameLayoutFails, AliasLayout, AliasLayoutFails, ExternalLayout, ExternalLayoutFails, MutexLayout, MutexLayoutFails}
 use Rattle.aml_terms.specs.Layouts.{RegionLayout, RegionLayoutFails, ProcessorLayout, ProcessorLayoutFails}
-use Rattle.aml_terms.specs.ReadingParts.{both_at, with_segment, named_at, double_at}
+use Rattle.aml_terms.specs.Layouts.{Head, scope_head, device_head, processor_head, HeadFails, scope_head_fails, device_head_fails, processor_head_fails}
+use Rattle.aml_terms.specs.Opcodes.{is_holder}
+use Rattle.aml_terms.specs.declared.opcode.TheConstants.{SCOPE_OP, DEVICE_OP, PROCESSOR_OP}
+use Rattle.aml_terms.specs.declared.term.Term.{Term}
+use Rattle.aml_terms.specs.declared.term.Term.TheVariants.{Scope, Device, Processor}
+use Rattle.aml_terms.specs.inner.Fronts.{made, head_at}
+use Rattle.aml_terms.proofs.OpcodeCases.{holder_cases}
+use Rattle.aml_terms.specs.inner.ReadingParts.{both_at, with_segment, named_at, double_at}
 
 pub record Laws {A : Type 0} (S : A → List ℕ → Type 0) (F : ℕ → List ℕ → DataFault → Type 0) (read : ℕ → List ℕ → Read A) : Type 0 where
   pub takes : Taking S read
@@ -212,3 +220,68 @@ region_layout = both names (both one_byte (both constants constants))
 
 pub processor_layout : Laws ProcessorLayout ProcessorLayoutFails (both_at named_at (both_at byte_at (both_at double_at byte_at)))
 processor_layout = both named (both one_byte (both four_bytes one_byte))
+
+-- ---- what stands in front of the terms that a term holds
+
+made_ok : {A B : Type 0} (make : A → B) (r : Read A) (x : B × List ℕ) → made make r ≡ Ok x → (v : A × List ℕ) × (r ≡ Ok v) × (done (make v.0, v.1) ≡ done x)
+made_ok make (Ok v) x e = (v, refl, e)
+made_ok make (Err d) x e = absurd cc
+
+made_err : {A B : Type 0} (make : A → B) (r : Read A) (d : DataFault) → made make r ≡ Err d → r ≡ Err d
+made_err make (Ok v) d e = absurd cc
+made_err make (Err c) d e = ap (λ z. Err z) (err_is {A = _} c d e)
+
+module _ {A B : Type 0} (S : A → List ℕ → Type 0) (F : ℕ → List ℕ → DataFault → Type 0) (read : ℕ → List ℕ → Read A) (laws : Laws S F read) (make : A → B) where
+  made_takes : (T : B → List ℕ → Type 0) → ((v : A) (b : List ℕ) → S v b → T (make v) b) → Taking T (λ end bytes. made make (read end bytes))
+  made_takes T row end bytes x fits e =
+      let m = made_ok make (read end bytes) x e in
+      Takes-is T bytes (make m.0.0, m.0.1) x m.2 (Takes-as S T bytes m.0 (make m.0.0) (λ c s. row m.0.0 c s) (laws.takes end bytes m.0 fits m.1))
+
+  made_fails : (G : ℕ → List ℕ → DataFault → Type 0) → ((end : ℕ) (bytes : List ℕ) (d : DataFault) → F end bytes d → G end bytes d) → Failing G (λ end bytes. made make (read end bytes))
+  made_fails G row end bytes d fits e = row end bytes d (laws.fails end bytes d fits (made_err make (read end bytes) d e))
+
+  made_again : (end : ℕ) (v : A) (c rest : List ℕ) → S v c → made make (read end (c ++ rest)) ≡ Ok (make v, rest)
+  made_again end v c rest s = rw (laws.again end v c rest s) refl
+
+  made_refused : (end : ℕ) (bytes : List ℕ) (d : DataFault) → F end bytes d → made make (read end bytes) ≡ Err d
+  made_refused end bytes d h = rw (laws.refused end bytes d h) refl
+
+head_takes : (opcode : ℕ) → is_holder opcode ≡ true → Taking (Head opcode) (head_at opcode)
+unfolding head_at
+head_takes opcode is =
+    holder_cases (λ (n : ℕ). Taking (Head n) (head_at n))
+    (made_takes _ _ _ names (λ path terms. Scope path terms) (Head SCOPE_OP) (λ v b s. scope_head s))
+    (made_takes _ _ _ named (λ path terms. Device path terms) (Head DEVICE_OP) (λ v b s. device_head s))
+    (made_takes _ _ _ processor_layout (λ v terms. Processor v.0 v.1.0 v.1.1.0 v.1.1.1 terms) (Head PROCESSOR_OP) (λ v b s. processor_head s))
+    opcode is
+
+head_again : (opcode : ℕ) → Again (Head opcode) (head_at opcode)
+unfolding head_at
+head_again opcode end make c rest (scope_head {path = path} s) = made_again _ _ _ names (λ path terms. Scope path terms) end path c rest s
+head_again opcode end make c rest (device_head {path = path} s) = made_again _ _ _ named (λ path terms. Device path terms) end path c rest s
+head_again opcode end make c rest (processor_head {path = path} {id = id} {block = block} {len = size} s) =
+    made_again _ _ _ processor_layout (λ v terms. Processor v.0 v.1.0 v.1.1.0 v.1.1.1 terms) end (path, (id, (block, size))) c rest s
+
+head_fails : (opcode : ℕ) → is_holder opcode ≡ true → Failing (HeadFails opcode) (head_at opcode)
+unfolding head_at
+head_fails opcode is =
+    holder_cases (λ (n : ℕ). Failing (HeadFails n) (head_at n))
+    (made_fails _ _ _ names (λ path terms. Scope path terms) (HeadFails SCOPE_OP) (λ end bytes d h. scope_head_fails h))
+    (made_fails _ _ _ named (λ path terms. Device path terms) (HeadFails DEVICE_OP) (λ end bytes d h. device_head_fails h))
+    (made_fails _ _ _ processor_layout (λ v terms. Processor v.0 v.1.0 v.1.1.0 v.1.1.1 terms) (HeadFails PROCESSOR_OP) (λ end bytes d h. processor_head_fails h))
+    opcode is
+
+head_refused : (opcode : ℕ) → Refused (HeadFails opcode) (head_at opcode)
+unfolding head_at
+head_refused opcode end bytes d (scope_head_fails h) = made_refused _ _ _ names (λ path terms. Scope path terms) end bytes d h
+head_refused opcode end bytes d (device_head_fails h) = made_refused _ _ _ named (λ path terms. Device path terms) end bytes d h
+head_refused opcode end bytes d (processor_head_fails h) = made_refused _ _ _ processor_layout (λ v terms. Processor v.0 v.1.0 v.1.1.0 v.1.1.1 terms) end bytes d h
+
+pub heads : (opcode : ℕ) → is_holder opcode ≡ true → Laws (Head opcode) (HeadFails opcode) (head_at opcode)
+heads opcode is = record { takes = head_takes opcode is; again = head_again opcode; fails = head_fails opcode is; refused = head_refused opcode }
+
+-- such an opcode holds terms
+pub head_holds : (opcode : ℕ) (make : List Term → Term) (b : List ℕ) → Head opcode make b → is_holder opcode ≡ true
+head_holds opcode make b (scope_head s) = refl
+head_holds opcode make b (device_head s) = refl
+head_holds opcode make b (processor_head s) = refl

@@ -15,10 +15,11 @@ use Rattle.aml_terms.specs.declared.term.Term.TheOpen as layer
 use Rattle.aml_terms.specs.declared.term.Term.TheVariants.{Name, Scope, Device, Processor, Unread, Alias, External, Mutex, Event, Region}
 use Rattle.aml_terms.specs.declared.term.Term.TheViews.{outs-Name, outs-Scope, outs-Device, outs-Processor, outs-Unread, outs-Alias, outs-External, outs-Mutex, outs-Event, outs-Region}
 use Rattle.aml_terms.specs.declared.term.Term.TheViews.{rolls-Name, rolls-Scope, rolls-Device, rolls-Processor, rolls-Unread, rolls-Alias, rolls-External, rolls-Mutex, rolls-Event, rolls-Region}
+use Rattle.aml_terms.specs.declared.opcode.TheConstants.{SCOPE_OP, DEVICE_OP, PROCESSOR_OP}
 use Rattle.aml_terms.specs.Opcodes.{opcode_bytes, is_unread}
-use Rattle.aml_terms.specs.Layouts.{HasSegment, Both, ProcessorLayout}
-use Rattle.aml_terms.specs.Grammar.{TermSpellsWithin, spells_name_term, spells_alias, spells_external, spells_mutex, spells_event, spells_region, spells_unread, spells_scope}
-use Rattle.aml_terms.specs.Grammar.{spells_device, spells_processor}
+use Rattle.aml_data.specs.Layouts.{Both, holds}
+use Rattle.aml_terms.specs.Layouts.{HasSegment, ProcessorLayout, scope_head, device_head, processor_head}
+use Rattle.aml_terms.specs.Grammar.{TermSpellsWithin, spells_name_term, spells_alias, spells_external, spells_mutex, spells_event, spells_region, spells_unread, spells_holder}
 use Rattle.aml_terms.specs.Grammar.{TermsSpellWithin, spells_no_term, spells_more_terms}
 use Rattle.aml_terms.specs.Written.{written_registers, written_term, written_terms, AreWritable, IsWritableTerm}
 use Rattle.aml_terms.proofs.OpcodeCases.{unread_cases}
@@ -48,16 +49,16 @@ mutual
   term_writable depth t b (spells_region {space = space} {offset = offset} {len = len} {path = path} s) lt =
       rw (outs-Region path space offset len)
       (name_writable path s.front s.one, constant_fits offset s.other.other.front s.other.other.one, constant_fits len s.other.other.back s.other.other.other)
-  term_writable depth t b (spells_unread {opcode = opcode} {body = body} is len) lt = rw (outs-Unread opcode body) is
-  term_writable (suc depth) t b (spells_scope {path = path} {terms = terms} p h body len s ts) lt =
+  term_writable depth t b (spells_unread {opcode = opcode} {body = body} is held) lt = rw (outs-Unread opcode body) is
+  term_writable (suc depth) t b (spells_holder {terms = terms} h body (holds p _ len) (scope_head {path = path} s) ts) lt =
       let n = length-append p (h ++ body) in
       let m = length-append h body in
       rw (outs-Scope path terms) (name_writable path h s, are_suc depth terms (terms_writable depth terms body ts (omega arith)))
-  term_writable (suc depth) t b (spells_device {path = path} {terms = terms} p h body len s ts) lt =
+  term_writable (suc depth) t b (spells_holder {terms = terms} h body (holds p _ len) (device_head {path = path} s) ts) lt =
       let n = length-append p (h ++ body) in
       let m = length-append h body in
       rw (outs-Device path terms) (name_writable path h s.name, s.some, are_suc depth terms (terms_writable depth terms body ts (omega arith)))
-  term_writable (suc depth) t b (spells_processor {id = id} {block = block} {len = size} {path = path} {terms = terms} p h body len s ts) lt =
+  term_writable (suc depth) t b (spells_holder {terms = terms} h body (holds p _ len) (processor_head {path = path} {id = id} {block = block} {len = size} s) ts) lt =
       let n = length-append p (h ++ body) in
       let m = length-append h body in
       rw (outs-Processor path id block size terms)
@@ -118,26 +119,26 @@ mutual
       let z = constant_least offset s.other.other.front s.other.other.one in
       let w = constant_least len s.other.other.back s.other.other.other in
       rw (length-Region path space offset len) (omega arith)
-  term_least depth t b (spells_unread {opcode = opcode} {p = p} {body = body} is len) =
+  term_least depth t b (spells_unread {opcode = opcode} {body = body} is (holds p _ len)) =
       let least = sized_least (length body) (length body) p (omega arith) len in
       let n = length-append (opcode_bytes opcode) (p ++ body) in
       let m = length-append p body in
       rw (length-Unread opcode body) (omega arith)
-  term_least (suc depth) t b (spells_scope {path = path} {terms = terms} p h body len s ts) =
+  term_least (suc depth) t b (spells_holder {terms = terms} h body (holds p _ len) (scope_head {path = path} s) ts) =
       let x = name_least path h s in
       let y = terms_least depth terms body ts in
       let n = length-append p (h ++ body) in
       let m = length-append h body in
       let least = sized_least (length (written_name path) + length (written_terms terms)) (length (h ++ body)) p (omega arith) len in
       rw (length-Scope path terms) (omega arith)
-  term_least (suc depth) t b (spells_device {path = path} {terms = terms} p h body len s ts) =
+  term_least (suc depth) t b (spells_holder {terms = terms} h body (holds p _ len) (device_head {path = path} s) ts) =
       let x = name_least path h s.name in
       let y = terms_least depth terms body ts in
       let n = length-append p (h ++ body) in
       let m = length-append h body in
       let least = sized_least (length (written_name path) + length (written_terms terms)) (length (h ++ body)) p (omega arith) len in
       rw (length-Device path terms) (omega arith)
-  term_least (suc depth) t b (spells_processor {id = id} {block = block} {len = size} {path = path} {terms = terms} p h body len s ts) =
+  term_least (suc depth) t b (spells_holder {terms = terms} h body (holds p _ len) (processor_head {path = path} {id = id} {block = block} {len = size} s) ts) =
       let x = name_least path s.front s.one.name in
       let y = terms_least depth terms body ts in
       let n = length-append p (h ++ body) in
@@ -251,7 +252,7 @@ unread_spelled depth opcode body w short =
     let h = rw (outs-Unread opcode body) at w in
     let n = length-append (opcode_bytes opcode) (sized body) in
     let s : length (opcode_bytes opcode ++ sized body) < 2 ^ 28 = rw (written-Unread opcode body) at short in
-    as_written depth (Unread opcode body) _ (written-Unread opcode body) (spells_unread h (sized_spelled (length (opcode_bytes opcode)) body (opcode_some opcode h) (omega arith)))
+    as_written depth (Unread opcode body) _ (written-Unread opcode body) (spells_unread h (holds (written_length (length body)) body (sized_spelled (length (opcode_bytes opcode)) body (opcode_some opcode h) (omega arith))))
 
 scope_spelled : (depth : ℕ) → AllBelow depth → (path : Path) (terms : List Term) → IsSpelled depth (Scope path terms)
 scope_spelled zero inner path terms w short =
@@ -262,10 +263,10 @@ scope_spelled (suc depth) inner path terms w short =
     let h = rw (outs-Scope path terms) at w in
     let n = length-Scope path terms in
     let content = written_name path ++ written_terms terms in
-    let raw : length (16 ∷ sized content) < 2 ^ 28 = rw (written-Scope path terms) at short in
+    let raw : length (opcode_bytes SCOPE_OP ++ sized content) < 2 ^ 28 = rw (written-Scope path terms) at short in
     let s : 1 + length (sized content) < 2 ^ 28 = omega arith in
     as_written (suc depth) (Scope path terms) _ (written-Scope path terms)
-    (spells_scope (written_length (length content)) (written_name path) (written_terms terms) (sized_spelled 1 content (omega arith) s) (name_spelled path h.0) (inner terms h.1 (omega arith)))
+    (spells_holder (written_name path) (written_terms terms) (holds (written_length (length content)) content (sized_spelled 1 content (omega arith) s)) (scope_head (name_spelled path h.0)) (inner terms h.1 (omega arith)))
 
 device_spelled : (depth : ℕ) → AllBelow depth → (path : Path) (terms : List Term) → IsSpelled depth (Device path terms)
 device_spelled zero inner path terms w short =
@@ -276,11 +277,11 @@ device_spelled (suc depth) inner path terms w short =
     let h = rw (outs-Device path terms) at w in
     let n = length-Device path terms in
     let content = written_name path ++ written_terms terms in
-    let raw : length (91 ∷ 130 ∷ sized content) < 2 ^ 28 = rw (written-Device path terms) at short in
+    let raw : length (opcode_bytes DEVICE_OP ++ sized content) < 2 ^ 28 = rw (written-Device path terms) at short in
     let s : 2 + length (sized content) < 2 ^ 28 = omega arith in
     as_written (suc depth) (Device path terms) _ (written-Device path terms)
-    (spells_device (written_length (length content)) (written_name path) (written_terms terms) (sized_spelled 2 content (omega arith) s)
-    (record { name = name_spelled path h.0; some = h.1 }) (inner terms h.2 (omega arith)))
+    (spells_holder (written_name path) (written_terms terms) (holds (written_length (length content)) content (sized_spelled 2 content (omega arith) s))
+    (device_head (record { name = name_spelled path h.0; some = h.1 })) (inner terms h.2 (omega arith)))
 
 registers_spelled : (path : Path) (id block len : ℕ) → NameOf path (written_name path) → HasSegment path → block < 2 ^ 32
     → ProcessorLayout (path, (id, (block, len))) (written_name path ++ written_registers id block len)
@@ -308,11 +309,11 @@ processor_spelled (suc depth) inner path id block len terms w short =
     let n = length-Processor path id block len terms in
     let head = written_name path ++ written_registers id block len in
     let content = head ++ written_terms terms in
-    let raw : length (91 ∷ 131 ∷ sized content) < 2 ^ 28 = rw (written-Processor path id block len terms) at short in
+    let raw : length (opcode_bytes PROCESSOR_OP ++ sized content) < 2 ^ 28 = rw (written-Processor path id block len terms) at short in
     let s : 2 + length (sized content) < 2 ^ 28 = omega arith in
     as_written (suc depth) (Processor path id block len terms) _ (written-Processor path id block len terms)
-    (spells_processor (written_length (length content)) head (written_terms terms) (sized_spelled 2 content (omega arith) s)
-    (registers_spelled path id block len (name_spelled path h.0) h.1 h.2) (inner terms h.3 (omega arith)))
+    (spells_holder head (written_terms terms) (holds (written_length (length content)) content (sized_spelled 2 content (omega arith) s))
+    (processor_head (registers_spelled path id block len (name_spelled path h.0) h.1 h.2)) (inner terms h.3 (omega arith)))
 
 -- what is spelled of a term is spelled of its layer
 at_roll : (depth : ℕ) (l : Term-F Term) (t : Term) → roll-Term l ≡ t → IsSpelled depth t → IsSpelled depth (roll-Term l)

@@ -1,10 +1,12 @@
 -- The terms that are read so far, and those that follow.
 use Rattle.std.proofs.Common.{◌≡◌, ◌<◌, ◌-◌, ℕ, zero, suc, Bool, false, ◌==◌, List, [], ◌∷◌, ◌++◌, length, Result, Ok, Err, refl, sym, ap, subst, ◌∙◌, append_assoc, arith}
 use Rattle.std.proofs.lemmas.List.{append-nil}
+use Rattle.pw_base.specs.Answers.{◌>>=◌}
 use Rattle.aml_terms.specs.declared.term.Term.{Term}
 use Rattle.aml_terms.specs.declared.fault.TermFault.{TermFault}
-use Rattle.aml_data.specs.Reading.{Read as ReadPart, window_at}
-use Rattle.aml_terms.specs.Reading.{◌>>=◌, Read, terms_by, terms_within, holder_at, within}
+use Rattle.aml_data.specs.inner.Reading.{window_at}
+use Rattle.aml_terms.specs.inner.Fronts.{head_at}
+use Rattle.aml_terms.specs.inner.Reading.{Read, terms_by, terms_within, holder_at, within}
 
 -- a test that a list is empty, which it isn't
 pub not_empty : (xs : List ℕ) (b : Bool) → b ≡ (length xs == 0) → b ≡ false → 0 < length xs
@@ -51,12 +53,12 @@ module _ (read : ℕ → List ℕ → Read Term) where
   finish front n end (b ∷ rest) whole h told = absurd (omega arith)
 
 -- a term in which a term fails
-pub holder_ends : {A : Type 0} (head : ℕ → List ℕ → ReadPart A) (make : A → List Term → Term) (depth at end : ℕ) (bytes inside after body : List ℕ) (v : A) (fault : TermFault) → 0 < depth
-    → window_at end bytes ≡ Ok (inside, after) → head (end - length after) inside ≡ Ok (v, body) → terms_within (depth - 1) (end - length after) body ≡ Err fault
-    → holder_at (within depth) head make at end bytes ≡ Err fault
+pub holder_ends : (opcode depth at end : ℕ) (bytes inside after body : List ℕ) (make : List Term → Term) (fault : TermFault) → 0 < depth
+    → window_at end bytes ≡ Ok (inside, after) → head_at opcode (end - length after) inside ≡ Ok (make, body) → terms_within (depth - 1) (end - length after) body ≡ Err fault
+    → holder_at (within depth) opcode at end bytes ≡ Err fault
 unfolding holder_at within
-holder_ends head make zero at end bytes inside after body v fault deep window headed fails = absurd (omega arith)
-holder_ends head make (suc depth) at end bytes inside after body v fault deep window headed fails =
+holder_ends opcode zero at end bytes inside after body make fault deep window headed fails = absurd (omega arith)
+holder_ends opcode (suc depth) at end bytes inside after body make fault deep window headed fails =
     let k : suc depth - 1 ≡ depth = omega arith in
     let e : terms_within depth (end - length after) body ≡ Err fault = rw k at fails in
     rw (window, headed, e) refl

@@ -2,20 +2,21 @@
 use Rattle.std.proofs.Common.{◌≡◌, ◌<◌, ◌≤◌, ℕ, zero, suc, List, [], ◌∷◌, ◌++◌, length, Result, Ok, Err, refl, ap, subst, ◌∙◌, arith, inl, inr}
 use Rattle.std.proofs.Common.{length-append}
 use Rattle.aml_data.specs.declared.fault.DataFault.{DataFault}
-use Rattle.aml_data.specs.Reading.{Read as ReadPart}
+use Rattle.aml_data.specs.inner.Reading.{Read as ReadPart}
 use Rattle.aml_data.proofs.Steps.{IsBytes, Takes, Takes-as}
+use Rattle.pw_base.specs.Answers.{◌>>=◌}
 use Rattle.aml_terms.specs.declared.term.Term.{Term}
 use Rattle.aml_terms.specs.declared.fault.TermFault.{TermFault}
 use Rattle.aml_terms.specs.declared.fault.TermFault.TheVariants.{Data as in_data}
 use Rattle.aml_terms.specs.Grammar.{TermSpellsWithin, TermsSpellWithin, spells_no_term, spells_more_terms}
 use Rattle.aml_terms.specs.Faults.{TermFailsWithin, TermsFailWithin, fails_this_term, fails_later_term}
-use Rattle.aml_terms.specs.Reading.{◌>>=◌, Read, term_of, terms_by, all_by}
+use Rattle.aml_terms.specs.inner.Reading.{Read, term_of, terms_by, all_by}
 use Rattle.aml_terms.proofs.PartLaws.{Laws}
 use Rattle.aml_terms.proofs.Chains.{done, ok_is, bind_ok, bind_err, made_ok, made_err}
 use Rattle.aml_terms.proofs.TermLoop.{terms_more}
 
 -- the answer that was met
-pub Takes-met : {A : Type 0} (S : A → List ℕ → Type 0) (bytes : List ℕ) (y x : A × List ℕ) → done y ≡ done x → Takes S bytes y → Takes S bytes x
+pub Takes-met : {A : Type 0} (S : A → List ℕ → Type 0) (bytes : List ℕ) (y x : A × List ℕ) → done {E = TermFault} y ≡ done x → Takes S bytes y → Takes S bytes x
 Takes-met {A} S bytes y x e t = subst (λ (z : A × List ℕ). Takes S bytes z) (ok_is y x e) t
 
 -- ---- a term of one layout

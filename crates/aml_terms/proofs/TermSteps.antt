@@ -6,28 +6,30 @@ use Rattle.aml_data.specs.declared.fault.DataFault.{DataFault}
 use Rattle.aml_data.specs.declared.fault.DataFault.TheVariants.{Short, TooDeep}
 use Rattle.aml_data.specs.Grammar.{Len}
 use Rattle.aml_data.specs.Faults.{LenFails}
-use Rattle.aml_data.specs.Reading.{window_at, name_at}
+use Rattle.aml_data.specs.inner.Reading.{window_at}
 use Rattle.aml_data.proofs.Steps.{known, IsBytes, IsBytes-rest, Takes}
 use Rattle.aml_data.proofs.LengthSpellings.{window_takes, window_again, window_fails, window_refused}
 use Rattle.aml_terms.specs.declared.term.Term.{Term}
-use Rattle.aml_terms.specs.declared.term.Term.TheVariants.{Name, Scope, Device, Processor, Unread, Alias, External, Mutex, Event, Region}
+use Rattle.aml_terms.specs.declared.term.Term.TheVariants.{Name, Unread, Alias, External, Mutex, Event, Region}
 use Rattle.aml_terms.specs.declared.fault.TermFault.{TermFault}
 use Rattle.aml_terms.specs.declared.fault.TermFault.TheVariants.{Data as in_data, BadTerm}
-use Rattle.aml_terms.specs.Opcodes.{opcode_bytes, is_term, is_unread}
-use Rattle.aml_terms.specs.Grammar.{TermSpellsWithin, spells_name_term, spells_alias, spells_external, spells_mutex, spells_event, spells_region, spells_unread, spells_scope}
-use Rattle.aml_terms.specs.Grammar.{spells_device, spells_processor}
-use Rattle.aml_terms.specs.Faults.{opens_scope, opens_device, opens_processor, TermFailsWithin, fails_no_term, fails_no_second, fails_opcode, fails_second, fails_in_name}
+use Rattle.aml_terms.specs.Opcodes.{opcode_bytes, is_term, is_holder, is_unread}
+use Rattle.aml_terms.specs.Grammar.{TermSpellsWithin, spells_name_term, spells_alias, spells_external, spells_mutex, spells_event, spells_region, spells_unread, spells_holder}
+use Rattle.aml_terms.specs.Layouts.{Head, HeadFails}
+use Rattle.aml_data.specs.declared.opcode.TheConstants.{EXT_OP_PREFIX}
+use Rattle.aml_terms.specs.declared.opcode.TheConstants.{EXTENDED, ALIAS_OP, NAME_OP, EXTERNAL_OP, MUTEX_OP, EVENT_OP, OP_REGION_OP}
+use Rattle.aml_terms.specs.Faults.{TermFailsWithin, fails_no_term, fails_no_second, fails_opcode, fails_second, fails_in_name}
 use Rattle.aml_terms.specs.Faults.{fails_in_alias, fails_in_external}
-use Rattle.aml_terms.specs.Faults.{fails_in_mutex, fails_in_event, fails_in_region, fails_in_unread, fails_too_deep, fails_in_length, fails_in_scope, fails_in_scope_terms}
-use Rattle.aml_terms.specs.Faults.{fails_in_device, fails_in_device_terms, fails_in_processor, fails_in_processor_terms}
-use Rattle.aml_terms.specs.ReadingParts.{named_at, opcode_at}
-use Rattle.aml_terms.specs.Reading.{Read, name_term_at, alias_at, external_at, mutex_at, event_at, region_at, unread_at, holder_at, processor_at}
-use Rattle.aml_terms.specs.Reading.{behind_opcode, term_by, within, term_within}
-use Rattle.aml_terms.proofs.PartLaws.{names, named, name_layout, alias_layout, external_layout, mutex_layout, region_layout, processor_layout}
+use Rattle.aml_terms.specs.Faults.{fails_in_mutex, fails_in_event, fails_in_region, fails_in_unread, fails_too_deep, fails_in_head, fails_in_inner_term, TermsFailWithin}
+use Rattle.aml_data.specs.Layouts.{holds, SizedFails, fails_in_length, fails_inside}
+use Rattle.aml_terms.specs.inner.ReadingParts.{opcode_at}
+use Rattle.aml_terms.specs.inner.Reading.{Read, name_term_at, alias_at, external_at, mutex_at, event_at, region_at, unread_at, holder_at}
+use Rattle.aml_terms.specs.inner.Reading.{behind_opcode, term_by, within, term_within}
+use Rattle.aml_terms.proofs.PartLaws.{names, name_layout, alias_layout, external_layout, mutex_layout, region_layout, head_holds}
 use Rattle.aml_terms.proofs.Chains.{made_ok, made_err, err_is}
-use Rattle.aml_terms.proofs.OpcodeCases.{OpcodeCase, begins_name_term, begins_alias, begins_external, begins_mutex, begins_event, begins_region, begins_scope, begins_device}
-use Rattle.aml_terms.proofs.OpcodeCases.{begins_processor, begins_unread, begins_nothing}
-use Rattle.aml_terms.proofs.OpcodeCases.{opcode_case, unread_cases, test_ne, not_unread, one_byte_opcode, two_byte_opcode, unread_opcode}
+use Rattle.aml_terms.proofs.OpcodeCases.{OpcodeCase, begins_name_term, begins_alias, begins_external, begins_mutex, begins_event, begins_region, begins_holder}
+use Rattle.aml_terms.proofs.OpcodeCases.{begins_unread, begins_nothing}
+use Rattle.aml_terms.proofs.OpcodeCases.{opcode_case, unread_cases, holder_cases, test_ne, not_holder, not_unread, one_byte_opcode, two_byte_opcode, unread_opcode}
 use Rattle.aml_terms.proofs.TermParts.{Takes-met, plain_takes, plain_again, plain_fails, plain_refused, TermLaws}
 use Rattle.aml_terms.proofs.Holders.{Inner, any_takes, any_again, any_fails, deep_refused, length_refused, head_refused, terms_refused}
 
@@ -38,19 +40,21 @@ unfolding behind_opcode
 unread_behind inner opcode at end bytes is =
     unread_cases (λ (n : ℕ). behind_opcode inner n at end bytes ≡ unread_at n end bytes) refl refl refl refl refl refl refl refl refl opcode is
 
+holder_behind : (inner : Option (ℕ → List ℕ → Read Term)) (opcode at end : ℕ) (bytes : List ℕ) → is_holder opcode ≡ true → behind_opcode inner opcode at end bytes ≡ holder_at inner opcode at end bytes
+unfolding behind_opcode
+holder_behind inner opcode at end bytes is = holder_cases (λ (n : ℕ). behind_opcode inner n at end bytes ≡ holder_at inner n at end bytes) refl refl refl opcode is
+
 nothing_behind : (inner : Option (ℕ → List ℕ → Read Term)) (opcode at end : ℕ) (bytes : List ℕ) → is_term opcode ≡ false → behind_opcode inner opcode at end bytes ≡ Err (BadTerm at opcode)
 unfolding behind_opcode
 nothing_behind inner opcode at end bytes none =
     rw (
-      test_ne is_term opcode 8 none refl,
-      test_ne is_term opcode 6 none refl,
-      test_ne is_term opcode 21 none refl,
-      test_ne is_term opcode 23297 none refl,
-      test_ne is_term opcode 23298 none refl,
-      test_ne is_term opcode 23424 none refl,
-      test_ne is_term opcode 16 none refl,
-      test_ne is_term opcode 23426 none refl,
-      test_ne is_term opcode 23427 none refl,
+      test_ne is_term opcode NAME_OP none refl,
+      test_ne is_term opcode ALIAS_OP none refl,
+      test_ne is_term opcode EXTERNAL_OP none refl,
+      test_ne is_term opcode MUTEX_OP none refl,
+      test_ne is_term opcode EVENT_OP none refl,
+      test_ne is_term opcode OP_REGION_OP none refl,
+      not_holder opcode none,
       not_unread opcode none,
     ) refl
 
@@ -68,7 +72,7 @@ unread_takes depth opcode end bytes x is fits e =
     Takes-met (Behind opcode depth) bytes (Unread opcode m.0.0, m.0.1) x m.2 (record {
       front = w.front ++ m.0.0;
       parts = w.parts ∙ sym (append_assoc w.front m.0.0 m.0.1);
-      spelled = spells_unread is w.spelled;
+      spelled = spells_unread is (holds w.front m.0.0 w.spelled);
       rest_fits = w.rest_fits;
     })
 
@@ -76,23 +80,19 @@ behind_takes : (depth : ℕ) (inner : Option (ℕ → List ℕ → Read Term)) �
     → behind_opcode inner opcode at end bytes ≡ Ok x → Takes (Behind opcode depth) bytes x
 unfolding behind_opcode name_term_at alias_at external_at mutex_at event_at region_at
 behind_takes depth inner i opcode at end bytes x begins_name_term fits e =
-    plain_takes _ _ _ name_layout (λ v. Name v.0 v.1) (Behind 8 depth) (λ v b s. spells_name_term s) end bytes x fits e
+    plain_takes _ _ _ name_layout (λ v. Name v.0 v.1) (Behind NAME_OP depth) (λ v b s. spells_name_term s) end bytes x fits e
 behind_takes depth inner i opcode at end bytes x begins_alias fits e =
-    plain_takes _ _ _ alias_layout (λ v. Alias v.0 v.1) (Behind 6 depth) (λ v b s. spells_alias s) end bytes x fits e
+    plain_takes _ _ _ alias_layout (λ v. Alias v.0 v.1) (Behind ALIAS_OP depth) (λ v b s. spells_alias s) end bytes x fits e
 behind_takes depth inner i opcode at end bytes x begins_external fits e =
-    plain_takes _ _ _ external_layout (λ v. External v.0 v.1.0 v.1.1) (Behind 21 depth) (λ v b s. spells_external s) end bytes x fits e
+    plain_takes _ _ _ external_layout (λ v. External v.0 v.1.0 v.1.1) (Behind EXTERNAL_OP depth) (λ v b s. spells_external s) end bytes x fits e
 behind_takes depth inner i opcode at end bytes x begins_mutex fits e =
-    plain_takes _ _ _ mutex_layout (λ v. Mutex v.0 v.1) (Behind 23297 depth) (λ v b s. spells_mutex s) end bytes x fits e
+    plain_takes _ _ _ mutex_layout (λ v. Mutex v.0 v.1) (Behind MUTEX_OP depth) (λ v b s. spells_mutex s) end bytes x fits e
 behind_takes depth inner i opcode at end bytes x begins_event fits e =
-    plain_takes _ _ _ names (λ path. Event path) (Behind 23298 depth) (λ v b s. spells_event s) end bytes x fits e
+    plain_takes _ _ _ names (λ path. Event path) (Behind EVENT_OP depth) (λ v b s. spells_event s) end bytes x fits e
 behind_takes depth inner i opcode at end bytes x begins_region fits e =
-    plain_takes _ _ _ region_layout (λ v. Region v.0 v.1.0 v.1.1.0 v.1.1.1) (Behind 23424 depth) (λ v b s. spells_region s) end bytes x fits e
-behind_takes depth inner i opcode at end bytes x begins_scope fits e =
-    any_takes _ _ _ names (λ path terms. Scope path terms) (Behind 16) (λ d v ts p h b len s t. spells_scope p h b len s t) depth inner i at end bytes x fits e
-behind_takes depth inner i opcode at end bytes x begins_device fits e =
-    any_takes _ _ _ named (λ path terms. Device path terms) (Behind 23426) (λ d v ts p h b len s t. spells_device p h b len s t) depth inner i at end bytes x fits e
-behind_takes depth inner i opcode at end bytes x begins_processor fits e =
-    any_takes _ _ _ processor_layout (λ v terms. Processor v.0 v.1.0 v.1.1.0 v.1.1.1 terms) (Behind 23427) (λ d v ts p h b len s t. spells_processor p h b len s t) depth inner i at end bytes x fits e
+    plain_takes _ _ _ region_layout (λ v. Region v.0 v.1.0 v.1.1.0 v.1.1.1) (Behind OP_REGION_OP depth) (λ v b s. spells_region s) end bytes x fits e
+behind_takes depth inner i opcode at end bytes x (begins_holder is) fits e =
+    any_takes opcode is (Behind opcode) (λ d v ts p h b len s t. spells_holder h b (holds p (h ++ b) len) s t) depth inner i at end bytes x fits (sym (holder_behind inner opcode at end bytes is) ∙ e)
 behind_takes depth inner i opcode at end bytes x (begins_unread is) fits e =
     unread_takes depth opcode end bytes x is fits (sym (unread_behind inner opcode at end bytes is) ∙ e)
 behind_takes depth inner i opcode at end bytes x (begins_nothing none) fits e =
@@ -100,13 +100,13 @@ behind_takes depth inner i opcode at end bytes x (begins_nothing none) fits e =
 
 -- ---- the opcode in front
 
-by_one : (inner : Option (ℕ → List ℕ → Read Term)) (end lead : ℕ) (rest : List ℕ) → eqb lead 91 ≡ false
+by_one : (inner : Option (ℕ → List ℕ → Read Term)) (end lead : ℕ) (rest : List ℕ) → eqb lead EXT_OP_PREFIX ≡ false
     → term_by inner end (lead ∷ rest) ≡ behind_opcode inner lead (end - length (lead ∷ rest)) end rest
 unfolding term_by opcode_at
 by_one inner end lead rest e = rw e refl
 
 by_two : (inner : Option (ℕ → List ℕ → Read Term)) (end b : ℕ) (rest : List ℕ)
-    → term_by inner end (91 ∷ b ∷ rest) ≡ behind_opcode inner (23296 + b) (end - length (91 ∷ b ∷ rest)) end rest
+    → term_by inner end (EXT_OP_PREFIX ∷ b ∷ rest) ≡ behind_opcode inner (EXTENDED + b) (end - length (EXT_OP_PREFIX ∷ b ∷ rest)) end rest
 unfolding term_by opcode_at
 by_two inner end b rest = refl
 
@@ -114,7 +114,7 @@ none_by : (inner : Option (ℕ → List ℕ → Read Term)) (end : ℕ) → term
 unfolding term_by opcode_at
 none_by inner end = refl
 
-no_second_by : (inner : Option (ℕ → List ℕ → Read Term)) (end : ℕ) → term_by inner end (91 ∷ []) ≡ Err (in_data (Short end))
+no_second_by : (inner : Option (ℕ → List ℕ → Read Term)) (end : ℕ) → term_by inner end (EXT_OP_PREFIX ∷ []) ≡ Err (in_data (Short end))
 unfolding term_by opcode_at
 no_second_by inner end = refl
 
@@ -126,21 +126,21 @@ with_front depth opcode o bytes x e t = record {
   rest_fits = t.rest_fits;
 }
 
-two_takes : (depth : ℕ) (inner : Option (ℕ → List ℕ → Read Term)) → Inner depth inner → (end : ℕ) (rest : List ℕ) (x : Term × List ℕ) → IsBytes (91 ∷ rest) → term_by inner end (91 ∷ rest) ≡ Ok x
-    → Takes (TermSpellsWithin depth) (91 ∷ rest) x
+two_takes : (depth : ℕ) (inner : Option (ℕ → List ℕ → Read Term)) → Inner depth inner → (end : ℕ) (rest : List ℕ) (x : Term × List ℕ) → IsBytes (EXT_OP_PREFIX ∷ rest) → term_by inner end (EXT_OP_PREFIX ∷ rest) ≡ Ok x
+    → Takes (TermSpellsWithin depth) (EXT_OP_PREFIX ∷ rest) x
 two_takes depth inner i end [] x fits e = absurd (let impossible = sym (no_second_by inner end) ∙ e in cc)
 two_takes depth inner i end (b ∷ rest) x fits e =
-    with_front depth (23296 + b) (91 ∷ b ∷ []) rest x (two_byte_opcode b)
-    (behind_takes depth inner i (23296 + b) (end - length (91 ∷ b ∷ rest)) end rest x (opcode_case (23296 + b)) (IsBytes-rest b rest (IsBytes-rest 91 (b ∷ rest) fits))
+    with_front depth (EXTENDED + b) (EXT_OP_PREFIX ∷ b ∷ []) rest x (two_byte_opcode b)
+    (behind_takes depth inner i (EXTENDED + b) (end - length (EXT_OP_PREFIX ∷ b ∷ rest)) end rest x (opcode_case (EXTENDED + b)) (IsBytes-rest b rest (IsBytes-rest EXT_OP_PREFIX (b ∷ rest) fits))
     (sym (by_two inner end b rest) ∙ e))
 
 by_takes : (depth : ℕ) (inner : Option (ℕ → List ℕ → Read Term)) → Inner depth inner → (end : ℕ) (bytes : List ℕ) (x : Term × List ℕ) → IsBytes bytes → term_by inner end bytes ≡ Ok x
     → Takes (TermSpellsWithin depth) bytes x
 by_takes depth inner i end [] x fits e = absurd (let impossible = sym (none_by inner end) ∙ e in cc)
 by_takes depth inner i end (lead ∷ rest) x fits e =
-    elim (known (eqb lead 91)) [
+    elim (known (eqb lead EXT_OP_PREFIX)) [
       | inl h ↦
-          let is = eqb-true lead 91 h in
+          let is = eqb-true lead EXT_OP_PREFIX h in
           subst (λ (n : ℕ). Takes (TermSpellsWithin depth) (n ∷ rest) x) (sym is)
           (two_takes depth inner i end rest x (subst (λ (n : ℕ). IsBytes (n ∷ rest)) is fits) (subst (λ (n : ℕ). term_by inner end (n ∷ rest) ≡ Ok x) is e))
       | inr h ↦
@@ -157,6 +157,12 @@ unread_again inner opcode end p body rest is len =
     let split : (opcode_bytes opcode ++ (p ++ body)) ++ rest ≡ opcode_bytes opcode ++ (p ++ (body ++ rest)) = simp append_assoc refl in
     rw (split, unread_opcode opcode end (p ++ (body ++ rest)) is) (unread_behind inner opcode _ end (p ++ (body ++ rest)) is ∙ rw (window_again end p body rest len) refl)
 
+by_holder : (inner : Option (ℕ → List ℕ → Read Term)) (end opcode : ℕ) (rest : List ℕ) → is_holder opcode ≡ true
+    → term_by inner end (opcode_bytes opcode ++ rest) ≡ holder_at inner opcode (end - length (opcode_bytes opcode ++ rest)) end rest
+unfolding term_by opcode_at behind_opcode
+by_holder inner end opcode rest is =
+    holder_cases (λ (n : ℕ). term_by inner end (opcode_bytes n ++ rest) ≡ holder_at inner n (end - length (opcode_bytes n ++ rest)) end rest) refl refl refl opcode is
+
 by_again : (depth : ℕ) (inner : Option (ℕ → List ℕ → Read Term)) → Inner depth inner → (end : ℕ) (v : Term) (c rest : List ℕ) → TermSpellsWithin depth v c
     → term_by inner end (c ++ rest) ≡ Ok (v, rest)
 unfolding term_by opcode_at behind_opcode name_term_at alias_at external_at mutex_at event_at region_at
@@ -168,13 +174,11 @@ by_again depth inner i end v c rest (spells_mutex {flags = flags} {path = path} 
 by_again depth inner i end v c rest (spells_event {path = path} {b = b} s) = plain_again _ _ _ names (λ path. Event path) end path b rest s
 by_again depth inner i end v c rest (spells_region {space = space} {offset = offset} {len = len} {path = path} {b = b} s) =
     plain_again _ _ _ region_layout (λ v. Region v.0 v.1.0 v.1.1.0 v.1.1.1) end (path, (space, (offset, len))) b rest s
-by_again depth inner i end v c rest (spells_unread {opcode = opcode} {p = p} {body = body} is len) = unread_again inner opcode end p body rest is len
-by_again (suc depth) inner i end v c rest (spells_scope {path = path} {terms = terms} p h body len s ts) =
-    any_again _ _ _ names (λ path terms. Scope path terms) depth inner i _ end path terms p h body rest len s ts
-by_again (suc depth) inner i end v c rest (spells_device {path = path} {terms = terms} p h body len s ts) =
-    any_again _ _ _ named (λ path terms. Device path terms) depth inner i _ end path terms p h body rest len s ts
-by_again (suc depth) inner i end v c rest (spells_processor {id = id} {block = block} {len = size} {path = path} {terms = terms} p h body len s ts) =
-    any_again _ _ _ processor_layout (λ v terms. Processor v.0 v.1.0 v.1.1.0 v.1.1.1 terms) depth inner i _ end (path, (id, (block, size))) terms p h body rest len s ts
+by_again depth inner i end v c rest (spells_unread {opcode = opcode} {body = body} is (holds p _ len)) = unread_again inner opcode end p body rest is len
+by_again (suc depth) inner i end v c rest (spells_holder {opcode = opcode} {make = make} {terms = terms} h body (holds p _ len) s ts) =
+    let is = head_holds opcode make h s in
+    let split = append_assoc (opcode_bytes opcode) (p ++ (h ++ body)) rest in
+    rw split (by_holder inner end opcode ((p ++ (h ++ body)) ++ rest) is ∙ any_again opcode is depth inner i _ end make terms p h body rest len s ts)
 
 -- ---- read as a fault, so the first fault
 
@@ -189,34 +193,23 @@ unread_fails depth opcode end bytes fault is fits e =
 abbrev FailsBehind : List ℕ → ℕ → List ℕ → ℕ → TermFault → Type 0
 FailsBehind o end bytes depth fault = TermFailsWithin depth end (o ++ bytes) fault
 
-scope_fails : (depth : ℕ) (inner : Option (ℕ → List ℕ → Read Term)) → Inner depth inner → (at end : ℕ) (bytes : List ℕ) (fault : TermFault) → at ≡ end - length (16 ∷ bytes) → IsBytes bytes
-    → holder_at inner name_at (λ path terms. Scope path terms) at end bytes ≡ Err fault → TermFailsWithin depth end (16 ∷ bytes) fault
-scope_fails depth inner i at end bytes fault place fits e =
-    any_fails _ _ _ names (λ path terms. Scope path terms) (FailsBehind (16 ∷ []) end bytes) at end bytes
-    (subst (λ (k : ℕ). TermFailsWithin zero end (16 ∷ bytes) (in_data (TooDeep k))) (sym place) (fails_too_deep bytes opens_scope))
-    (λ d f h. fails_in_length bytes opens_scope h)
-    (λ d p inside rest f parts len h. rw parts (fails_in_scope p inside rest len h))
-    (λ d v p h body rest f parts len s t. rw parts (fails_in_scope_terms p h body rest len s t))
-    depth inner i fault fits e
+held_fails : (F : ℕ → List ℕ → DataFault → Type 0) (end : ℕ) (p inside rest : List ℕ) (d : DataFault) → Len (length p + length inside) p → F (end - length rest) inside d
+    → SizedFails F end (p ++ (inside ++ rest)) d
+held_fails F end p inside rest d len h = subst (λ (l : List ℕ). SizedFails F end l d) (append_assoc p inside rest) (fails_inside (p ++ inside) rest (holds p inside len) h)
 
-device_fails : (depth : ℕ) (inner : Option (ℕ → List ℕ → Read Term)) → Inner depth inner → (at end : ℕ) (bytes : List ℕ) (fault : TermFault) → at ≡ end - length (91 ∷ 130 ∷ bytes) → IsBytes bytes
-    → holder_at inner named_at (λ path terms. Device path terms) at end bytes ≡ Err fault → TermFailsWithin depth end (91 ∷ 130 ∷ bytes) fault
-device_fails depth inner i at end bytes fault place fits e =
-    any_fails _ _ _ named (λ path terms. Device path terms) (FailsBehind (91 ∷ 130 ∷ []) end bytes) at end bytes
-    (subst (λ (k : ℕ). TermFailsWithin zero end (91 ∷ 130 ∷ bytes) (in_data (TooDeep k))) (sym place) (fails_too_deep bytes opens_device))
-    (λ d f h. fails_in_length bytes opens_device h)
-    (λ d p inside rest f parts len h. rw parts (fails_in_device p inside rest len h))
-    (λ d v p h body rest f parts len s t. rw parts (fails_in_device_terms p h body rest len s t))
-    depth inner i fault fits e
+inner_fails : (depth end opcode : ℕ) (make : List Term → Term) (p h body rest : List ℕ) (f : TermFault) → Len (length p + length (h ++ body)) p → Head opcode make h
+    → TermsFailWithin depth (end - length rest) body f → TermFailsWithin (suc depth) end (opcode_bytes opcode ++ (p ++ ((h ++ body) ++ rest))) f
+inner_fails depth end opcode make p h body rest f len s t =
+    subst (λ (l : List ℕ). TermFailsWithin (suc depth) end (opcode_bytes opcode ++ l) f) (append_assoc p (h ++ body) rest) (fails_in_inner_term h body rest (holds p (h ++ body) len) s t)
 
-processor_fails : (depth : ℕ) (inner : Option (ℕ → List ℕ → Read Term)) → Inner depth inner → (at end : ℕ) (bytes : List ℕ) (fault : TermFault) → at ≡ end - length (91 ∷ 131 ∷ bytes) → IsBytes bytes
-    → holder_at inner processor_at (λ v terms. Processor v.0 v.1.0 v.1.1.0 v.1.1.1 terms) at end bytes ≡ Err fault → TermFailsWithin depth end (91 ∷ 131 ∷ bytes) fault
-processor_fails depth inner i at end bytes fault place fits e =
-    any_fails _ _ _ processor_layout (λ v terms. Processor v.0 v.1.0 v.1.1.0 v.1.1.1 terms) (FailsBehind (91 ∷ 131 ∷ []) end bytes) at end bytes
-    (subst (λ (k : ℕ). TermFailsWithin zero end (91 ∷ 131 ∷ bytes) (in_data (TooDeep k))) (sym place) (fails_too_deep bytes opens_processor))
-    (λ d f h. fails_in_length bytes opens_processor h)
-    (λ d p inside rest f parts len h. rw parts (fails_in_processor p inside rest len h))
-    (λ d v p h body rest f parts len s t. rw parts (fails_in_processor_terms p h body rest len s t))
+holder_fails : (depth : ℕ) (inner : Option (ℕ → List ℕ → Read Term)) → Inner depth inner → (opcode at end : ℕ) (bytes : List ℕ) (fault : TermFault) → is_holder opcode ≡ true
+    → at ≡ end - length (opcode_bytes opcode ++ bytes) → IsBytes bytes → holder_at inner opcode at end bytes ≡ Err fault → TermFailsWithin depth end (opcode_bytes opcode ++ bytes) fault
+holder_fails depth inner i opcode at end bytes fault is place fits e =
+    any_fails opcode is (FailsBehind (opcode_bytes opcode) end bytes) at end bytes
+    (subst (λ (k : ℕ). TermFailsWithin zero end (opcode_bytes opcode ++ bytes) (in_data (TooDeep k))) (sym place) (fails_too_deep opcode bytes is))
+    (λ d f h. fails_in_head opcode bytes is (fails_in_length h))
+    (λ d p inside rest f parts len h. rw parts (fails_in_head opcode (p ++ (inside ++ rest)) is (held_fails (HeadFails opcode) end p inside rest f len h)))
+    (λ d v p h body rest f parts len s t. rw parts (inner_fails d end opcode v p h body rest f len s t))
     depth inner i fault fits e
 
 behind_fails : (depth : ℕ) (inner : Option (ℕ → List ℕ → Read Term)) → Inner depth inner → (opcode at end : ℕ) (bytes : List ℕ) (fault : TermFault) → OpcodeCase opcode
@@ -224,50 +217,49 @@ behind_fails : (depth : ℕ) (inner : Option (ℕ → List ℕ → Read Term)) �
     → behind_opcode inner opcode at end bytes ≡ Err fault → TermFailsWithin depth end (opcode_bytes opcode ++ bytes) fault
 unfolding behind_opcode name_term_at alias_at external_at mutex_at event_at region_at
 behind_fails depth inner i opcode at end bytes fault begins_name_term place none fits e =
-    plain_fails _ _ _ name_layout (λ v. Name v.0 v.1) (FailsBehind (8 ∷ []) end bytes depth) end bytes (λ d h. fails_in_name h) fault fits e
+    plain_fails _ _ _ name_layout (λ v. Name v.0 v.1) (FailsBehind (opcode_bytes NAME_OP) end bytes depth) end bytes (λ d h. fails_in_name h) fault fits e
 behind_fails depth inner i opcode at end bytes fault begins_alias place none fits e =
-    plain_fails _ _ _ alias_layout (λ v. Alias v.0 v.1) (FailsBehind (6 ∷ []) end bytes depth) end bytes (λ d h. fails_in_alias h) fault fits e
+    plain_fails _ _ _ alias_layout (λ v. Alias v.0 v.1) (FailsBehind (opcode_bytes ALIAS_OP) end bytes depth) end bytes (λ d h. fails_in_alias h) fault fits e
 behind_fails depth inner i opcode at end bytes fault begins_external place none fits e =
-    plain_fails _ _ _ external_layout (λ v. External v.0 v.1.0 v.1.1) (FailsBehind (21 ∷ []) end bytes depth) end bytes (λ d h. fails_in_external h) fault fits e
+    plain_fails _ _ _ external_layout (λ v. External v.0 v.1.0 v.1.1) (FailsBehind (opcode_bytes EXTERNAL_OP) end bytes depth) end bytes (λ d h. fails_in_external h) fault fits e
 behind_fails depth inner i opcode at end bytes fault begins_mutex place none fits e =
-    plain_fails _ _ _ mutex_layout (λ v. Mutex v.0 v.1) (FailsBehind (91 ∷ 1 ∷ []) end bytes depth) end bytes (λ d h. fails_in_mutex h) fault fits e
+    plain_fails _ _ _ mutex_layout (λ v. Mutex v.0 v.1) (FailsBehind (opcode_bytes MUTEX_OP) end bytes depth) end bytes (λ d h. fails_in_mutex h) fault fits e
 behind_fails depth inner i opcode at end bytes fault begins_event place none fits e =
-    plain_fails _ _ _ names (λ path. Event path) (FailsBehind (91 ∷ 2 ∷ []) end bytes depth) end bytes (λ d h. fails_in_event h) fault fits e
+    plain_fails _ _ _ names (λ path. Event path) (FailsBehind (opcode_bytes EVENT_OP) end bytes depth) end bytes (λ d h. fails_in_event h) fault fits e
 behind_fails depth inner i opcode at end bytes fault begins_region place none fits e =
-    plain_fails _ _ _ region_layout (λ v. Region v.0 v.1.0 v.1.1.0 v.1.1.1) (FailsBehind (91 ∷ 128 ∷ []) end bytes depth) end bytes (λ d h. fails_in_region h) fault fits e
-behind_fails depth inner i opcode at end bytes fault begins_scope place none fits e = scope_fails depth inner i at end bytes fault place fits e
-behind_fails depth inner i opcode at end bytes fault begins_device place none fits e = device_fails depth inner i at end bytes fault place fits e
-behind_fails depth inner i opcode at end bytes fault begins_processor place none fits e = processor_fails depth inner i at end bytes fault place fits e
+    plain_fails _ _ _ region_layout (λ v. Region v.0 v.1.0 v.1.1.0 v.1.1.1) (FailsBehind (opcode_bytes OP_REGION_OP) end bytes depth) end bytes (λ d h. fails_in_region h) fault fits e
+behind_fails depth inner i opcode at end bytes fault (begins_holder is) place none fits e =
+    holder_fails depth inner i opcode at end bytes fault is place fits (sym (holder_behind inner opcode at end bytes is) ∙ e)
 behind_fails depth inner i opcode at end bytes fault (begins_unread is) place none fits e =
     unread_fails depth opcode end bytes fault is fits (sym (unread_behind inner opcode at end bytes is) ∙ e)
 behind_fails depth inner i opcode at end bytes fault (begins_nothing not) place none fits e =
     subst (λ (f : TermFault). TermFailsWithin depth end (opcode_bytes opcode ++ bytes) f) (err_is {A = Term × List ℕ} _ fault (sym (nothing_behind inner opcode at end bytes not) ∙ e)) (none not)
 
-two_fails : (depth : ℕ) (inner : Option (ℕ → List ℕ → Read Term)) → Inner depth inner → (end : ℕ) (rest : List ℕ) (fault : TermFault) → IsBytes (91 ∷ rest) → term_by inner end (91 ∷ rest) ≡ Err fault
-    → TermFailsWithin depth end (91 ∷ rest) fault
+two_fails : (depth : ℕ) (inner : Option (ℕ → List ℕ → Read Term)) → Inner depth inner → (end : ℕ) (rest : List ℕ) (fault : TermFault) → IsBytes (EXT_OP_PREFIX ∷ rest) → term_by inner end (EXT_OP_PREFIX ∷ rest) ≡ Err fault
+    → TermFailsWithin depth end (EXT_OP_PREFIX ∷ rest) fault
 two_fails depth inner i end [] fault fits e =
-    subst (λ (f : TermFault). TermFailsWithin depth end (91 ∷ []) f) (err_is {A = Term × List ℕ} _ fault (sym (no_second_by inner end) ∙ e)) fails_no_second
+    subst (λ (f : TermFault). TermFailsWithin depth end (EXT_OP_PREFIX ∷ []) f) (err_is {A = Term × List ℕ} _ fault (sym (no_second_by inner end) ∙ e)) fails_no_second
 two_fails depth inner i end (b ∷ rest) fault fits e =
     let o = two_byte_opcode b in
     subst (λ (l : List ℕ). TermFailsWithin depth end (l ++ rest) fault) o
-    (behind_fails depth inner i (23296 + b) (end - length (91 ∷ b ∷ rest)) end rest fault (opcode_case (23296 + b)) (ap (λ (l : List ℕ). end - length (l ++ rest)) (sym o))
-    (λ none. subst (λ (l : List ℕ). TermFailsWithin depth end (l ++ rest) (BadTerm (end - length (91 ∷ b ∷ rest)) (23296 + b))) (sym o) (fails_second none))
-    (IsBytes-rest b rest (IsBytes-rest 91 (b ∷ rest) fits)) (sym (by_two inner end b rest) ∙ e))
+    (behind_fails depth inner i (EXTENDED + b) (end - length (EXT_OP_PREFIX ∷ b ∷ rest)) end rest fault (opcode_case (EXTENDED + b)) (ap (λ (l : List ℕ). end - length (l ++ rest)) (sym o))
+    (λ none. subst (λ (l : List ℕ). TermFailsWithin depth end (l ++ rest) (BadTerm (end - length (EXT_OP_PREFIX ∷ b ∷ rest)) (EXTENDED + b))) (sym o) (fails_second none))
+    (IsBytes-rest b rest (IsBytes-rest EXT_OP_PREFIX (b ∷ rest) fits)) (sym (by_two inner end b rest) ∙ e))
 
 by_fails : (depth : ℕ) (inner : Option (ℕ → List ℕ → Read Term)) → Inner depth inner → (end : ℕ) (bytes : List ℕ) (fault : TermFault) → IsBytes bytes → term_by inner end bytes ≡ Err fault
     → TermFailsWithin depth end bytes fault
 by_fails depth inner i end [] fault fits e = subst (λ (f : TermFault). TermFailsWithin depth end [] f) (err_is {A = Term × List ℕ} _ fault (sym (none_by inner end) ∙ e)) fails_no_term
 by_fails depth inner i end (lead ∷ rest) fault fits e =
-    elim (known (eqb lead 91)) [
+    elim (known (eqb lead EXT_OP_PREFIX)) [
       | inl h ↦
-          let is = eqb-true lead 91 h in
+          let is = eqb-true lead EXT_OP_PREFIX h in
           subst (λ (n : ℕ). TermFailsWithin depth end (n ∷ rest) fault) (sym is)
           (two_fails depth inner i end rest fault (subst (λ (n : ℕ). IsBytes (n ∷ rest)) is fits) (subst (λ (n : ℕ). term_by inner end (n ∷ rest) ≡ Err fault) is e))
       | inr h ↦
           let o = one_byte_opcode lead (fits 0) in
           subst (λ (l : List ℕ). TermFailsWithin depth end (l ++ rest) fault) o
           (behind_fails depth inner i lead (end - length (lead ∷ rest)) end rest fault (opcode_case lead) (ap (λ (l : List ℕ). end - length (l ++ rest)) (sym o))
-          (λ none. subst (λ (l : List ℕ). TermFailsWithin depth end (l ++ rest) (BadTerm (end - length (lead ∷ rest)) lead)) (sym o) (fails_opcode (eqb-false lead 91 h) none))
+          (λ none. subst (λ (l : List ℕ). TermFailsWithin depth end (l ++ rest) (BadTerm (end - length (lead ∷ rest)) lead)) (sym o) (fails_opcode (eqb-false lead EXT_OP_PREFIX h) none))
           (IsBytes-rest lead rest fits) (sym (by_one inner end lead rest h) ∙ e))
     ]
 
@@ -278,9 +270,19 @@ unread_refused : (inner : Option (ℕ → List ℕ → Read Term)) (opcode end :
 unfolding term_by unread_at
 unread_refused inner opcode end bytes d is h = rw (unread_opcode opcode end bytes is) (unread_behind inner opcode _ end bytes is ∙ rw (window_refused end bytes d h) refl)
 
-nothing_refused : (inner : Option (ℕ → List ℕ → Read Term)) (end lead : ℕ) (rest : List ℕ) → lead ≢ 91 → is_term lead ≡ false
+nothing_refused : (inner : Option (ℕ → List ℕ → Read Term)) (end lead : ℕ) (rest : List ℕ) → lead ≢ EXT_OP_PREFIX → is_term lead ≡ false
     → term_by inner end (lead ∷ rest) ≡ Err (BadTerm (end - length (lead ∷ rest)) lead)
-nothing_refused inner end lead rest ne none = by_one inner end lead rest (ne_eqb lead 91 ne) ∙ nothing_behind inner lead (end - length (lead ∷ rest)) end rest none
+nothing_refused inner end lead rest ne none = by_one inner end lead rest (ne_eqb lead EXT_OP_PREFIX ne) ∙ nothing_behind inner lead (end - length (lead ∷ rest)) end rest none
+
+too_deep_refused : (inner : Option (ℕ → List ℕ → Read Term)) → Inner zero inner → (end opcode : ℕ) (rest : List ℕ) → is_holder opcode ≡ true
+    → term_by inner end (opcode_bytes opcode ++ rest) ≡ Err (in_data (TooDeep (end - length (opcode_bytes opcode ++ rest))))
+too_deep_refused inner i end opcode rest is = by_holder inner end opcode rest is ∙ deep_refused opcode is inner i _ end rest
+
+held_refused : (depth : ℕ) (inner : Option (ℕ → List ℕ → Read Term)) → Inner (suc depth) inner → (end opcode : ℕ) (rest : List ℕ) (d : DataFault) → is_holder opcode ≡ true
+    → SizedFails (HeadFails opcode) end rest d → term_by inner end (opcode_bytes opcode ++ rest) ≡ Err (in_data d)
+held_refused depth inner i end opcode rest d is (fails_in_length h) = by_holder inner end opcode rest is ∙ length_refused opcode is depth inner i _ end rest d h
+held_refused depth inner i end opcode _ d is (fails_inside {content = inside} _ rest (holds p _ len) h) =
+    rw (append_assoc p inside rest) (by_holder inner end opcode (p ++ (inside ++ rest)) is ∙ head_refused opcode is depth inner i _ end p inside rest d len h)
 
 by_refused : (depth : ℕ) (inner : Option (ℕ → List ℕ → Read Term)) → Inner depth inner → (end : ℕ) (bytes : List ℕ) (fault : TermFault) → TermFailsWithin depth end bytes fault
     → term_by inner end bytes ≡ Err fault
@@ -288,7 +290,7 @@ unfolding term_by opcode_at behind_opcode name_term_at alias_at external_at mute
 by_refused depth inner i end _ _ fails_no_term = refl
 by_refused depth inner i end _ _ fails_no_second = refl
 by_refused depth inner i end _ _ (fails_opcode {lead = lead} {rest = rest} ne none) = nothing_refused inner end lead rest ne none
-by_refused depth inner i end _ _ (fails_second {b = b} {rest = rest} none) = nothing_behind inner (23296 + b) _ end rest none
+by_refused depth inner i end _ _ (fails_second {b = b} {rest = rest} none) = nothing_behind inner (EXTENDED + b) _ end rest none
 by_refused depth inner i end _ _ (fails_in_name {rest = rest} {fault = d} h) = plain_refused _ _ _ name_layout (λ v. Name v.0 v.1) end rest d h
 by_refused depth inner i end _ _ (fails_in_alias {rest = rest} {fault = d} h) = plain_refused _ _ _ alias_layout (λ v. Alias v.0 v.1) end rest d h
 by_refused depth inner i end _ _ (fails_in_external {rest = rest} {fault = d} h) = plain_refused _ _ _ external_layout (λ v. External v.0 v.1.0 v.1.1) end rest d h
@@ -296,23 +298,12 @@ by_refused depth inner i end _ _ (fails_in_mutex {rest = rest} {fault = d} h) = 
 by_refused depth inner i end _ _ (fails_in_event {rest = rest} {fault = d} h) = plain_refused _ _ _ names (λ path. Event path) end rest d h
 by_refused depth inner i end _ _ (fails_in_region {rest = rest} {fault = d} h) = plain_refused _ _ _ region_layout (λ v. Region v.0 v.1.0 v.1.1.0 v.1.1.1) end rest d h
 by_refused depth inner i end _ _ (fails_in_unread {fault = d} opcode rest is h) = unread_refused inner opcode end rest d is h
-by_refused zero inner i end _ _ (fails_too_deep rest opens_scope) = deep_refused _ _ _ names (λ path terms. Scope path terms) inner i _ end rest
-by_refused zero inner i end _ _ (fails_too_deep rest opens_device) = deep_refused _ _ _ named (λ path terms. Device path terms) inner i _ end rest
-by_refused zero inner i end _ _ (fails_too_deep rest opens_processor) = deep_refused _ _ _ processor_layout (λ v terms. Processor v.0 v.1.0 v.1.1.0 v.1.1.1 terms) inner i _ end rest
-by_refused (suc depth) inner i end _ _ (fails_in_length {fault = d} rest opens_scope h) = length_refused _ _ _ names (λ path terms. Scope path terms) depth inner i _ end rest d h
-by_refused (suc depth) inner i end _ _ (fails_in_length {fault = d} rest opens_device h) = length_refused _ _ _ named (λ path terms. Device path terms) depth inner i _ end rest d h
-by_refused (suc depth) inner i end _ _ (fails_in_length {fault = d} rest opens_processor h) =
-    length_refused _ _ _ processor_layout (λ v terms. Processor v.0 v.1.0 v.1.1.0 v.1.1.1 terms) depth inner i _ end rest d h
-by_refused (suc depth) inner i end _ _ (fails_in_scope {fault = d} p inside rest len h) = head_refused _ _ _ names (λ path terms. Scope path terms) depth inner i _ end p inside rest d len h
-by_refused (suc depth) inner i end _ _ (fails_in_scope_terms {path = path} {fault = f} p h body rest len s t) =
-    terms_refused _ _ _ names (λ path terms. Scope path terms) depth inner i _ end path p h body rest f len s t
-by_refused (suc depth) inner i end _ _ (fails_in_device {fault = d} p inside rest len h) = head_refused _ _ _ named (λ path terms. Device path terms) depth inner i _ end p inside rest d len h
-by_refused (suc depth) inner i end _ _ (fails_in_device_terms {path = path} {fault = f} p h body rest len s t) =
-    terms_refused _ _ _ named (λ path terms. Device path terms) depth inner i _ end path p h body rest f len s t
-by_refused (suc depth) inner i end _ _ (fails_in_processor {fault = d} p inside rest len h) =
-    head_refused _ _ _ processor_layout (λ v terms. Processor v.0 v.1.0 v.1.1.0 v.1.1.1 terms) depth inner i _ end p inside rest d len h
-by_refused (suc depth) inner i end _ _ (fails_in_processor_terms {v = v} {fault = f} p h body rest len s t) =
-    terms_refused _ _ _ processor_layout (λ v terms. Processor v.0 v.1.0 v.1.1.0 v.1.1.1 terms) depth inner i _ end v p h body rest f len s t
+by_refused zero inner i end _ _ (fails_too_deep opcode rest is) = too_deep_refused inner i end opcode rest is
+by_refused (suc depth) inner i end _ _ (fails_in_head {fault = d} opcode rest is h) = held_refused depth inner i end opcode rest d is h
+by_refused (suc depth) inner i end _ _ (fails_in_inner_term {opcode = opcode} {make = make} {fault = f} h body rest (holds p _ len) s t) =
+    let is = head_holds opcode make h s in
+    rw (append_assoc p (h ++ body) rest)
+    (by_holder inner end opcode (p ++ ((h ++ body) ++ rest)) is ∙ terms_refused opcode is depth inner i _ end make p h body rest f len s t)
 
 -- ---- a term has a byte
 
@@ -321,6 +312,9 @@ opcode_some opcode rest is =
     unread_cases (λ (n : ℕ). 0 < length (opcode_bytes n ++ rest)) (omega arith) (omega arith) (omega arith) (omega arith) (omega arith) (omega arith) (omega arith) (omega arith) (omega arith)
     opcode is
 
+holder_some : (opcode : ℕ) (rest : List ℕ) → is_holder opcode ≡ true → 0 < length (opcode_bytes opcode ++ rest)
+holder_some opcode rest is = holder_cases (λ (n : ℕ). 0 < length (opcode_bytes n ++ rest)) (omega arith) (omega arith) (omega arith) opcode is
+
 some_byte : (depth : ℕ) (v : Term) (c : List ℕ) → TermSpellsWithin depth v c → 0 < length c
 some_byte depth v c (spells_name_term s) = omega arith
 some_byte depth v c (spells_alias s) = omega arith
@@ -328,10 +322,8 @@ some_byte depth v c (spells_external s) = omega arith
 some_byte depth v c (spells_mutex s) = omega arith
 some_byte depth v c (spells_event s) = omega arith
 some_byte depth v c (spells_region s) = omega arith
-some_byte depth v c (spells_unread {opcode = opcode} {p = p} {body = body} is len) = opcode_some opcode (p ++ body) is
-some_byte depth v c (spells_scope p h body len s ts) = omega arith
-some_byte depth v c (spells_device p h body len s ts) = omega arith
-some_byte depth v c (spells_processor p h body len s ts) = omega arith
+some_byte depth v c (spells_unread {opcode = opcode} {b = b} is held) = opcode_some opcode b is
+some_byte depth v c (spells_holder {opcode = opcode} {make = make} {b = b} h body held s ts) = holder_some opcode b (head_holds opcode make h s)
 
 by_laws : (depth : ℕ) (inner : Option (ℕ → List ℕ → Read Term)) → Inner depth inner → TermLaws depth (term_by inner)
 by_laws depth inner i = record {

@@ -1,61 +1,51 @@
 -- The first fault of terms: the parts before it are spelled in order, and the next part fails. The bytes end at `end`, so a
 -- byte that stands before n more has the place end - (n + 1).
 use Rattle.std.specs.Prelude.{◌≡◌, ◌≢◌, ℕ, zero, suc, ◌+◌, ◌-◌, false, IsTrue, List, [], ◌∷◌, ◌++◌, length}
-use Rattle.aml_data.specs.declared.path.Path.{Path}
 use Rattle.aml_data.specs.declared.fault.DataFault.{DataFault}
 use Rattle.aml_data.specs.declared.fault.DataFault.TheVariants.{Short, TooDeep}
-use Rattle.aml_data.specs.Grammar.{Len, NameOf}
+use Rattle.aml_data.specs.Layouts.{Holds, SizedFails}
 use Rattle.aml_data.specs.Faults.{LenFails, NameFails}
 use Rattle.aml_terms.specs.declared.term.Term.{Term}
 use Rattle.aml_terms.specs.declared.fault.TermFault.{TermFault}
 use Rattle.aml_terms.specs.declared.fault.TermFault.TheVariants.{Data as in_data, BadTerm}
-use Rattle.aml_terms.specs.Opcodes.{opcode_bytes, is_term, is_unread}
-use Rattle.aml_terms.specs.Layouts.{Named, NamedFails, NameLayoutFails, AliasLayoutFails, ExternalLayoutFails, MutexLayoutFails, RegionLayoutFails}
-use Rattle.aml_terms.specs.Layouts.{ProcessorLayout, ProcessorLayoutFails}
+use Rattle.aml_terms.specs.declared.term.TheConstants.{DEEPEST}
+use Rattle.aml_data.specs.declared.opcode.TheConstants.{EXT_OP_PREFIX}
+use Rattle.aml_terms.specs.declared.opcode.TheConstants.{EXTENDED, NAME_OP, ALIAS_OP, EXTERNAL_OP, MUTEX_OP, EVENT_OP, OP_REGION_OP}
+use Rattle.aml_terms.specs.Opcodes.{opcode_bytes, is_term, is_holder, is_unread}
+use Rattle.aml_terms.specs.Layouts.{NameLayoutFails, AliasLayoutFails, ExternalLayoutFails, MutexLayoutFails, RegionLayoutFails, Head, HeadFails}
 use Rattle.aml_terms.specs.Grammar.{TermSpellsWithin}
 
--- the opcode of a term that holds terms: Scope, Device or Processor
-pub data Opens : List ℕ → Type 0 where
-  opens_scope : Opens (16 ∷ [])
-  opens_device : Opens (91 ∷ 130 ∷ [])
-  opens_processor : Opens (91 ∷ 131 ∷ [])
-
 -- A term that may nest so deep: its opcode, and then its layout. In a term that holds terms these are the nesting, the
--- PkgLength, what stands before the terms, and the terms; what is inside a PkgLength ends where its bytes end.
+-- PkgLength, its head, and the terms; what is inside a PkgLength ends where its bytes end.
 mutual
   pub data TermFailsWithin : ℕ → ℕ → List ℕ → TermFault → Type 0 where
     fails_no_term : {depth end : ℕ} → TermFailsWithin depth end [] (in_data (Short end))
-    fails_no_second : {depth end : ℕ} → TermFailsWithin depth end (91 ∷ []) (in_data (Short end))
-    fails_opcode : {depth end lead : ℕ} {rest : List ℕ} → lead ≢ 91 → is_term lead ≡ false
+    fails_no_second : {depth end : ℕ} → TermFailsWithin depth end (EXT_OP_PREFIX ∷ []) (in_data (Short end))
+    fails_opcode : {depth end lead : ℕ} {rest : List ℕ} → lead ≢ EXT_OP_PREFIX → is_term lead ≡ false
         → TermFailsWithin depth end (lead ∷ rest) (BadTerm (end - length (lead ∷ rest)) lead)
-    fails_second : {depth end b : ℕ} {rest : List ℕ} → is_term (23296 + b) ≡ false
-        → TermFailsWithin depth end (91 ∷ b ∷ rest) (BadTerm (end - length (91 ∷ b ∷ rest)) (23296 + b))
-    fails_in_name : {depth end : ℕ} {rest : List ℕ} {fault : DataFault} → NameLayoutFails end rest fault → TermFailsWithin depth end (8 ∷ rest) (in_data fault)
-    fails_in_alias : {depth end : ℕ} {rest : List ℕ} {fault : DataFault} → AliasLayoutFails end rest fault → TermFailsWithin depth end (6 ∷ rest) (in_data fault)
+    fails_second : {depth end b : ℕ} {rest : List ℕ} → is_term (EXTENDED + b) ≡ false
+        → TermFailsWithin depth end (EXT_OP_PREFIX ∷ b ∷ rest) (BadTerm (end - length (EXT_OP_PREFIX ∷ b ∷ rest)) (EXTENDED + b))
+    fails_in_name : {depth end : ℕ} {rest : List ℕ} {fault : DataFault} → NameLayoutFails end rest fault
+        → TermFailsWithin depth end (opcode_bytes NAME_OP ++ rest) (in_data fault)
+    fails_in_alias : {depth end : ℕ} {rest : List ℕ} {fault : DataFault} → AliasLayoutFails end rest fault
+        → TermFailsWithin depth end (opcode_bytes ALIAS_OP ++ rest) (in_data fault)
     fails_in_external : {depth end : ℕ} {rest : List ℕ} {fault : DataFault} → ExternalLayoutFails end rest fault
-        → TermFailsWithin depth end (21 ∷ rest) (in_data fault)
+        → TermFailsWithin depth end (opcode_bytes EXTERNAL_OP ++ rest) (in_data fault)
     fails_in_mutex : {depth end : ℕ} {rest : List ℕ} {fault : DataFault} → MutexLayoutFails end rest fault
-        → TermFailsWithin depth end (91 ∷ 1 ∷ rest) (in_data fault)
-    fails_in_event : {depth end : ℕ} {rest : List ℕ} {fault : DataFault} → NameFails end rest fault → TermFailsWithin depth end (91 ∷ 2 ∷ rest) (in_data fault)
+        → TermFailsWithin depth end (opcode_bytes MUTEX_OP ++ rest) (in_data fault)
+    fails_in_event : {depth end : ℕ} {rest : List ℕ} {fault : DataFault} → NameFails end rest fault
+        → TermFailsWithin depth end (opcode_bytes EVENT_OP ++ rest) (in_data fault)
     fails_in_region : {depth end : ℕ} {rest : List ℕ} {fault : DataFault} → RegionLayoutFails end rest fault
-        → TermFailsWithin depth end (91 ∷ 128 ∷ rest) (in_data fault)
+        → TermFailsWithin depth end (opcode_bytes OP_REGION_OP ++ rest) (in_data fault)
     fails_in_unread : {depth end : ℕ} {fault : DataFault} (opcode : ℕ) (rest : List ℕ) → IsTrue (is_unread opcode) → LenFails end rest fault
         → TermFailsWithin depth end (opcode_bytes opcode ++ rest) (in_data fault)
-    fails_too_deep : {end : ℕ} {o : List ℕ} (rest : List ℕ) → Opens o → TermFailsWithin zero end (o ++ rest) (in_data (TooDeep (end - length (o ++ rest))))
-    fails_in_length : {depth end : ℕ} {o : List ℕ} {fault : DataFault} (rest : List ℕ) → Opens o → LenFails end rest fault
-        → TermFailsWithin (suc depth) end (o ++ rest) (in_data fault)
-    fails_in_scope : {depth end : ℕ} {fault : DataFault} (p inside rest : List ℕ) → Len (length p + length inside) p
-        → NameFails (end - length rest) inside fault → TermFailsWithin (suc depth) end (16 ∷ (p ++ (inside ++ rest))) (in_data fault)
-    fails_in_scope_terms : {depth end : ℕ} {path : Path} {fault : TermFault} (p h body rest : List ℕ) → Len (length p + length (h ++ body)) p
-        → NameOf path h → TermsFailWithin depth (end - length rest) body fault → TermFailsWithin (suc depth) end (16 ∷ (p ++ ((h ++ body) ++ rest))) fault
-    fails_in_device : {depth end : ℕ} {fault : DataFault} (p inside rest : List ℕ) → Len (length p + length inside) p
-        → NamedFails (end - length rest) inside fault → TermFailsWithin (suc depth) end (91 ∷ 130 ∷ (p ++ (inside ++ rest))) (in_data fault)
-    fails_in_device_terms : {depth end : ℕ} {path : Path} {fault : TermFault} (p h body rest : List ℕ) → Len (length p + length (h ++ body)) p
-        → Named path h → TermsFailWithin depth (end - length rest) body fault → TermFailsWithin (suc depth) end (91 ∷ 130 ∷ (p ++ ((h ++ body) ++ rest))) fault
-    fails_in_processor : {depth end : ℕ} {fault : DataFault} (p inside rest : List ℕ) → Len (length p + length inside) p
-        → ProcessorLayoutFails (end - length rest) inside fault → TermFailsWithin (suc depth) end (91 ∷ 131 ∷ (p ++ (inside ++ rest))) (in_data fault)
-    fails_in_processor_terms : {depth end : ℕ} {v : Path × (ℕ × (ℕ × ℕ))} {fault : TermFault} (p h body rest : List ℕ) → Len (length p + length (h ++ body)) p
-        → ProcessorLayout v h → TermsFailWithin depth (end - length rest) body fault → TermFailsWithin (suc depth) end (91 ∷ 131 ∷ (p ++ ((h ++ body) ++ rest))) fault
+    fails_too_deep : {end : ℕ} (opcode : ℕ) (rest : List ℕ) → IsTrue (is_holder opcode)
+        → TermFailsWithin zero end (opcode_bytes opcode ++ rest) (in_data (TooDeep (end - length (opcode_bytes opcode ++ rest))))
+    fails_in_head : {depth end : ℕ} {fault : DataFault} (opcode : ℕ) (rest : List ℕ) → IsTrue (is_holder opcode) → SizedFails (HeadFails opcode) end rest fault
+        → TermFailsWithin (suc depth) end (opcode_bytes opcode ++ rest) (in_data fault)
+    fails_in_inner_term : {depth end opcode : ℕ} {make : List Term → Term} {b : List ℕ} {fault : TermFault} (head body rest : List ℕ) → Holds (head ++ body) b
+        → Head opcode make head → TermsFailWithin depth (end - length rest) body fault
+        → TermFailsWithin (suc depth) end (opcode_bytes opcode ++ (b ++ rest)) fault
 
   -- terms to the end of the bytes: this one, or one after it
   pub data TermsFailWithin : ℕ → ℕ → List ℕ → TermFault → Type 0 where
@@ -65,4 +55,4 @@ mutual
 
 -- the terms of a block
 abbrev pub TermsFail : ℕ → List ℕ → TermFault → Type 0
-TermsFail end bytes fault = TermsFailWithin 32 end bytes fault
+TermsFail end bytes fault = TermsFailWithin DEEPEST end bytes fault

@@ -1,12 +1,16 @@
--- The layouts of terms: parts that stand one after the other, and the first fault among them (ACPI 6.5, 20.2.5).
-use Rattle.std.specs.Prelude.{◌≡◌, ℕ, ◌-◌, ◌<◌, ◌^◌, Bool, List, [], ◌∷◌, ◌++◌, length}
-use Rattle.std.specs.Int.{w32, to_le_bytes}
+-- The layouts of terms, and the first fault among their parts (ACPI 6.5, 20.2.5).
+use Rattle.std.specs.Prelude.{ℕ, ◌-◌, ◌<◌, Bool, List, ◌∷◌, ◌++◌, length}
 use Rattle.aml_data.specs.declared.data.Data.{Data}
 use Rattle.aml_data.specs.declared.path.Path.{Path}
 use Rattle.aml_data.specs.declared.fault.DataFault.{DataFault}
-use Rattle.aml_data.specs.declared.fault.DataFault.TheVariants.{Short, BadName}
+use Rattle.aml_data.specs.declared.fault.DataFault.TheVariants.{BadName}
+use Rattle.aml_data.specs.declared.opcode.TheConstants.{NULL_NAME}
+use Rattle.aml_data.specs.Layouts.{Byte, Double, FewerThan, Both, BothFail}
 use Rattle.aml_data.specs.Grammar.{Const, Prefix, NameOf, Spells}
 use Rattle.aml_data.specs.Faults.{ConstFails, NameFails, Fails}
+use Rattle.aml_terms.specs.declared.term.Term.{Term}
+use Rattle.aml_terms.specs.declared.term.Term.TheVariants.{Scope, Device, Processor}
+use Rattle.aml_terms.specs.declared.opcode.TheConstants.{SCOPE_OP, DEVICE_OP, PROCESSOR_OP}
 
 -- # Parts
 
@@ -19,40 +23,11 @@ pub record Named (path : Path) (bytes : List ℕ) : Type 0 where
   pub name : NameOf path bytes
   pub some : HasSegment path
 
--- it fails as a name, or at the byte 00 in place of its segments
+-- it fails as a name, or at the null name in place of its segments
 pub data NamedFails : ℕ → List ℕ → DataFault → Type 0 where
   fails_as_name : {end : ℕ} {bytes : List ℕ} {fault : DataFault} → NameFails end bytes fault → NamedFails end bytes fault
   fails_without_segment : {end ups : ℕ} {root : Bool} (p rest : List ℕ) → Prefix root ups p
-      → NamedFails end (p ++ (0 ∷ rest)) (BadName (end - length (0 ∷ rest)))
-
--- a byte
-abbrev pub Byte : ℕ → List ℕ → Type 0
-Byte b bytes = bytes ≡ b ∷ []
-
--- a number of four bytes, lowest first
-pub record Double (n : ℕ) (bytes : List ℕ) : Type 0 where
-  pub is : bytes ≡ to_le_bytes w32 n
-  pub fits : n < 2 ^ 32
-
--- fewer bytes than a part has
-pub data FewerThan (n : ℕ) : ℕ → List ℕ → DataFault → Type 0 where
-  fails_few : {end : ℕ} {bytes : List ℕ} → length bytes < n → FewerThan n end bytes (Short end)
-
--- # One part after another
-
--- The bytes spell one part, and then another.
-pub record Both {A B : Type 0} (S : A → List ℕ → Type 0) (T : B → List ℕ → Type 0) (v : A × B) (bytes : List ℕ) : Type 0 where
-  pub front : List ℕ
-  pub back : List ℕ
-  pub parts : bytes ≡ front ++ back
-  pub one : S v.0 front
-  pub other : T v.1 back
-
--- The first part fails so, or it is spelled and the other fails so.
-pub data BothFail {A : Type 0} (F : ℕ → List ℕ → DataFault → Type 0) (S : A → List ℕ → Type 0) (G : ℕ → List ℕ → DataFault → Type 0)
-    : ℕ → List ℕ → DataFault → Type 0 where
-  fails_in_one : {end : ℕ} {bytes : List ℕ} {fault : DataFault} → F end bytes fault → BothFail F S G end bytes fault
-  fails_in_other : {end : ℕ} {fault : DataFault} {a : A} (front rest : List ℕ) → S a front → G end rest fault → BothFail F S G end (front ++ rest) fault
+      → NamedFails end (p ++ (NULL_NAME ∷ rest)) (BadName (end - length (NULL_NAME ∷ rest)))
 
 -- # Layouts
 
@@ -97,3 +72,19 @@ ProcessorLayout = Both Named (Both Byte (Both Double Byte))
 
 abbrev pub ProcessorLayoutFails : ℕ → List ℕ → DataFault → Type 0
 ProcessorLayoutFails = BothFail NamedFails Named (BothFail (FewerThan 1) Byte (BothFail (FewerThan 4) Double (FewerThan 1)))
+
+-- # Terms that hold terms
+
+-- What stands in front of the terms that a term of an opcode holds, and the term that they make with it: a name, for a
+-- Device one with a segment, and for a Processor its registers too (ACPI 6.5, 20.2.5.1 and 20.2.5.2).
+pub data Head : ℕ → (List Term → Term) → List ℕ → Type 0 where
+  scope_head : {path : Path} {b : List ℕ} → NameOf path b → Head SCOPE_OP (λ terms. Scope path terms) b
+  device_head : {path : Path} {b : List ℕ} → Named path b → Head DEVICE_OP (λ terms. Device path terms) b
+  processor_head : {path : Path} {id block len : ℕ} {b : List ℕ} → ProcessorLayout (path, (id, (block, len))) b
+      → Head PROCESSOR_OP (λ terms. Processor path id block len terms) b
+
+-- its first fault
+pub data HeadFails : ℕ → ℕ → List ℕ → DataFault → Type 0 where
+  scope_head_fails : {end : ℕ} {bytes : List ℕ} {fault : DataFault} → NameFails end bytes fault → HeadFails SCOPE_OP end bytes fault
+  device_head_fails : {end : ℕ} {bytes : List ℕ} {fault : DataFault} → NamedFails end bytes fault → HeadFails DEVICE_OP end bytes fault
+  processor_head_fails : {end : ℕ} {bytes : List ℕ} {fault : DataFault} → ProcessorLayoutFails end bytes fault → HeadFails PROCESSOR_OP end bytes fault

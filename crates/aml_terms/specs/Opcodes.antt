@@ -1,23 +1,28 @@
--- Opcodes of terms: a byte, or 5B and a second byte, which together are 0x5B00 plus the second byte (ACPI 6.5, 20.3).
+-- Opcodes of terms: a byte, or the prefix 5B and a second byte, which together are 0x5B00 plus the second byte (ACPI 6.5, 20.3).
 use Rattle.std.specs.Prelude.{ℕ, ◌-◌, Bool, ◌||◌, List, [], ◌∷◌, nat_lt, ◌==◌, if◌then◌else◌}
+use Rattle.aml_data.specs.declared.opcode.TheConstants.{EXT_OP_PREFIX}
+use Rattle.aml_terms.specs.declared.opcode.TheConstants.{EXTENDED, ALIAS_OP, NAME_OP, SCOPE_OP, METHOD_OP, EXTERNAL_OP, IF_OP, ELSE_OP, WHILE_OP, MUTEX_OP, EVENT_OP}
+use Rattle.aml_terms.specs.declared.opcode.TheConstants.{OP_REGION_OP, FIELD_OP, DEVICE_OP, PROCESSOR_OP, POWER_RES_OP, THERMAL_ZONE_OP, INDEX_FIELD_OP, BANK_FIELD_OP}
 
 -- the bytes of an opcode
 abbrev pub opcode_bytes : ℕ → List ℕ
-opcode_bytes opcode = if nat_lt opcode 256 then opcode ∷ [] else 91 ∷ (opcode - 23296) ∷ []
+opcode_bytes opcode = if nat_lt opcode 0x100 then opcode ∷ [] else EXT_OP_PREFIX ∷ (opcode - EXTENDED) ∷ []
 
--- Name, Alias and External, and behind 5B Mutex, Event and OperationRegion
+-- the terms that hold no terms and are read whole
 abbrev pub is_plain : ℕ → Bool
-is_plain opcode = (opcode == 8) || (opcode == 6) || (opcode == 21) || (opcode == 23297) || (opcode == 23298) || (opcode == 23424)
+is_plain opcode =
+    (opcode == NAME_OP) || (opcode == ALIAS_OP) || (opcode == EXTERNAL_OP)
+    || (opcode == MUTEX_OP) || (opcode == EVENT_OP) || (opcode == OP_REGION_OP)
 
--- Scope, and behind 5B Device and Processor: they hold terms
+-- the terms that hold terms
 abbrev pub is_holder : ℕ → Bool
-is_holder opcode = (opcode == 16) || (opcode == 23426) || (opcode == 23427)
+is_holder opcode = (opcode == SCOPE_OP) || (opcode == DEVICE_OP) || (opcode == PROCESSOR_OP)
 
--- Method, If, Else and While, and behind 5B Field, PowerResource, ThermalZone, IndexField and BankField: their bodies aren't read
+-- the terms whose bodies aren't read
 abbrev pub is_unread : ℕ → Bool
 is_unread opcode =
-    (opcode == 20) || (opcode == 160) || (opcode == 161) || (opcode == 162)
-    || (opcode == 23425) || (opcode == 23428) || (opcode == 23429) || (opcode == 23430) || (opcode == 23431)
+    (opcode == METHOD_OP) || (opcode == IF_OP) || (opcode == ELSE_OP) || (opcode == WHILE_OP)
+    || (opcode == FIELD_OP) || (opcode == POWER_RES_OP) || (opcode == THERMAL_ZONE_OP) || (opcode == INDEX_FIELD_OP) || (opcode == BANK_FIELD_OP)
 
 -- an opcode of the profile
 abbrev pub is_term : ℕ → Bool

@@ -6,6 +6,8 @@ use Rattle.aml_data.specs.Segment.{joined}
 use Rattle.aml_data.specs.Written.{written, written_constant, written_name, sized, IsWritable, IsWritablePath}
 use Rattle.aml_terms.specs.declared.term.Term.{Term, Term-F, fold-Term, out-Term}
 use Rattle.aml_terms.specs.declared.term.Term.TheOpen as layer
+use Rattle.aml_terms.specs.declared.term.TheConstants.{DEEPEST}
+use Rattle.aml_terms.specs.declared.opcode.TheConstants.{NAME_OP, ALIAS_OP, EXTERNAL_OP, MUTEX_OP, EVENT_OP, OP_REGION_OP, SCOPE_OP, DEVICE_OP, PROCESSOR_OP}
 use Rattle.aml_terms.specs.Opcodes.{opcode_bytes, is_unread}
 use Rattle.aml_terms.specs.Layouts.{HasSegment}
 
@@ -15,16 +17,16 @@ written_registers id block len = id ∷ (to_le_bytes w32 block ++ (len ∷ []))
 
 -- one layer of a term, the terms in which are written already
 abbrev pub written_layer : Term-F (List ℕ) → List ℕ
-written_layer (layer.Name path value) = 8 ∷ (written_name path ++ written value)
-written_layer (layer.Scope path terms) = 16 ∷ sized (written_name path ++ joined terms)
-written_layer (layer.Device path terms) = 91 ∷ 130 ∷ sized (written_name path ++ joined terms)
-written_layer (layer.Processor path id block len terms) = 91 ∷ 131 ∷ sized ((written_name path ++ written_registers id block len) ++ joined terms)
+written_layer (layer.Name path value) = opcode_bytes NAME_OP ++ (written_name path ++ written value)
+written_layer (layer.Scope path terms) = opcode_bytes SCOPE_OP ++ sized (written_name path ++ joined terms)
+written_layer (layer.Device path terms) = opcode_bytes DEVICE_OP ++ sized (written_name path ++ joined terms)
+written_layer (layer.Processor path id block len terms) = opcode_bytes PROCESSOR_OP ++ sized ((written_name path ++ written_registers id block len) ++ joined terms)
 written_layer (layer.Unread opcode body) = opcode_bytes opcode ++ sized body
-written_layer (layer.Alias source alias) = 6 ∷ (written_name source ++ written_name alias)
-written_layer (layer.External path kind args) = 21 ∷ (written_name path ++ (kind ∷ args ∷ []))
-written_layer (layer.Mutex path flags) = 91 ∷ 1 ∷ (written_name path ++ (flags ∷ []))
-written_layer (layer.Event path) = 91 ∷ 2 ∷ written_name path
-written_layer (layer.Region path space offset len) = 91 ∷ 128 ∷ (written_name path ++ (space ∷ (written_constant offset ++ written_constant len)))
+written_layer (layer.Alias source alias) = opcode_bytes ALIAS_OP ++ (written_name source ++ written_name alias)
+written_layer (layer.External path kind args) = opcode_bytes EXTERNAL_OP ++ (written_name path ++ (kind ∷ args ∷ []))
+written_layer (layer.Mutex path flags) = opcode_bytes MUTEX_OP ++ (written_name path ++ (flags ∷ []))
+written_layer (layer.Event path) = opcode_bytes EVENT_OP ++ written_name path
+written_layer (layer.Region path space offset len) = opcode_bytes OP_REGION_OP ++ (written_name path ++ (space ∷ (written_constant offset ++ written_constant len)))
 
 -- a term
 unfoldable pub written_term : Term → List ℕ
@@ -61,4 +63,4 @@ IsWritableTerm depth term = IsWritableLayer (AreWritable depth) (out-Term term)
 
 -- the terms of a block that can be written but for their length
 abbrev pub AreWritableTerms : List Term → Type 0
-AreWritableTerms terms = AllByRecursion (IsWritableTerm 32) terms
+AreWritableTerms terms = AllByRecursion (IsWritableTerm DEEPEST) terms

@@ -5,10 +5,8 @@ ghost use Rattle.aml_terms.specs.Written.{written_term, written_terms};
 ghost use Rattle.aml_terms.specs.Written.{AreWritable, AreWritableTerms, IsWritableTerm};
 
 use crate::term::{DEEPEST, Term};
+use aml_data::limits::TOO_LONG;
 use aml_data::{constant_len, length_len, name_len, written_len};
-
-/// Lengths are counted up to here: no PkgLength counts so many bytes (ACPI 6.5, 20.2.4).
-const TOO_LONG: u64 = 0x1000_0000;
 
 /// How many bytes an opcode has.
 fn opcode_len(opcode: u16) -> u64

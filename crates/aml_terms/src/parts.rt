@@ -1,14 +1,18 @@
 ghost use Rattle.std.specs.Prelude.{◌≡◌, ◌<◌, ◌≤◌, ◌^◌, length, IfOk};
-ghost use Rattle.aml_data.specs.Reading.{Gives, Tells};
-ghost use Rattle.aml_terms.specs.ReadingParts.{named_at, double_at};
+ghost use Rattle.aml_data.specs.inner.Reading.{Gives, Tells};
+ghost use Rattle.aml_terms.specs.inner.ReadingParts.{named_at, double_at};
 
 use aml_data::{DataFault, Path, name_of};
 use std::alloc::Global;
 
 /// The name that stands first, which has a segment, and the bytes after it. `end` is the place where the
 /// bytes end.
-#[tactic(auto, unfolding(crate::specs::ReadingParts::named_at))]
-pub(crate) fn named_of(alloc: Global, bytes: &[u8], end: usize) -> Result<(Path, &[u8]), DataFault>
+#[tactic(auto, unfolding(crate::specs::inner::ReadingParts::named_at))]
+pub(crate) fn read_named(
+    alloc: Global,
+    bytes: &[u8],
+    end: usize,
+) -> Result<(Path, &[u8]), DataFault>
     requires within { length bytes.now ≤ end }
     requires small { end < 2 ^ 32 }
     ensures value { Gives (λ x. (x.0, x.1.now)) result (named_at end bytes.now) }
@@ -23,7 +27,7 @@ pub(crate) fn named_of(alloc: Global, bytes: &[u8], end: usize) -> Result<(Path,
 }
 
 /// The number of the first four bytes, lowest first, and the bytes after them.
-pub(crate) fn double_of(bytes: &[u8], end: usize) -> Result<(u32, &[u8]), DataFault>
+pub(crate) fn read_double(bytes: &[u8], end: usize) -> Result<(u32, &[u8]), DataFault>
     ensures value { Tells (λ x. (x.0, x.1.now)) result (double_at end bytes.now) }
     ensures shorter { IfOk result (λ x. length x.1.now < length bytes.now) }
 {

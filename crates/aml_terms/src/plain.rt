@@ -1,19 +1,19 @@
 //! Terms that hold no terms, each behind its opcode (ACPI 6.5, 20.2.5).
 
 ghost use Rattle.std.specs.Prelude.{◌≡◌, ◌<◌, ◌≤◌, ◌^◌, length, IfOk};
-ghost use Rattle.aml_terms.specs.Reading.{Gives, name_term_at, alias_at, external_at, mutex_at};
-ghost use Rattle.aml_terms.specs.Reading.{event_at, region_at, unread_at};
+ghost use Rattle.aml_terms.specs.inner.Reading.{Gives, name_term_at, alias_at, external_at, mutex_at};
+ghost use Rattle.aml_terms.specs.inner.Reading.{event_at, region_at, unread_at};
 
 use crate::fault::TermFault;
-use crate::parts::named_of;
+use crate::parts::read_named;
 use crate::term::Term;
 use aml_data::{byte_of, constant_of, name_of, object_of, window_of};
-use pw_base::List;
+use pw_base::CompactList;
 use std::alloc::Global;
 
 /// The name and the object of a Name, and the bytes after them.
-#[tactic(auto, unfolding(crate::specs::Reading::name_term_at))]
-pub(crate) fn name_term_of(
+#[tactic(auto, unfolding(crate::specs::inner::Reading::name_term_at))]
+pub(crate) fn read_name_term(
     alloc: Global,
     bytes: &[u8],
     end: usize,
@@ -23,27 +23,31 @@ pub(crate) fn name_term_of(
     ensures value { Gives (λ x. (x.0, x.1.now)) result (name_term_at end bytes.now) }
     ensures shorter { IfOk result (λ x. length x.1.now < length bytes.now) }
 {
-    let (path, rest) = named_of(alloc, bytes, end)?;
+    let (path, rest) = read_named(alloc, bytes, end)?;
     let (value, rest) = object_of(alloc, rest, end)?;
     Ok((Term::Name { path, value }, rest))
 }
 
 /// The name of an object and its second name, and the bytes after them.
-#[tactic(auto, unfolding(crate::specs::Reading::alias_at))]
-pub(crate) fn alias_of(alloc: Global, bytes: &[u8], end: usize) -> Result<(Term, &[u8]), TermFault>
+#[tactic(auto, unfolding(crate::specs::inner::Reading::alias_at))]
+pub(crate) fn read_alias(
+    alloc: Global,
+    bytes: &[u8],
+    end: usize,
+) -> Result<(Term, &[u8]), TermFault>
     requires within { length bytes.now ≤ end }
     requires small { end < 2 ^ 32 }
     ensures value { Gives (λ x. (x.0, x.1.now)) result (alias_at end bytes.now) }
     ensures shorter { IfOk result (λ x. length x.1.now < length bytes.now) }
 {
     let (source, rest) = name_of(alloc, bytes, end)?;
-    let (alias, rest) = named_of(alloc, rest, end)?;
+    let (alias, rest) = read_named(alloc, rest, end)?;
     Ok((Term::Alias { source, alias }, rest))
 }
 
 /// The name, the type and the number of arguments of an External, and the bytes after them.
-#[tactic(auto, unfolding(crate::specs::Reading::external_at))]
-pub(crate) fn external_of(
+#[tactic(auto, unfolding(crate::specs::inner::Reading::external_at))]
+pub(crate) fn read_external(
     alloc: Global,
     bytes: &[u8],
     end: usize,
@@ -60,8 +64,12 @@ pub(crate) fn external_of(
 }
 
 /// The name and the flags of a Mutex, and the bytes after them.
-#[tactic(auto, unfolding(crate::specs::Reading::mutex_at))]
-pub(crate) fn mutex_of(alloc: Global, bytes: &[u8], end: usize) -> Result<(Term, &[u8]), TermFault>
+#[tactic(auto, unfolding(crate::specs::inner::Reading::mutex_at))]
+pub(crate) fn read_mutex(
+    alloc: Global,
+    bytes: &[u8],
+    end: usize,
+) -> Result<(Term, &[u8]), TermFault>
     requires within { length bytes.now ≤ end }
     requires small { end < 2 ^ 32 }
     ensures value { Gives (λ x. (x.0, x.1.now)) result (mutex_at end bytes.now) }
@@ -73,8 +81,12 @@ pub(crate) fn mutex_of(alloc: Global, bytes: &[u8], end: usize) -> Result<(Term,
 }
 
 /// The name of an Event, and the bytes after it.
-#[tactic(auto, unfolding(crate::specs::Reading::event_at))]
-pub(crate) fn event_of(alloc: Global, bytes: &[u8], end: usize) -> Result<(Term, &[u8]), TermFault>
+#[tactic(auto, unfolding(crate::specs::inner::Reading::event_at))]
+pub(crate) fn read_event(
+    alloc: Global,
+    bytes: &[u8],
+    end: usize,
+) -> Result<(Term, &[u8]), TermFault>
     requires within { length bytes.now ≤ end }
     requires small { end < 2 ^ 32 }
     ensures value { Gives (λ x. (x.0, x.1.now)) result (event_at end bytes.now) }
@@ -85,8 +97,12 @@ pub(crate) fn event_of(alloc: Global, bytes: &[u8], end: usize) -> Result<(Term,
 }
 
 /// The name, the space, the offset and the length of an OperationRegion, and the bytes after them.
-#[tactic(auto, unfolding(crate::specs::Reading::region_at))]
-pub(crate) fn region_of(alloc: Global, bytes: &[u8], end: usize) -> Result<(Term, &[u8]), TermFault>
+#[tactic(auto, unfolding(crate::specs::inner::Reading::region_at))]
+pub(crate) fn read_region(
+    alloc: Global,
+    bytes: &[u8],
+    end: usize,
+) -> Result<(Term, &[u8]), TermFault>
     requires within { length bytes.now ≤ end }
     requires small { end < 2 ^ 32 }
     ensures value { Gives (λ x. (x.0, x.1.now)) result (region_at end bytes.now) }
@@ -106,8 +122,8 @@ pub(crate) fn region_of(alloc: Global, bytes: &[u8], end: usize) -> Result<(Term
 }
 
 /// The body of a term of this opcode, kept as it is, and the bytes after it.
-#[tactic(auto, unfolding(crate::specs::Reading::unread_at))]
-pub(crate) fn unread_of(
+#[tactic(auto, unfolding(crate::specs::inner::Reading::unread_at))]
+pub(crate) fn read_unread(
     alloc: Global,
     opcode: u16,
     bytes: &[u8],
@@ -118,6 +134,6 @@ pub(crate) fn unread_of(
     ensures shorter { IfOk result (λ x. length x.1.now < length bytes.now) }
 {
     let (body, rest) = window_of(bytes, end)?;
-    let body = List::from_slice(alloc, body)?;
+    let body = CompactList::from_slice(alloc, body)?;
     Ok((Term::Unread { opcode, body }, rest))
 }

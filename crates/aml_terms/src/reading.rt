@@ -1,40 +1,44 @@
-ghost use Rattle.std.specs.Prelude.{◌≢◌, ◌<◌, ◌≤◌, ◌-◌, ◌^◌, List as list, length, Ok, Err, IfOk, IfErr};
-ghost use Rattle.aml_terms.specs.declared.term.Term.TheVariants.{Scope, Device, Processor};
+ghost use Rattle.std.specs.Prelude.{◌≢◌, ◌<◌, ◌≤◌, ◌-◌, ◌^◌, List as list, length, Ok, Err, IsTrue, IfOk, IfErr};
+ghost use Rattle.aml_terms.specs.Opcodes.{is_holder};
 ghost use Rattle.aml_terms.specs.declared.term.Term.{Term as term_type};
 ghost use Rattle.aml_terms.specs.declared.fault.TermFault.{TermFault as fault_type};
 ghost use Rattle.aml_terms.specs.declared.fault.TermFault.TheVariants.{Data};
 ghost use Rattle.aml_data.specs.declared.fault.DataFault.TheVariants.{Memory};
-ghost use Rattle.aml_data.specs.Reading.{name_at};
 ghost use Rattle.aml_terms.specs.Grammar.{TermsSpell};
 ghost use Rattle.aml_terms.specs.Faults.{TermsFail};
-ghost use Rattle.aml_terms.specs.ReadingParts.{named_at};
-ghost use Rattle.aml_terms.specs.Reading.{Gives, holder_at, processor_at, behind_opcode};
-ghost use Rattle.aml_terms.specs.Reading.{within, term_within, terms_within, terms_at};
+ghost use Rattle.aml_terms.specs.inner.Reading.{Gives, holder_at, behind_opcode};
+ghost use Rattle.aml_terms.specs.inner.Reading.{within, term_within, terms_within, terms_at};
 
 use crate::fault::TermFault;
-use crate::opcode::{is_unread, opcode_of};
-use crate::parts::{double_of, named_of};
-use crate::plain::{alias_of, event_of, external_of, mutex_of, name_term_of, region_of, unread_of};
+use crate::front::read_front;
+use crate::opcode::{
+    ALIAS_OP, DEVICE_OP, EVENT_OP, EXTERNAL_OP, MUTEX_OP, NAME_OP, OP_REGION_OP, PROCESSOR_OP,
+    SCOPE_OP, keeps_body, read_opcode,
+};
+use crate::plain::{
+    read_alias, read_event, read_external, read_mutex, read_name_term, read_region, read_unread,
+};
 use crate::term::{DEEPEST, Term};
-use aml_data::{DataFault, byte_of, name_of, window_of};
-use pw_base::List;
+use aml_data::{DataFault, window_of};
+use pw_base::CompactList;
 use std::alloc::Global;
 
-/// The path and the terms of a Scope, and the bytes after them. Its opcode stands at `at`, and `depth`
-/// levels may be opened, its own among them (ACPI 6.5, 20.2.5.1).
+/// A term of this opcode, which holds terms, and the bytes after it. Its opcode stands at `at`, and
+/// `depth` levels may be opened, its own among them (ACPI 6.5, 20.2.5.1 and 20.2.5.2).
 #[cycle(terms)]
-#[tactic(auto, unfolding(crate::specs::Reading::holder_at, crate::specs::Reading::within))]
-fn scope_of(
+#[tactic(auto, unfolding(crate::specs::inner::Reading::holder_at, crate::specs::inner::Reading::within))]
+fn read_holder(
     alloc: Global,
+    opcode: u16,
     bytes: &[u8],
     at: usize,
     end: usize,
     depth: u32,
 ) -> Result<(Term, &[u8]), TermFault>
+    requires opcode { IsTrue (is_holder opcode) }
     requires within { length bytes.now ≤ end }
     requires small { end < 2 ^ 32 }
-    ensures value { Gives (λ x. (x.0, x.1.now)) result
-        (holder_at (within depth) name_at (λ path terms. Scope path terms) at end bytes.now) }
+    ensures value { Gives (λ x. (x.0, x.1.now)) result (holder_at (within depth) opcode at end bytes.now) }
     ensures shorter { IfOk result (λ x. length x.1.now < length bytes.now) }
 {
     if depth == 0 {
@@ -42,80 +46,16 @@ fn scope_of(
     }
     let (inside, after) = window_of(bytes, end)?;
     let end = end - after.len();
-    let (path, inside) = name_of(alloc, inside, end)?;
-    let terms = terms_within(alloc, inside, end, depth - 1)?;
-    Ok((Term::Scope { path, terms }, after))
-}
-
-/// The same of a Device, whose name has a segment (ACPI 6.5, 20.2.5.2).
-#[cycle(terms)]
-#[tactic(auto, unfolding(crate::specs::Reading::holder_at, crate::specs::Reading::within))]
-fn device_of(
-    alloc: Global,
-    bytes: &[u8],
-    at: usize,
-    end: usize,
-    depth: u32,
-) -> Result<(Term, &[u8]), TermFault>
-    requires within { length bytes.now ≤ end }
-    requires small { end < 2 ^ 32 }
-    ensures value { Gives (λ x. (x.0, x.1.now)) result
-        (holder_at (within depth) named_at (λ path terms. Device path terms) at end bytes.now) }
-    ensures shorter { IfOk result (λ x. length x.1.now < length bytes.now) }
-{
-    if depth == 0 {
-        return Err(TermFault::Data(DataFault::TooDeep { at }));
-    }
-    let (inside, after) = window_of(bytes, end)?;
-    let end = end - after.len();
-    let (path, inside) = named_of(alloc, inside, end)?;
-    let terms = terms_within(alloc, inside, end, depth - 1)?;
-    Ok((Term::Device { path, terms }, after))
-}
-
-/// The same of a Processor: behind its name stand its identifier and the address and length of its
-/// registers (ACPI 5.1, 20.2.5.2).
-#[cycle(terms)]
-#[tactic(auto, unfolding(crate::specs::Reading::holder_at, crate::specs::Reading::within))]
-fn processor_of(
-    alloc: Global,
-    bytes: &[u8],
-    at: usize,
-    end: usize,
-    depth: u32,
-) -> Result<(Term, &[u8]), TermFault>
-    requires within { length bytes.now ≤ end }
-    requires small { end < 2 ^ 32 }
-    ensures value { Gives (λ x. (x.0, x.1.now)) result
-        (holder_at (within depth) processor_at
-        (λ v terms. Processor v.0 v.1.0 v.1.1.0 v.1.1.1 terms) at end bytes.now) }
-    ensures shorter { IfOk result (λ x. length x.1.now < length bytes.now) }
-{
-    if depth == 0 {
-        return Err(TermFault::Data(DataFault::TooDeep { at }));
-    }
-    let (inside, after) = window_of(bytes, end)?;
-    let end = end - after.len();
-    let (path, inside) = named_of(alloc, inside, end)?;
-    let (id, inside) = byte_of(inside, end)?;
-    let (block, inside) = double_of(inside, end)?;
-    let (length, inside) = byte_of(inside, end)?;
-    let terms = terms_within(alloc, inside, end, depth - 1)?;
-    let term = Term::Processor {
-        path,
-        id,
-        block,
-        length,
-        terms,
-    };
-    Ok((term, after))
+    let (front, inside) = read_front(alloc, opcode, inside, end)?;
+    let terms = read_terms(alloc, inside, end, depth - 1)?;
+    Ok((front.holding(terms), after))
 }
 
 /// A term of this opcode, which stands at `at`, from the bytes behind the opcode, and the bytes after
 /// it (ACPI 6.5, 20.2.5).
 #[cycle(terms)]
-#[tactic(auto, unfolding(crate::specs::Reading::behind_opcode))]
-fn behind_opcode(
+#[tactic(auto, unfolding(crate::specs::inner::Reading::behind_opcode))]
+fn read_behind(
     alloc: Global,
     opcode: u16,
     bytes: &[u8],
@@ -130,18 +70,16 @@ fn behind_opcode(
     ensures shorter { IfOk result (λ x. length x.1.now < length bytes.now) }
 {
     match opcode {
-        0x08 => name_term_of(alloc, bytes, end),
-        0x06 => alias_of(alloc, bytes, end),
-        0x15 => external_of(alloc, bytes, end),
-        0x5B01 => mutex_of(alloc, bytes, end),
-        0x5B02 => event_of(alloc, bytes, end),
-        0x5B80 => region_of(alloc, bytes, end),
-        0x10 => scope_of(alloc, bytes, at, end, depth),
-        0x5B82 => device_of(alloc, bytes, at, end, depth),
-        0x5B83 => processor_of(alloc, bytes, at, end, depth),
+        NAME_OP => read_name_term(alloc, bytes, end),
+        ALIAS_OP => read_alias(alloc, bytes, end),
+        EXTERNAL_OP => read_external(alloc, bytes, end),
+        MUTEX_OP => read_mutex(alloc, bytes, end),
+        EVENT_OP => read_event(alloc, bytes, end),
+        OP_REGION_OP => read_region(alloc, bytes, end),
+        SCOPE_OP | DEVICE_OP | PROCESSOR_OP => read_holder(alloc, opcode, bytes, at, end, depth),
         _ => {
-            if is_unread(opcode) {
-                return unread_of(alloc, opcode, bytes, end);
+            if keeps_body(opcode) {
+                return read_unread(alloc, opcode, bytes, end);
             }
             Err(TermFault::BadTerm { at, opcode })
         }
@@ -150,8 +88,8 @@ fn behind_opcode(
 
 /// The term that stands first, nesting at most so deep, and the bytes after it.
 #[cycle(terms)]
-#[tactic(auto, unfolding(crate::specs::Reading::term_by))]
-fn term_within(
+#[tactic(auto, unfolding(crate::specs::inner::Reading::term_by))]
+fn read_term(
     alloc: Global,
     bytes: &[u8],
     end: usize,
@@ -162,18 +100,18 @@ fn term_within(
     ensures value { Gives (λ x. (x.0, x.1.now)) result (term_within depth end bytes.now) }
     ensures shorter { IfOk result (λ x. length x.1.now < length bytes.now) }
 {
-    let (opcode, rest) = opcode_of(bytes, end)?;
-    behind_opcode(alloc, opcode, rest, end - bytes.len(), end, depth)
+    let (opcode, rest) = read_opcode(bytes, end)?;
+    read_behind(alloc, opcode, rest, end - bytes.len(), end, depth)
 }
 
 /// Terms to the end of the bytes, each nesting at most so deep.
 #[cycle(terms)]
-fn terms_within(
+fn read_terms(
     alloc: Global,
     bytes: &[u8],
     end: usize,
     depth: u32,
-) -> Result<List<Term>, TermFault>
+) -> Result<CompactList<Term>, TermFault>
     requires within { length bytes.now ≤ end }
     requires small { end < 2 ^ 32 }
     ensures { Gives (λ x. x) result (terms_within depth end bytes.now) }
@@ -181,17 +119,17 @@ fn terms_within(
     let mut terms = Vec::new(alloc);
     let mut rest = bytes;
     while !rest.is_empty() {
-        let (term, after) = term_within(alloc, rest, end, depth)?;
+        let (term, after) = read_term(alloc, rest, end, depth)?;
         terms.push(term)?;
         rest = after;
     }
-    Ok(List::from_vec(alloc, terms)?)
+    Ok(CompactList::from_vec(alloc, terms)?)
 }
 
 /// The terms that the bytes spell, all of the bytes. `end` is the place where the bytes end
 /// (ACPI 6.5, 20.2.5).
-#[tactic(auto, unfolding(crate::specs::Reading::terms_at))]
-pub fn terms_of(alloc: Global, bytes: &[u8], end: usize) -> Result<List<Term>, TermFault>
+#[tactic(auto, unfolding(crate::specs::inner::Reading::terms_at))]
+pub fn terms_of(alloc: Global, bytes: &[u8], end: usize) -> Result<CompactList<Term>, TermFault>
     requires within { length bytes.now ≤ end }
     requires small { end < 2 ^ 32 }
     // What is read is spelled by the bytes.
@@ -205,5 +143,5 @@ pub fn terms_of(alloc: Global, bytes: &[u8], end: usize) -> Result<List<Term>, T
     // It is what reading from left to right gives.
     ensures reads { Gives (λ x. x) result (terms_at end bytes.now) }
 {
-    terms_within(alloc, bytes, end, DEEPEST)
+    read_terms(alloc, bytes, end, DEEPEST)
 }

@@ -1,11 +1,11 @@
 use aml_data::{Data, Path};
-use pw_base::List;
+use pw_base::CompactList;
 
 /// How deep Scope, Device and Processor nest at most: a limit of this project's profile.
 pub(crate) const DEEPEST: u32 = 32;
 
 /// One term of a block: what it places in the namespace, or what is passed over (ACPI 6.5, 20.2.5).
-#[derive(Debug, Drop)]
+#[derive(Drop)]
 pub enum Term {
     /// An object with a name.
     Name {
@@ -15,12 +15,12 @@ pub enum Term {
     /// Terms whose names are read from a place on that is there already.
     Scope {
         path: Path,
-        terms: List<Term>,
+        terms: CompactList<Term>,
     },
     /// A device, and the terms in it.
     Device {
         path: Path,
-        terms: List<Term>,
+        terms: CompactList<Term>,
     },
     /// A processor declared by a term of its own, as editions before 6.0 had it. The block is the
     /// address and length of its registers.
@@ -29,12 +29,12 @@ pub enum Term {
         id: u8,
         block: u32,
         length: u8,
-        terms: List<Term>,
+        terms: CompactList<Term>,
     },
     /// A term with a PkgLength whose body isn't read. An opcode behind 5B is 0x5B00 plus its byte.
     Unread {
         opcode: u16,
-        body: List<u8>,
+        body: CompactList<u8>,
     },
     /// A second name of an object.
     Alias {

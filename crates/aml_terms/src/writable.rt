@@ -3,7 +3,7 @@ ghost use Rattle.aml_data.specs.Written.{IsWritablePath};
 ghost use Rattle.aml_terms.specs.Layouts.{HasSegment};
 ghost use Rattle.aml_terms.specs.Written.{AreWritable, AreWritableTerms, IsWritableTerm};
 
-use crate::opcode::is_unread;
+use crate::opcode::keeps_body;
 use crate::term::{DEEPEST, Term};
 use aml_data::{Path, is_writable, is_writable_name};
 
@@ -53,7 +53,7 @@ fn is_writable_term(term: &Term, depth: u32) -> bool
         } => {
             is_writable_named(path) && is_address(*block) && are_writable(terms.as_slice(), depth)
         }
-        Term::Unread { opcode, .. } => is_unread(*opcode),
+        Term::Unread { opcode, .. } => keeps_body(*opcode),
         Term::Alias { source, alias } => is_writable_name(source) && is_writable_named(alias),
         Term::External { path, .. } => is_writable_name(path),
         Term::Mutex { path, .. } => is_writable_name(path),

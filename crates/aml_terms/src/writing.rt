@@ -1,64 +1,111 @@
-ghost use Rattle.std.specs.Prelude.{◌≡◌, ◌<◌, ◌≤◌, ◌^◌, ◌++◌, ◌∷◌, [], length, IsTrue, IfOk, OnOk};
-ghost use Rattle.aml_data.specs.Written.{sized, written, written_constant, written_name};
+ghost use Rattle.std.specs.Prelude.{◌≡◌, ◌+◌, ◌-◌, ◌<◌, ◌≤◌, ◌^◌, ◌++◌, ◌∷◌, [], length, take, drop, is_ok};
+ghost use Rattle.std.specs.Prelude.{IsTrue, IfOk, OnOk, OnErr};
+ghost use Rattle.aml_data.specs.declared.limits.TheConstants.{LONGEST_CONTENT};
+ghost use Rattle.aml_data.specs.Written.{sized, written, written_constant, written_length};
+ghost use Rattle.aml_data.specs.Written.{written_name};
 ghost use Rattle.aml_data.specs.Written.{IsWritable, IsWritablePath};
-ghost use Rattle.aml_terms.specs.Opcodes.{is_unread, opcode_bytes};
+ghost use Rattle.aml_terms.specs.Opcodes.{is_term, opcode_bytes};
+ghost use Rattle.aml_terms.specs.inner.Appending.{Appends};
 ghost use Rattle.aml_terms.specs.Written.{written_registers, written_term, written_terms};
 ghost use Rattle.aml_terms.specs.Written.{AreWritable, AreWritableTerms, IsWritableTerm};
 
-use crate::opcode::SECOND;
+use crate::opcode::{
+    ALIAS_OP, DEVICE_OP, EVENT_OP, EXTENDED, EXTERNAL_OP, MUTEX_OP, NAME_OP, OP_REGION_OP,
+    PROCESSOR_OP, SCOPE_OP,
+};
 use crate::term::{DEEPEST, Term};
+use aml_data::opcode::EXT_OP_PREFIX;
 use aml_data::{Data, Path, encode, encode_constant, encode_length, encode_name};
 use pw_base::Memory;
 use std::alloc::Global;
 
-/// Appends a content behind its PkgLength (ACPI 6.5, 20.2.4).
-fn put_sized(alloc: Global, content: &[u8], out: &mut Vec<u8>) -> Result<(), Memory>
-    requires { length content.now ≤ 268435451 }
-    ensures { OnOk result (out.new.items ≡ out.old.items ++ sized content.now) }
+fn put(bytes: &[u8], out: &mut Vec<u8>) -> Result<(), Memory>
+    ensures { Appends out.old.items out.new.items bytes.now (is_ok result) }
 {
-    encode_length(alloc, content.len(), out)?;
-    out.extend_from_slice(content)?;
+    out.extend_from_slice(bytes)?;
     Ok(())
 }
 
-/// Appends an opcode.
-fn put_opcode(opcode: u16, out: &mut Vec<u8>) -> Result<(), Memory>
-    requires { IsTrue (is_unread opcode) }
-    ensures { OnOk result (out.new.items ≡ out.old.items ++ opcode_bytes opcode) }
+#[tactic(auto, using(crate::proofs::Appended::appended))]
+fn put_name(alloc: Global, path: &Path, out: &mut Vec<u8>) -> Result<(), Memory>
+    requires { IsWritablePath path.now }
+    ensures { Appends out.old.items out.new.items (written_name path.now) (is_ok result) }
 {
-    if opcode < 0x100 {
-        out.push(opcode as u8)?;
-    } else {
-        out.extend_from_slice(&[0x5B, (opcode - SECOND) as u8])?;
-    }
-    Ok(())
+    encode_name(alloc, path, out)
 }
 
-/// Appends a Name.
-fn put_name_term(alloc: Global, path: &Path, value: &Data, out: &mut Vec<u8>) -> Result<(), Memory>
-    requires path { IsWritablePath path.now }
-    requires value { IsWritable value.now }
-    ensures { OnOk result (out.new.items ≡ out.old.items
-        ++ (8 ∷ (written_name path.now ++ written value.now))) }
+#[tactic(auto, using(crate::proofs::Appended::appended))]
+fn put_constant(alloc: Global, value: u64, out: &mut Vec<u8>) -> Result<(), Memory>
+    ensures { Appends out.old.items out.new.items (written_constant value) (is_ok result) }
 {
-    out.push(0x08)?;
-    encode_name(alloc, path, out)?;
+    encode_constant(alloc, value, out)
+}
+
+#[tactic(auto, using(crate::proofs::Appended::appended))]
+fn put_object(alloc: Global, value: &Data, out: &mut Vec<u8>) -> Result<(), Memory>
+    requires { IsWritable value.now }
+    ensures { Appends out.old.items out.new.items (written value.now) (is_ok result) }
+{
     encode(alloc, value, out)
 }
 
+#[tactic(auto, using(crate::proofs::Appended::appended))]
+fn put_length(alloc: Global, content: usize, out: &mut Vec<u8>) -> Result<(), Memory>
+    requires { content ≤ LONGEST_CONTENT }
+    ensures { Appends out.old.items out.new.items (written_length content) (is_ok result) }
+{
+    encode_length(alloc, content, out)
+}
+
+/// Appends a content behind its PkgLength (ACPI 6.5, 20.2.4).
+#[tactic(auto, using(crate::proofs::Appended::appended))]
+fn put_sized(alloc: Global, content: &[u8], out: &mut Vec<u8>) -> Result<(), Memory>
+    requires { length content.now ≤ LONGEST_CONTENT }
+    ensures { Appends out.old.items out.new.items (sized content.now) (is_ok result) }
+{
+    put_length(alloc, content.len(), out)?;
+    put(content, out)
+}
+
+/// Appends an opcode.
+#[tactic(auto, using(crate::proofs::Appended::appended))]
+fn put_opcode(opcode: u16, out: &mut Vec<u8>) -> Result<(), Memory>
+    requires { IsTrue (is_term opcode) }
+    ensures { Appends out.old.items out.new.items (opcode_bytes opcode) (is_ok result) }
+{
+    if opcode < 0x100 {
+        put(&[opcode as u8], out)
+    } else {
+        put(&[EXT_OP_PREFIX, (opcode - EXTENDED) as u8], out)
+    }
+}
+
+/// Appends a Name.
+#[tactic(auto, using(crate::proofs::Appended::appended))]
+fn put_name_term(alloc: Global, path: &Path, value: &Data, out: &mut Vec<u8>) -> Result<(), Memory>
+    requires path { IsWritablePath path.now }
+    requires value { IsWritable value.now }
+    ensures { Appends out.old.items out.new.items (opcode_bytes NAME_OP ++ (written_name path.now ++ written value.now)) (is_ok result) }
+{
+    put_opcode(NAME_OP, out)?;
+    put_name(alloc, path, out)?;
+    put_object(alloc, value, out)
+}
+
 /// Appends an Alias.
+#[tactic(auto, using(crate::proofs::Appended::appended))]
 fn put_alias(alloc: Global, source: &Path, alias: &Path, out: &mut Vec<u8>) -> Result<(), Memory>
     requires source { IsWritablePath source.now }
     requires alias { IsWritablePath alias.now }
-    ensures { OnOk result (out.new.items ≡ out.old.items
-        ++ (6 ∷ (written_name source.now ++ written_name alias.now))) }
+    ensures { Appends out.old.items out.new.items (opcode_bytes ALIAS_OP ++ (written_name source.now ++ written_name alias.now)) (is_ok result) }
 {
-    out.push(0x06)?;
-    encode_name(alloc, source, out)?;
-    encode_name(alloc, alias, out)
+    put_opcode(ALIAS_OP, out)?;
+    put_name(alloc, source, out)?;
+    put_name(alloc, alias, out)
 }
 
 /// Appends an External.
+#[tactic(auto, using(crate::proofs::Appended::appended))]
 fn put_external(
     alloc: Global,
     path: &Path,
@@ -67,37 +114,38 @@ fn put_external(
     out: &mut Vec<u8>,
 ) -> Result<(), Memory>
     requires { IsWritablePath path.now }
-    ensures { OnOk result (out.new.items ≡ out.old.items
-        ++ (21 ∷ (written_name path.now ++ (kind ∷ args ∷ [])))) }
+    ensures { Appends out.old.items out.new.items
+        (opcode_bytes EXTERNAL_OP ++ (written_name path.now ++ (kind ∷ args ∷ []))) (is_ok result) }
 {
-    out.push(0x15)?;
-    encode_name(alloc, path, out)?;
-    out.extend_from_slice(&[kind, args])?;
-    Ok(())
+    put_opcode(EXTERNAL_OP, out)?;
+    put_name(alloc, path, out)?;
+    put(&[kind, args], out)
 }
 
 /// Appends a Mutex.
+#[tactic(auto, using(crate::proofs::Appended::appended))]
 fn put_mutex(alloc: Global, path: &Path, flags: u8, out: &mut Vec<u8>) -> Result<(), Memory>
     requires { IsWritablePath path.now }
-    ensures { OnOk result (out.new.items ≡ out.old.items
-        ++ (91 ∷ 1 ∷ (written_name path.now ++ (flags ∷ [])))) }
+    ensures { Appends out.old.items out.new.items
+        (opcode_bytes MUTEX_OP ++ (written_name path.now ++ (flags ∷ []))) (is_ok result) }
 {
-    out.extend_from_slice(&[0x5B, 0x01])?;
-    encode_name(alloc, path, out)?;
-    out.push(flags)?;
-    Ok(())
+    put_opcode(MUTEX_OP, out)?;
+    put_name(alloc, path, out)?;
+    put(&[flags], out)
 }
 
 /// Appends an Event.
+#[tactic(auto, using(crate::proofs::Appended::appended))]
 fn put_event(alloc: Global, path: &Path, out: &mut Vec<u8>) -> Result<(), Memory>
     requires { IsWritablePath path.now }
-    ensures { OnOk result (out.new.items ≡ out.old.items ++ (91 ∷ 2 ∷ written_name path.now)) }
+    ensures { Appends out.old.items out.new.items (opcode_bytes EVENT_OP ++ written_name path.now) (is_ok result) }
 {
-    out.extend_from_slice(&[0x5B, 0x02])?;
-    encode_name(alloc, path, out)
+    put_opcode(EVENT_OP, out)?;
+    put_name(alloc, path, out)
 }
 
 /// Appends an OperationRegion.
+#[tactic(auto, using(crate::proofs::Appended::appended))]
 fn put_region(
     alloc: Global,
     path: &Path,
@@ -107,81 +155,115 @@ fn put_region(
     out: &mut Vec<u8>,
 ) -> Result<(), Memory>
     requires { IsWritablePath path.now }
-    ensures { OnOk result (out.new.items ≡ out.old.items ++ (91 ∷ 128 ∷ (written_name path.now
-        ++ (space ∷ (written_constant offset ++ written_constant length))))) }
+    ensures { Appends out.old.items out.new.items (opcode_bytes OP_REGION_OP ++ (written_name path.now
+        ++ (space ∷ (written_constant offset ++ written_constant length)))) (is_ok result) }
 {
-    out.extend_from_slice(&[0x5B, 0x80])?;
-    encode_name(alloc, path, out)?;
-    out.push(space)?;
-    encode_constant(alloc, offset, out)?;
-    encode_constant(alloc, length, out)
+    put_opcode(OP_REGION_OP, out)?;
+    put_name(alloc, path, out)?;
+    put(&[space], out)?;
+    put_constant(alloc, offset, out)?;
+    put_constant(alloc, length, out)
 }
 
-/// The name of a Scope or a Device, as it stands before the terms.
-fn head_of(alloc: Global, path: &Path) -> Result<Vec<u8>, Memory>
-    requires { IsWritablePath path.now }
-    ensures { IfOk result (λ head. head.items ≡ written_name path.now) }
+/// Brings the bytes from `end` on, four or fewer, in front of those from `at` on.
+fn bring_forward(bytes: &mut [u8], at: usize, end: usize)
+    requires order { at ≤ end }
+    requires within { end ≤ length bytes.old }
+    requires few { length bytes.old ≤ end + 4 }
+    ensures { bytes.new ≡ take at bytes.old ++ (drop end bytes.old ++ take (end - at) (drop at bytes.old)) }
 {
-    let mut head = Vec::new(alloc);
-    encode_name(alloc, path, &mut head)?;
-    Ok(head)
+    let size = bytes.len() - end;
+    let mut brought = [0; 4];
+    brought[..size].copy_from_slice(&bytes[end..]);
+    bytes.copy_within(at..end, at + size);
+    bytes[at..at + size].copy_from_slice(&brought[..size]);
 }
 
-/// What stands before the terms in a Processor.
-fn processor_head_of(
+/// Puts the PkgLength of what stands from `at` on in front of it, so that a content is written once and
+/// in its place (ACPI 6.5, 20.2.4).
+fn put_length_before(alloc: Global, at: usize, out: &mut Vec<u8>) -> Result<(), Memory>
+    requires within { at ≤ length out.old.items }
+    requires counted { length (drop at out.old.items) ≤ LONGEST_CONTENT }
+    ensures ok { OnOk result (out.new.items ≡ take at out.old.items ++ sized (drop at out.old.items)) }
+    ensures err { OnErr result (out.new.items ≡ out.old.items) }
+{
+    let end = out.len();
+    encode_length(alloc, end - at, out)?;
+    bring_forward(out.as_mut_slice(), at, end);
+    Ok(())
+}
+
+/// What stands between the name and the terms of a Processor.
+fn registers_of(id: u8, block: u32, length: u8) -> [u8; 6]
+    ensures { result ≡ written_registers id block length }
+{
+    let [a, b, c, d] = block.to_le_bytes();
+    [id, a, b, c, d, length]
+}
+
+/// Appends what a term holds behind its PkgLength: its name, its registers and its terms.
+#[cycle(terms)]
+#[tactic(auto, using(crate::proofs::Appended::appended))]
+fn put_held(
     alloc: Global,
     path: &Path,
-    id: u8,
-    block: u32,
-    length: u8,
-) -> Result<Vec<u8>, Memory>
-    requires { IsWritablePath path.now }
-    ensures { IfOk result (λ head. head.items ≡ written_name path.now ++ written_registers id block length) }
-{
-    let mut head = head_of(alloc, path)?;
-    head.push(id)?;
-    head.extend_from_slice(&block.to_le_bytes())?;
-    head.push(length)?;
-    Ok(head)
-}
-
-/// Appends a term that holds terms. `content` is what stands before them.
-#[cycle(terms)]
-fn put_holder(
-    alloc: Global,
-    opcode: &[u8],
-    mut content: Vec<u8>,
+    registers: &[u8],
     terms: &[Term],
     depth: u32,
     out: &mut Vec<u8>,
 ) -> Result<(), Memory>
+    requires path { IsWritablePath path.now }
     requires writable { AreWritable depth terms.now }
-    requires short { length (content.items ++ written_terms terms.now) ≤ 4194304 }
-    ensures { OnOk result (out.new.items ≡ out.old.items
-        ++ (opcode.now ++ sized (content.items ++ written_terms terms.now))) }
+    requires short { length (written_terms terms.now) < 2 ^ 28 }
+    ensures { Appends out.old.items out.new.items
+        ((written_name path.now ++ registers.now) ++ written_terms terms.now) (is_ok result) }
 {
-    put_terms(alloc, terms, depth, &mut content)?;
-    out.extend_from_slice(opcode)?;
-    put_sized(alloc, content.as_slice(), out)
+    put_name(alloc, path, out)?;
+    put(registers, out)?;
+    put_terms(alloc, terms, depth, out)
+}
+
+/// Appends a term that holds terms. `registers` stand between its name and them.
+#[cycle(terms)]
+#[tactic(auto, using(crate::proofs::Appended::appended))]
+fn put_holder(
+    alloc: Global,
+    opcode: u16,
+    path: &Path,
+    registers: &[u8],
+    terms: &[Term],
+    depth: u32,
+    out: &mut Vec<u8>,
+) -> Result<(), Memory>
+    requires opcode { IsTrue (is_term opcode) }
+    requires path { IsWritablePath path.now }
+    requires writable { AreWritable depth terms.now }
+    requires short { length (opcode_bytes opcode
+        ++ sized ((written_name path.now ++ registers.now) ++ written_terms terms.now)) < 2 ^ 28 }
+    ensures { Appends out.old.items out.new.items (opcode_bytes opcode
+        ++ sized ((written_name path.now ++ registers.now) ++ written_terms terms.now)) (is_ok result) }
+{
+    put_opcode(opcode, out)?;
+    let at = out.as_slice().len();
+    put_held(alloc, path, registers, terms, depth, out)?;
+    put_length_before(alloc, at, out)
 }
 
 /// Appends a term in which `depth` levels may be opened.
 #[cycle(terms)]
-#[tactic(auto, using(crate::proofs::WrittenTerms::layers))]
+#[tactic(auto, using(crate::proofs::Appended::appended, crate::proofs::WrittenTerms::layers))]
 fn put_term(alloc: Global, term: &Term, depth: u32, out: &mut Vec<u8>) -> Result<(), Memory>
     requires writable { IsWritableTerm depth term.now }
-    requires short { length (written_term term.now) ≤ 4194304 }
-    ensures { OnOk result (out.new.items ≡ out.old.items ++ written_term term.now) }
+    requires short { length (written_term term.now) < 2 ^ 28 }
+    ensures { Appends out.old.items out.new.items (written_term term.now) (is_ok result) }
 {
     match term {
         Term::Name { path, value } => put_name_term(alloc, path, value, out),
         Term::Scope { path, terms } => {
-            let head = head_of(alloc, path)?;
-            put_holder(alloc, &[0x10], head, terms.as_slice(), depth, out)
+            put_holder(alloc, SCOPE_OP, path, &[], terms.as_slice(), depth, out)
         }
         Term::Device { path, terms } => {
-            let head = head_of(alloc, path)?;
-            put_holder(alloc, &[0x5B, 0x82], head, terms.as_slice(), depth, out)
+            put_holder(alloc, DEVICE_OP, path, &[], terms.as_slice(), depth, out)
         }
         Term::Processor {
             path,
@@ -190,8 +272,16 @@ fn put_term(alloc: Global, term: &Term, depth: u32, out: &mut Vec<u8>) -> Result
             length,
             terms,
         } => {
-            let head = processor_head_of(alloc, path, *id, *block, *length)?;
-            put_holder(alloc, &[0x5B, 0x83], head, terms.as_slice(), depth, out)
+            let registers = registers_of(*id, *block, *length);
+            put_holder(
+                alloc,
+                PROCESSOR_OP,
+                path,
+                &registers,
+                terms.as_slice(),
+                depth,
+                out,
+            )
         }
         Term::Unread { opcode, body } => {
             put_opcode(*opcode, out)?;
@@ -212,10 +302,11 @@ fn put_term(alloc: Global, term: &Term, depth: u32, out: &mut Vec<u8>) -> Result
 
 /// Appends the terms in a term that is one of `depth` levels that may be opened.
 #[cycle(terms)]
+#[tactic(auto, using(crate::proofs::Appended::appended))]
 fn put_terms(alloc: Global, terms: &[Term], depth: u32, out: &mut Vec<u8>) -> Result<(), Memory>
     requires writable { AreWritable depth terms.now }
-    requires short { length (written_terms terms.now) ≤ 4194304 }
-    ensures { OnOk result (out.new.items ≡ out.old.items ++ written_terms terms.now) }
+    requires short { length (written_terms terms.now) < 2 ^ 28 }
+    ensures { Appends out.old.items out.new.items (written_terms terms.now) (is_ok result) }
 {
     for term in terms {
         put_term(alloc, term, depth - 1, out)?;
@@ -224,12 +315,18 @@ fn put_terms(alloc: Global, terms: &[Term], depth: u32, out: &mut Vec<u8>) -> Re
 }
 
 /// Appends the written forms of terms, one after the other: of every part the shortest spelling
-/// (ACPI 6.5, 20.2.5).
+/// (ACPI 6.5, 20.2.5). After want of memory the vector is as it was.
 #[tactic(auto, unfolding(crate::specs::Written::AreWritable))]
 pub fn encode_terms(alloc: Global, terms: &[Term], out: &mut Vec<u8>) -> Result<(), Memory>
     requires writable { AreWritableTerms terms.now }
-    requires short { length (written_terms terms.now) ≤ 4194304 }
-    ensures { OnOk result (out.new.items ≡ out.old.items ++ written_terms terms.now) }
+    requires short { length (written_terms terms.now) < 2 ^ 28 }
+    ensures ok { OnOk result (out.new.items ≡ out.old.items ++ written_terms terms.now) }
+    ensures err { OnErr result (out.new.items ≡ out.old.items) }
 {
-    put_terms(alloc, terms, DEEPEST + 1, out)
+    let before = out.len();
+    let put = put_terms(alloc, terms, DEEPEST + 1, out);
+    if put.is_err() {
+        out.truncate(before);
+    }
+    put
 }

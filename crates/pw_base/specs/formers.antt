@@ -1,3 +1,3 @@
 pub mod boxed
-pub mod list
+pub mod compact_list
 pub mod thin

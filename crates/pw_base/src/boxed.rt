@@ -5,7 +5,7 @@ use std::alloc::Global;
 use std::marker::Model;
 
 /// A value in a block of its own, behind one pointer, that contracts see as the value.
-#[derive(Debug, Drop)]
+#[derive(Drop)]
 pub struct Boxed<T> {
     inner: Box<T>,
 }
@@ -24,6 +24,13 @@ impl<T> Boxed<T> {
         ensures { result.now ≡ self.now }
     {
         &self.inner
+    }
+
+    /// The value, out of its block.
+    pub fn into_inner(self) -> T
+        ensures { result ≡ self }
+    {
+        Box::into_inner(self.inner)
     }
 }
 

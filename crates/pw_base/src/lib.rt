@@ -2,6 +2,7 @@
 #![tactic(auto)]
 
 mod boxed;
+mod compact_list;
 mod failure;
 mod files;
 mod gate;
@@ -15,6 +16,7 @@ mod std_sink;
 mod thin;
 
 pub use boxed::Boxed;
+pub use compact_list::CompactList;
 pub use failure::{Failed, Memory};
 pub use files::Files;
 pub use gate::{Gate, OpenGate};
@@ -25,6 +27,3 @@ pub use room::Room;
 pub use sink::{Sink, put_all};
 pub use std_files::StdFiles;
 pub use std_sink::StdSink;
-
-#[cfg(test)]
-mod tests;

@@ -1,21 +1,12 @@
-ghost use Rattle.std.specs.Prelude.{◌≡◌, ◌<◌, length, slice_set, IfOk, IfSome};
-ghost use Rattle.core.specs.Mem.Slots.{slots_items, slots_ptr, slots_len, IsFull, SamePlaces};
-ghost use denote.RawPtr.{◌+ₚ◌};
+ghost use Rattle.std.specs.Prelude.{◌≡◌, ◌<◌, length, slice_set};
 
-use crate::failure::Memory;
-use crate::thin::{Open, Space, Thin, block_bytes, fits};
-use core::mem::replace_with;
-use core::slots::Slots;
-use std::alloc::Global;
-use std::fmt;
 use std::marker::Model;
 
-/// A row of elements behind one pointer, in one block with their count, that contracts see as the list of
-/// its elements, so that a tree of them is plain data: two are equal exactly where their elements are, to
-/// every depth.
+/// A row of elements, that contracts see as the list of its elements, so that a tree of them is plain
+/// data: two are equal exactly where their elements are, to every depth. No call takes memory.
+#[derive(Drop)]
 pub struct List<T> {
-    block: Thin<T, Global>,
-    alloc: Global,
+    items: Vec<T>,
 }
 
 impl<T> Model for List<T> {
@@ -26,125 +17,38 @@ impl<T> Model for List<T> {
 
     ghost coded = { coded_list T.code };
 
-    ghost view = { λ l. l.block.items };
-}
-
-// An empty block for as many elements as `like` has.
-fn reserve<T>(alloc: &Global, like: &[T]) -> Option<(Slots<T>, Open<T, Global>)>
-    ensures { IfSome result (λ r. (slots_len r.0 ≡ length like.now) × (slots_ptr r.0 ≡ r.1.ptr +ₚ 8) × (slots_len r.0 ≡ r.1.len)) }
-{
-    let len = like.len();
-    if !fits::<T>(len) {
-        return None;
-    }
-    let space = Space::new(alloc, len, block_bytes::<T>(len))?;
-    Some(space.open(like))
-}
-
-// How many elements a long vector gives up before its block shrinks.
-const STRETCH: usize = 4096;
-
-// Moves the elements into the slots, the last first. A long vector shrinks meanwhile, so that the two
-// together take little more than one of them.
-fn fill<T>(slots: &mut Slots<T>, mut items: Vec<T>)
-    requires { slots_len slots.old ≡ length items.items }
-    ensures { IsFull slots.new × (slots_items slots.new ≡ items.items) × SamePlaces slots.old slots.new }
-{
-    while let Some(item) = items.pop() {
-        let left = items.len();
-        slots.put(left, item);
-        if left > 0 && left % STRETCH == 0 {
-            items.shrink_to_fit();
-        }
-    }
-    items.destroy_empty();
-}
-
-// Drops each value, the first first.
-fn drop_all<T: Drop>(slots: &mut Slots<T>)
-    requires { IsFull slots.old }
-    ensures { SamePlaces slots.old slots.new }
-{
-    let mut i = 0;
-    while i < slots.len() {
-        drop(slots.take(i));
-        i += 1;
-    }
+    ghost view = { λ l. l.items.items };
 }
 
 impl<T> List<T> {
+    /// The elements of a vector, in their order.
+    pub fn from_vec(items: Vec<T>) -> List<T>
+        ensures { result ≡ items.items }
+    {
+        List { items }
+    }
+
     /// The elements, in order.
     pub fn as_slice(&self) -> &[T]
         ensures { result.now ≡ self.now }
     {
-        self.block.as_slice()
+        self.items.as_slice()
     }
-}
 
-impl<T: Copy> List<T> {
-    /// The elements of a slice, copied.
-    pub fn from_slice(alloc: Global, items: &[T]) -> Result<List<T>, Memory>
-        ensures { IfOk result (λ list. list ≡ items.now) }
+    /// The elements as a vector, in their order.
+    pub fn into_vec(self) -> Vec<T>
+        ensures { result.items ≡ self }
     {
-        let Some((mut slots, open)) = reserve(&alloc, items) else {
-            return Err(Memory);
-        };
-        slots.copy_in(0, items);
-        let block = open.close(slots);
-        Ok(List { block, alloc })
+        self.items
     }
 }
 
 impl<T: Drop> List<T> {
-    /// The elements of a vector, in their order.
-    pub fn from_vec(alloc: Global, items: Vec<T>) -> Result<List<T>, Memory>
-        ensures { IfOk result (λ list. list ≡ items.items) }
-    {
-        let Some((mut slots, open)) = reserve(&alloc, items.as_slice()) else {
-            return Err(Memory);
-        };
-        fill(&mut slots, items);
-        let block = open.close(slots);
-        Ok(List { block, alloc })
-    }
-
-    /// Writes one element over another. It takes no memory.
+    /// Writes one element over another.
     pub fn set(&mut self, index: usize, item: T)
         requires { index < length self.old }
         ensures { self.new ≡ slice_set self.old index item }
     {
-        replace_with(self, (index, item), List::with_item)
-    }
-
-    fn with_item(self, change: (usize, T)) -> (List<T>, ())
-        requires { change.0 < length self }
-        ensures { result.0 ≡ slice_set self change.0 change.1 }
-    {
-        let List { block, alloc } = self;
-        let (index, item) = change;
-        let (mut slots, open) = block.open();
-        drop(slots.take(index));
-        slots.put(index, item);
-        let block = open.close(slots);
-        (List { block, alloc }, ())
-    }
-}
-
-impl<T: Drop> Drop for List<T> {
-    fn drop(self) {
-        let List { block, alloc } = self;
-        let (mut slots, open) = block.open();
-        drop_all(&mut slots);
-        let len = slots.len();
-        let space = open.empty(slots);
-        space.free(&alloc, block_bytes::<T>(len));
-    }
-}
-
-impl<T: fmt::Debug> fmt::Debug for List<T> {
-    fn fmt<W: fmt::Write>(&self, f: &mut fmt::Formatter<W>) -> fmt::Result {
-        f.debug_struct("List")
-            .field("items", &self.as_slice())
-            .finish()
+        self.items[index] = item;
     }
 }

@@ -11,7 +11,7 @@ use std::marker::Model;
 
 /// Files in memory that tell all that they hold. A read gives at most `piece` bytes, and fails at the
 /// calls that the caller listed, counted from 1, and where there is no file of the name.
-#[derive(Debug, Drop)]
+#[derive(Drop)]
 pub struct MemoryFiles {
     files: Vec<(String, Vec<u8>)>,
     fails: Vec<u32>,

@@ -13,7 +13,7 @@ use std::marker::Model;
 /// A sink in memory that tells all that it took. It takes its room when it is made. A write takes at
 /// most `piece` bytes and as many as there is room. It fails at the calls that the caller listed,
 /// counted from 1, and where a byte is to be taken and there is no room.
-#[derive(Debug, Drop)]
+#[derive(Drop)]
 pub struct MemorySink {
     taken: Room<u8>,
     fails: Vec<u32>,

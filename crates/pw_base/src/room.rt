@@ -6,7 +6,7 @@ use std::marker::Model;
 
 /// A list with room: it takes memory for its whole capacity when it is made, and none later.
 /// Contracts see its elements and its capacity.
-#[derive(Debug, Drop)]
+#[derive(Drop)]
 pub struct Room<T> {
     list: Vec<T>,
     room: usize,

@@ -1,5 +1,5 @@
 // A block of a count and so many elements behind it, reached by one pointer, and what it goes through.
-ghost use Rattle.std.specs.Prelude.{◌≡◌, ℕ, ◌+◌, ◌^◌, ◌<◌, List, length, IfSome, IsTrue};
+ghost use Rattle.std.specs.Prelude.{◌≡◌, ℕ, ◌+◌, ◌^◌, ◌<◌, ◌≤◌, List, length, IfSome, IsTrue};
 ghost use Rattle.std.specs.Mem.{type_size};
 ghost use Rattle.std.specs.Align.{type_align};
 ghost use Rattle.core.specs.Mem.Slots.{slots_items, slots_filled, slots_ptr, slots_len, IsFull};
@@ -67,13 +67,15 @@ fn measures<T>() -> (usize, usize)
     (size_of::<T>(), align_of::<T>())
 }
 
-// Whether one block may hold so many elements. It may hold none that are aligned to more than the count.
+// Whether one block may hold so many elements, which are aligned no more than the count.
 pub(crate) fn fits<T>(len: usize) -> bool
+    requires { type_align T.row ≤ 8 }
     ensures { IsTrue result → Fits T.row len }
 {
     let most = isize::MAX as usize - 16;
     let (size, align) = measures::<T>();
-    if COUNT_BYTES < align || most < size {
+    prove!(align <= COUNT_BYTES);
+    if most < size {
         return false;
     }
     match len.checked_mul(size) {

@@ -19,10 +19,6 @@ fn digit(number: u32) -> u8 {
     }
 }
 
-fn list<T: Drop>(alloc: Global, items: Vec<T>) -> anyhow::Result<List<T>> {
-    List::from_vec(alloc, items).ok().context("memory")
-}
-
 fn path(alloc: Global, letter: u8, number: u32) -> anyhow::Result<FullPath> {
     let text = [
         letter,
@@ -33,7 +29,7 @@ fn path(alloc: Global, letter: u8, number: u32) -> anyhow::Result<FullPath> {
     let mut segs = Vec::new(alloc);
     segs.push(Seg::new(text).context("a segment")?)?;
     Ok(FullPath {
-        segs: list(alloc, segs)?,
+        segs: List::from_vec(segs),
     })
 }
 
@@ -67,7 +63,7 @@ fn cpu_table(alloc: Global, kind: IdleKind) -> anyhow::Result<IdleTable> {
     }
     Ok(IdleTable {
         kind,
-        rows: list(alloc, rows)?,
+        rows: List::from_vec(rows),
     })
 }
 
@@ -80,7 +76,7 @@ fn cluster(alloc: Global, number: u32) -> anyhow::Result<ContainerParts> {
         parent: None,
         idle: IdleTable {
             kind: IdleKind::Lpi,
-            rows: list(alloc, rows)?,
+            rows: List::from_vec(rows),
         },
     })
 }
@@ -92,7 +88,7 @@ fn scale(alloc: Global, number: u32, port: u64) -> anyhow::Result<Scale> {
         controls.push(control)?;
     }
     Ok(Scale {
-        controls: list(alloc, controls)?,
+        controls: List::from_vec(controls),
         register: Some(Register {
             space: 1,
             width: 8,
@@ -126,7 +122,7 @@ fn cpu(alloc: Global, number: u32, kind: IdleKind) -> anyhow::Result<CpuParts> {
         path: path(alloc, b'P', number)?,
         parent,
         idle: cpu_table(alloc, kind)?,
-        csd: list(alloc, csd)?,
+        csd: List::from_vec(csd),
         perf: Some(scale(alloc, number, 0xB2)?),
         throttle: Some(scale(alloc, number, 0xB4)?),
         cpc: None,

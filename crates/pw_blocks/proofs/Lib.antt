@@ -2,3 +2,4 @@ pub mod OneReading
 pub mod Counted
 pub mod Progress
 pub mod WholeLists
+pub mod SomeReading

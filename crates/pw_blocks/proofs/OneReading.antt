@@ -12,12 +12,12 @@ use Rattle.pw_blocks.specs.Held.{IsBlock, HasFault, AreBlocks, no_block, one_blo
 some_is : {X : Type 0} (a b : X) (o : Option X) → o ≡ Some a → o ≡ Some b → a ≡ b
 some_is a b o p q = let e : Some a ≡ Some b = sym p ∙ q in cc
 
-one_is_block : {held : Option (List ℕ)} {a b : Block} {m n : ℕ} → IsBlock held a m → IsBlock held b n → (a ≡ b) × (m ≡ n)
+pub one_is_block : {held : Option (List ℕ)} {a b : Block} {m n : ℕ} → IsBlock held a m → IsBlock held b n → (a ≡ b) × (m ≡ n)
 one_is_block {held} {a} {b} p q =
     let e = some_is p.bytes q.bytes held p.is q.is in
     (same_block a b q.bytes (subst (BlockSpells a) e p.spelled) q.spelled, p.counted ∙ ap length e ∙ sym q.counted)
 
-not_at_fault : {held : Option (List ℕ)} {a : Block} {m : ℕ} {f : BlockFault} → IsBlock held a m → HasFault held f → ⊥
+pub not_at_fault : {held : Option (List ℕ)} {a : Block} {m : ℕ} {f : BlockFault} → IsBlock held a m → HasFault held f → ⊥
 not_at_fault {held} {a} {m} {f} p q =
     let e = some_is p.bytes q.bytes held p.is q.is in
     no_fault a q.bytes f (subst (BlockSpells a) e p.spelled) q.fails

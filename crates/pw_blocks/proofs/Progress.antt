@@ -1,28 +1,34 @@
 -- How far the blocks under names were read, and what one more adds.
-use Rattle.std.proofs.Common.{◌≡◌, ◌≢◌, ◌≤◌, ◌<◌, ℕ, zero, suc, ◌+◌, List, [], ◌∷◌, ◌++◌, length, map, drop}
-use Rattle.std.proofs.Common.{get_or, Bool, true, Option, refl, sym, ap, subst, ◌∙◌, arith, append_assoc}
+use Rattle.std.proofs.Common.{◌≡◌, ◌≢◌, ◌≤◌, ◌<◌, ℕ, zero, suc, ◌+◌, ◌-◌, List, [], ◌∷◌, ◌++◌, length, map, drop}
+use Rattle.std.proofs.Common.{get_or, take, Bool, true, Option, refl, sym, ap, subst, ◌∙◌, arith, append_assoc}
 use Rattle.std.specs.Prelude.{All, String}
 use Rattle.std.specs.String.{string_bytes}
 use Rattle.std.specs.declared.alloc.Global.{Global}
-use Rattle.std.proofs.lemmas.List.{append-nil, length-append, drop_more}
+use Rattle.std.proofs.lemmas.List.{append-nil, length-append, drop_more, take_at}
 use Rattle.std.proofs.lemmas.List.Elements.{All-append}
 use Rattle.std.proofs.Math.ListN.{drop_of_length-le}
-use Rattle.pw_base.specs.Outside.{KeepsFiles}
+use Rattle.pw_base.specs.Outside.{KeepsFiles, Rose}
 use Rattle.aml_block.specs.declared.block.Block.{Block}
 use Rattle.aml_block.specs.declared.fault.BlockFault.{BlockFault}
 use Rattle.aml_block.specs.declared.fault.BlockFault.TheVariants.{Header as header, Data as data_fault, BadTerm, ReadFault as unread, Memory as no_memory}
 use Rattle.aml_block.specs.Written.{IsWritableBlock}
 use Rattle.pw_blocks.specs.declared.fault.BlocksFault.{BlocksFault}
-use Rattle.pw_blocks.specs.declared.fault.BlocksFault.TheVariants.{Large, ReadFault, Memory}
-use Rattle.pw_blocks.specs.Causes.{fault_in}
-use Rattle.pw_blocks.specs.Held.{IsBlock, HasFault, AreBlocks, no_block, one_block, IsFirstFault, in_this, too_large, behind_this, HoldBlocks, FailFirst}
+use Rattle.pw_blocks.specs.declared.fault.BlocksFault.TheVariants.{Large}
+use Rattle.pw_blocks.specs.Causes.{numbered}
+use Rattle.pw_blocks.specs.Held.{IsBlock, HasFault, AreBlocks, no_block, one_block, IsFirstFault, in_this, too_large, behind_this, HoldBlocks, FailFirst, HoldBefore, IsCauseOf, IsOwn, RoseIfUnread}
 
 -- These blocks were read, of so many bytes, and these names are left: what stands under these stands behind those.
 pub record SoFar (holds : List ℕ → Option (List ℕ)) (Told : Type 0) (names rest : List (List ℕ)) (done : List Block) (total : ℕ) : Type 0 where
+  pub front : List (List ℕ)
+  pub parts : names ≡ front ++ rest
+  pub count : length front ≡ length done
   pub small : total ≤ 16777216
   pub writable : All IsWritableBlock done
-  pub found : Told → (more : List Block) → AreBlocks holds total rest more → HoldBlocks holds names (done ++ more)
+  pub found : Told → (others : List (List ℕ)) (more : List Block) → AreBlocks holds total others more → HoldBlocks holds (front ++ others) (done ++ more)
   pub fault : Told → (f : BlocksFault) → IsFirstFault holds (length done + 1) total rest f → FailFirst holds names f
+
+subst2 : {A B : Type 0} (P : A → B → Type 0) {a a' : A} {b b' : B} → a ≡ a' → b ≡ b' → P a b → P a' b'
+subst2 P {a} {a'} {b} {b'} e f p = subst (λ x. P x b') e (subst (P a) f p)
 
 -- what holds of an element holds of each of a list of it alone
 only : (block : Block) (k : ℕ) (d : Block) → IsWritableBlock block → k < 1 → IsWritableBlock (get_or (block ∷ []) k d)
@@ -33,9 +39,13 @@ pub one_more : {holds : List ℕ → Option (List ℕ)} {Told : Type 0} {names r
     → SoFar holds Told names (name ∷ rest) done total → (Told → IsBlock (holds name) block size) → IsWritableBlock block → total + size ≤ 16777216
     → SoFar holds Told names rest (done ++ block ∷ []) (total + size)
 one_more {holds} {Told} {names} {rest} {done} {total} {size} name block so is can few = record {
+  front = so.front ++ name ∷ [];
+  parts = so.parts ∙ sym (append_assoc so.front (name ∷ []) rest);
+  count = (let e = length-append done (block ∷ []) in let f = length-append so.front (name ∷ []) in let g = so.count in omega arith);
   small = few;
   writable = All-append IsWritableBlock done (block ∷ []) so.writable (λ k d below. only block k d can below);
-  found = λ t more p. subst (HoldBlocks holds names) (sym (append_assoc done (block ∷ []) more)) (so.found t (block ∷ more) (one_block (is t) few p));
+  found = λ t others more p. subst2 (HoldBlocks holds) (sym (append_assoc so.front (name ∷ []) others)) (sym (append_assoc done (block ∷ []) more))
+      (so.found t (name ∷ others) (block ∷ more) (one_block (is t) few p));
   fault = λ t f p. so.fault t f (behind_this (is t) few
       (subst (λ (n : ℕ). IsFirstFault holds n (total + size) rest f) (let e = length-append done (block ∷ []) in omega arith) p));
 }
@@ -45,30 +55,52 @@ pub all_done : {holds : List ℕ → Option (List ℕ)} {Told : Type 0} {names :
     → SoFar holds Told names (map string_bytes (drop i words)) done total → length words ≤ i → Told → HoldBlocks holds names done
 all_done {holds} {names = names} {done = done} {total = total} words i so end = λ t.
     (let none = ap (map string_bytes) (drop_of_length-le words {i = i} end) in
-    subst (HoldBlocks holds names) (append-nil done) (so.found t [] (subst (λ (l : List (List ℕ)). AreBlocks holds total l []) (sym none) no_block)))
+    let all = so.parts ∙ ap (λ r. so.front ++ r) none in
+    subst2 (HoldBlocks holds) (sym all) (append-nil done) (so.found t [] [] no_block))
 
 -- there are too many bytes
 pub is_large : {holds : List ℕ → Option (List ℕ)} {Told : Type 0} {names rest : List (List ℕ)} {done : List Block} {total size : ℕ} (name : List ℕ) (block : Block)
     → SoFar holds Told names (name ∷ rest) done total → (Told → IsBlock (holds name) block size) → 16777216 < total + size → Told → FailFirst holds names Large
 is_large name block so is many = λ t. so.fault t Large (too_large (is t) many)
 
--- the next block is at fault
+-- the files before the next one hold the blocks that were read
+before_this : {holds : List ℕ → Option (List ℕ)} {Told : Type 0} {names rest : List (List ℕ)} {done : List Block} {total : ℕ} (k : ℕ) (name : List ℕ)
+    → SoFar holds Told names (name ∷ rest) done total → k ≡ length done → Told → HoldBefore holds names (k + 1)
+before_this {holds} {Told} {names} {rest} {done} k name so here t =
+    let whole = ap length so.parts ∙ length-append so.front (name ∷ rest) in
+    let count = so.count in
+    let first : take ((k + 1) - 1) names ≡ so.front = ap (take ((k + 1) - 1)) so.parts ∙ take_at so.front (name ∷ rest) ((k + 1) - 1) (omega arith) in
+    record {
+      some = omega arith;
+      within = omega (arith, whole);
+      blocks = done;
+      held = subst2 (HoldBlocks holds) (append-nil so.front ∙ sym first) (append-nil done) (so.found t [] [] no_block);
+    }
+
+-- the next block is at fault, or isn't read
 pub is_fault : {holds : List ℕ → Option (List ℕ)} {Told : Type 0} {names rest : List (List ℕ)} {done : List Block} {total : ℕ} (k : ℕ) (name : List ℕ) (f : BlockFault)
     → SoFar holds Told names (name ∷ rest) done total → k ≡ length done → (f ≢ no_memory → f ≢ unread → Told → HasFault (holds name) f)
-    → fault_in (k + 1) f ≢ Memory → fault_in (k + 1) f ≢ ReadFault → Told → FailFirst holds names (fault_in (k + 1) f)
-is_fault k name unread so here has = λ m r t. absurd (r refl)
-is_fault k name no_memory so here has = λ m r t. absurd (m refl)
-is_fault k name (header why) so here has = λ m r t. so.fault t _ (rw here (in_this (has (λ e. cc) (λ e. cc) t)))
-is_fault k name (data_fault why) so here has = λ m r t. so.fault t _ (rw here (in_this (has (λ e. cc) (λ e. cc) t)))
-is_fault k name (BadTerm at opcode) so here has = λ m r t. so.fault t _ (rw here (in_this (has (λ e. cc) (λ e. cc) t)))
+    → Told → IsCauseOf holds names (numbered (k + 1) f)
+is_fault k name unread so here has = λ t. before_this k name so here t
+is_fault k name no_memory so here has = λ t. tt
+is_fault k name (header why) so here has = λ t. so.fault t _ (rw here (in_this (has (λ e. cc) (λ e. cc) t)))
+is_fault k name (data_fault why) so here has = λ t. so.fault t _ (rw here (in_this (has (λ e. cc) (λ e. cc) t)))
+is_fault k name (BadTerm at opcode) so here has = λ t. so.fault t _ (rw here (in_this (has (λ e. cc) (λ e. cc) t)))
 
 -- it is a read fault only where the block's is
-pub is_unread : (k : ℕ) (f : BlockFault) → fault_in k f ≡ ReadFault → f ≡ unread
-is_unread k unread e = refl
-is_unread k no_memory e = absurd cc
-is_unread k (header why) e = absurd cc
-is_unread k (data_fault why) e = absurd cc
-is_unread k (BadTerm at opcode) e = absurd cc
+pub is_unread : (k : ℕ) (f : BlockFault) (old new : ℕ) → (f ≡ unread → Rose old new) → RoseIfUnread (numbered k f) old new
+is_unread k unread old new rose = rose refl
+is_unread k no_memory old new rose = tt
+is_unread k (header why) old new rose = tt
+is_unread k (data_fault why) old new rose = tt
+is_unread k (BadTerm at opcode) old new rose = tt
+
+pub is_own : (k : ℕ) (f : BlockFault) → IsOwn (numbered k f)
+is_own k unread = tt
+is_own k no_memory = tt
+is_own k (header why) = tt
+is_own k (data_fault why) = tt
+is_own k (BadTerm at opcode) = tt
 
 -- what one read says, where the files hold what they held before
 pub held_before : {S : Type 0} (told : S → Bool) (holds : S → List ℕ → Option (List ℕ)) (faults : S → ℕ) (a b : S) (name : List ℕ) (P : Option (List ℕ) → Type 0)

@@ -5,8 +5,8 @@ use Rattle.aml_block.specs.declared.fault.BlockFault.TheVariants.{ReadFault as u
 use Rattle.pw_blocks.specs.declared.fault.BlocksFault.{BlocksFault}
 use Rattle.pw_blocks.specs.declared.fault.BlocksFault.TheVariants.{Block as in_block, ReadFault, Memory}
 
--- a fault of the outside and want of memory have no number
-abbrev pub fault_in : ℕ → BlockFault → BlocksFault
-fault_in number unread = ReadFault
-fault_in number no_memory = Memory
-fault_in number fault = in_block number fault
+-- a fault of the outside has the number of its file, and want of memory has none
+abbrev pub numbered : ℕ → BlockFault → BlocksFault
+numbered number unread = ReadFault number
+numbered number no_memory = Memory
+numbered number fault = in_block number fault

@@ -1,12 +1,16 @@
 -- The definition blocks that files hold under names, in the order of the names, and what is first at fault there.
-use Rattle.std.specs.Prelude.{◌≡◌, ◌≤◌, ◌<◌, ℕ, ◌+◌, List, [], ◌∷◌, length, map, Option, Some}
+use Rattle.std.specs.Prelude.{◌≡◌, ◌≤◌, ◌<◌, ℕ, ◌+◌, ◌-◌, List, [], ◌∷◌, length, take, get_or, map, Option, Some, None}
 use Rattle.std.specs.List.{sum_by}
+use Rattle.pw_base.specs.Outside.{Rose}
+use Rattle.aml_data.specs.Decoded.{AreBytes}
 use Rattle.aml_block.specs.declared.block.Block.{Block}
 use Rattle.aml_block.specs.declared.fault.BlockFault.{BlockFault}
+use Rattle.aml_block.specs.declared.fault.BlockFault.TheVariants.{ReadFault as unread, Memory as no_memory}
 use Rattle.aml_block.specs.Spelling.{BlockSpells}
 use Rattle.aml_block.specs.Faults.{BlockFails}
+use Rattle.pw_blocks.specs.declared.reading.TheConstants.{LARGEST_SUM}
 use Rattle.pw_blocks.specs.declared.fault.BlocksFault.{BlocksFault}
-use Rattle.pw_blocks.specs.declared.fault.BlocksFault.TheVariants.{Block as in_block, Large}
+use Rattle.pw_blocks.specs.declared.fault.BlocksFault.TheVariants.{Block as in_block, Large, ReadFault, Memory}
 
 -- What is held spells this block, by so many bytes.
 pub record IsBlock (held : Option (List ℕ)) (block : Block) (size : ℕ) : Type 0 where
@@ -26,7 +30,7 @@ pub record HasFault (held : Option (List ℕ)) (fault : BlockFault) : Type 0 whe
 pub data AreBlocks (holds : List ℕ → Option (List ℕ)) : (before : ℕ) → List (List ℕ) → List Block → Type 0 where
   no_block : {before : ℕ} → AreBlocks holds before [] []
   one_block : {before size : ℕ} {name : List ℕ} {names : List (List ℕ)} {block : Block} {blocks : List Block}
-      → IsBlock (holds name) block size → before + size ≤ 16777216
+      → IsBlock (holds name) block size → before + size ≤ LARGEST_SUM
       → AreBlocks holds (before + size) names blocks → AreBlocks holds before (name ∷ names) (block ∷ blocks)
 
 -- This is first at fault under these names, the blocks of which are counted from this number on: a block, or that there
@@ -35,9 +39,9 @@ pub data IsFirstFault (holds : List ℕ → Option (List ℕ)) : (number before 
   in_this : {number before : ℕ} {name : List ℕ} {names : List (List ℕ)} {fault : BlockFault}
       → HasFault (holds name) fault → IsFirstFault holds number before (name ∷ names) (in_block number fault)
   too_large : {number before size : ℕ} {name : List ℕ} {names : List (List ℕ)} {block : Block}
-      → IsBlock (holds name) block size → 16777216 < before + size → IsFirstFault holds number before (name ∷ names) Large
+      → IsBlock (holds name) block size → LARGEST_SUM < before + size → IsFirstFault holds number before (name ∷ names) Large
   behind_this : {number before size : ℕ} {name : List ℕ} {names : List (List ℕ)} {block : Block} {fault : BlocksFault}
-      → IsBlock (holds name) block size → before + size ≤ 16777216
+      → IsBlock (holds name) block size → before + size ≤ LARGEST_SUM
       → IsFirstFault holds (number + 1) (before + size) names fault → IsFirstFault holds number before (name ∷ names) fault
 
 -- files that hold these blocks under these names
@@ -47,6 +51,47 @@ HoldBlocks holds names blocks = AreBlocks holds 0 names blocks
 -- files in which this is first at fault under these names
 abbrev pub FailFirst : (List ℕ → Option (List ℕ)) → List (List ℕ) → BlocksFault → Type 0
 FailFirst holds names fault = IsFirstFault holds 1 0 names fault
+
+-- # What a fault of reading says
+
+-- The file of this number, from 1, is one of them, and the files before it hold blocks.
+pub record HoldBefore (holds : List ℕ → Option (List ℕ)) (names : List (List ℕ)) (number : ℕ) : Type 0 where
+  pub some : 1 ≤ number
+  pub within : number ≤ length names
+  pub blocks : List Block
+  pub held : HoldBlocks holds (take (number - 1) names) blocks
+
+-- Nothing is held under the name of this number, and the files before it hold blocks.
+pub record IsAbsent (holds : List ℕ → Option (List ℕ)) (names : List (List ℕ)) (number : ℕ) : Type 0 where
+  pub before : HoldBefore holds names number
+  pub absent : holds (get_or names (number - 1) []) ≡ None
+
+-- what is held consists of bytes
+abbrev pub HoldBytes : (List ℕ → Option (List ℕ)) → Type 0
+HoldBytes holds = (name bytes : List ℕ) → holds name ≡ Some bytes → AreBytes bytes
+
+-- Of files that tell: what is first at fault; where a file couldn't be read, that the files before it hold blocks. Want of
+-- memory may come at any time.
+abbrev pub IsCauseOf : (List ℕ → Option (List ℕ)) → List (List ℕ) → BlocksFault → Type 0
+IsCauseOf holds names (in_block number fault) = FailFirst holds names (in_block number fault)
+IsCauseOf holds names Large = FailFirst holds names Large
+IsCauseOf holds names (ReadFault number) = HoldBefore holds names number
+IsCauseOf holds names Memory = Unit {0}
+
+-- a file couldn't be read only where the count of faults rose
+abbrev pub RoseIfUnread : BlocksFault → ℕ → ℕ → Type 0
+RoseIfUnread (ReadFault number) old new = Rose old new
+RoseIfUnread fault old new = Unit {0}
+
+-- a block is refused for what its bytes are
+abbrev pub IsOfBytes : BlockFault → Type 0
+IsOfBytes unread = ⊥
+IsOfBytes no_memory = ⊥
+IsOfBytes fault = Unit {0}
+
+abbrev pub IsOwn : BlocksFault → Type 0
+IsOwn (in_block number fault) = IsOfBytes fault
+IsOwn fault = Unit {0}
 
 -- # The same in whole lists
 
@@ -62,4 +107,4 @@ pub record AreHeld (holds : List ℕ → Option (List ℕ)) (names : List (List 
   pub contents : List (List ℕ)
   pub held : map holds names ≡ map (λ c. Some c) contents
   pub spelled : SpellEach blocks contents
-  pub few : sum_by length contents ≤ 16777216
+  pub few : sum_by length contents ≤ LARGEST_SUM

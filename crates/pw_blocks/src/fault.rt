@@ -1,20 +1,21 @@
 ghost use Rattle.std.specs.Prelude.{◌≡◌};
 ghost use Rattle.pw_blocks.specs.declared.fault.BlocksFault.TheVariants as faults;
-ghost use Rattle.pw_blocks.specs.Causes.{fault_in};
+ghost use Rattle.pw_blocks.specs.Causes.{numbered};
 
 use aml_block::BlockFault;
 use std::alloc::AllocFailed;
 
 /// Why the blocks of several files aren't read: the first fault in their order.
-#[derive(Clone, Copy, Debug, PartialEq, Eq)]
+#[derive(Clone, Copy)]
 pub enum BlocksFault {
-    /// The block of this number, counted from 1, is refused. It is never `BlockFault::ReadFault` nor
-    /// `BlockFault::Memory`.
+    /// The block of this number, counted from 1, is refused for what its bytes are: the fault is neither
+    /// `BlockFault::ReadFault` nor `BlockFault::Memory`.
     Block { number: usize, fault: BlockFault },
     /// The blocks that were read so far have more than 16,777,216 bytes.
     Large,
-    /// A file couldn't be read.
-    ReadFault,
+    /// The file of this number, counted from 1, couldn't be read. The files before it hold blocks of at
+    /// most 16,777,216 bytes.
+    ReadFault { number: usize },
     /// Want of memory.
     Memory,
 }
@@ -29,10 +30,10 @@ impl<T: Drop> From<AllocFailed<T>> for BlocksFault {
 
 /// The fault of the block of this number.
 pub(crate) fn fault_in(number: usize, fault: BlockFault) -> BlocksFault
-    ensures { result ≡ fault_in number fault }
+    ensures { result ≡ numbered number fault }
 {
     match fault {
-        BlockFault::ReadFault => BlocksFault::ReadFault,
+        BlockFault::ReadFault => BlocksFault::ReadFault { number },
         BlockFault::Memory => BlocksFault::Memory,
         BlockFault::Header { .. } => BlocksFault::Block { number, fault },
         BlockFault::Data(_) => BlocksFault::Block { number, fault },

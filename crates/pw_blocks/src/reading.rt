@@ -2,7 +2,7 @@ ghost use Rattle.std.specs.Prelude.{◌≡◌, ◌≢◌, ◌≤◌, ◌+◌, tr
 ghost use Rattle.pw_base.specs.Outside.{Rose, KeepsFiles};
 ghost use Rattle.aml_block.specs.Written.{IsWritableBlock};
 ghost use Rattle.std.specs.String.{string_bytes};
-ghost use Rattle.pw_blocks.specs.Held.{IsBlock, HasFault, HoldBlocks, FailFirst};
+ghost use Rattle.pw_blocks.specs.Held.{IsBlock, HasFault, HoldBlocks, IsCauseOf, IsOwn, RoseIfUnread};
 
 use crate::fault::{BlocksFault, fault_in};
 use aml_block::{Block, BlockFault, LARGEST, parse, read_all};
@@ -42,16 +42,16 @@ pub fn read_blocks<F: Files>(
 ) -> Result<Vec<Block>, BlocksFault>
     ensures keeps { KeepsFiles F.told F.holds F.faults files.old files.new }
     // It is a read fault only where the files had one.
-    ensures failed { IfErr result (λ f. f ≡ BlocksFault.ReadFault →
-        Rose (F.faults files.old) (F.faults files.new)) }
+    ensures failed { IfErr result (λ f. RoseIfUnread f (F.faults files.old) (F.faults files.new)) }
     // What is read is what the files hold under the names.
     ensures found { IfOk result (λ blocks. F.told files.old ≡ true →
         HoldBlocks (F.holds files.old) (map string_bytes names.now) blocks.items) }
     // What is read can be written.
     ensures writable { IfOk result (λ blocks. All IsWritableBlock blocks.items) }
-    // Otherwise it is the first fault.
-    ensures fault { IfErr result (λ f. f ≢ BlocksFault.Memory → f ≢ BlocksFault.ReadFault →
-        F.told files.old ≡ true → FailFirst (F.holds files.old) (map string_bytes names.now) f) }
+    // Otherwise it is the first fault; a read fault says which file, and that those before it hold blocks.
+    ensures fault { IfErr result (λ f. F.told files.old ≡ true →
+        IsCauseOf (F.holds files.old) (map string_bytes names.now) f) }
+    ensures own { IfErr result IsOwn }
 {
     let mut blocks = Vec::new(alloc);
     let mut total = 0;

@@ -1,59 +1,31 @@
--- How a run ends, from what became of the blocks that were read.
-use Rattle.std.proofs.Common.{◌≡◌, ◌≢◌, ℕ, List, [], length, refl, sym}
-use Rattle.std.specs.Prelude.{String}
-use Rattle.std.specs.String.{string_bytes}
-use Rattle.std.specs.declared.alloc.Global.{Global}
-use Rattle.std.proofs.lemmas.List.{length-map}
-use Rattle.pw_base.specs.Outside.{Rose}
-use Rattle.aml_block.specs.declared.block.Block.{Block}
-use Rattle.pw_blocks.specs.declared.fault.BlocksFault.{BlocksFault}
-use Rattle.pw_blocks.specs.declared.fault.BlocksFault.TheVariants.{Block as in_block, Large, ReadFault, Memory}
-use Rattle.pw_blocks.specs.Held.{HoldBlocks, FailFirst}
-use Rattle.pw_words.specs.Words.{texts, AskFor, Task}
-use Rattle.pw_cli.specs.Lines.{blocks_line}
-use Rattle.pw_cli.specs.Seen.{FilesSeen, SinkSeen, OfFiles, Grew}
-use Rattle.pw_cli.specs.Runs.{Ends, Ran}
-use Rattle.pw_cli.specs.Runs.Ends.{ends_printed, ends_refused, ends_unread, ends_unwritten, ends_without_memory}
-use Rattle.pw_cli.specs.Runs.IsRefusedBy.{unspelled, unusable}
-use Rattle.pw_cli.specs.Printed.{BlocksEnd, BlocksPrinted, FaultPrinted, fault_status}
-use Rattle.pw_cli.specs.Printed.BlocksEnd.{blocks_printed, blocks_refused, blocks_unwritten, blocks_without_memory}
+-- How a run ended, from what became of its outputs.
+use Rattle.std.proofs.Common.{◌≡◌, ℕ, true, List, [], take}
+use Rattle.pw_base.specs.declared.sink.Sink.{Ghosts as Sink}
+use Rattle.pw_base.specs.Outside.{GrewByPart}
+use Rattle.pw_base.specs.Seen.{sink_seen, Grew, GrewByLine}
+use Rattle.pw_cli.specs.Seen.{Outputs, outputs_seen}
+use Rattle.pw_cli.specs.Runs.{Ended}
+use Rattle.pw_cli.proofs.Sent.{nothing_printed, nothing_said, part_taken}
 
-pub ends_of : {words : List (List ℕ)} {files files' : FilesSeen} {out out' : SinkSeen} {status : ℕ} {printed line : List ℕ} (task : Task) (names : List (List ℕ)) (blocks : List Block)
-    → AskFor words task names → OfFiles files (λ holds. HoldBlocks holds names blocks) → BlocksEnd task blocks out out' status printed line
-    → Ends words files files' out out' status printed line
-ends_of task names blocks is held (blocks_printed made) = ends_printed task {names = names} is (λ tells. record { blocks = blocks; held = held tells; printed = made })
-ends_of task names blocks is held (blocks_refused refused) = ends_refused task {names = names} is (λ tells. unusable blocks (held tells) refused)
-ends_of task names blocks is held (blocks_unwritten text n made rose) =
-    ends_unwritten task {names = names} text n is (λ tells. record { blocks = blocks; held = held tells; printed = made }) rose
-ends_of task names blocks is held blocks_without_memory = ends_without_memory task {names = names} is
+-- a line was said, and nothing printed
+pub ended_saying : {S : Type 0} {ways : ℕ → List ℕ → List ℕ → Type 0} (K : Sink S) (out err err' : S) (line : List ℕ) (status : ℕ)
+    → ways status [] line → GrewByLine (sink_seen K err) (sink_seen K err') line → Ended ways (outputs_seen K out err) (outputs_seen K out err') status
+ended_saying K out err err' line status way said = record { text = []; line = line; way = way; on_out = nothing_printed K out; on_err = said }
 
-pub ran_of : {words : List (List ℕ)} {files files' : FilesSeen} {out out' err err' : SinkSeen} {status : ℕ} (task : Task) (names : List (List ℕ)) (blocks : List Block)
-    → AskFor words task names → OfFiles files (λ holds. HoldBlocks holds names blocks) → BlocksPrinted task blocks out out' err err' status → Ran words files files' out out' err err' status
-ran_of task names blocks is held p = record { printed = p.printed; line = p.line; ends = ends_of task names blocks is held p.ends; on_out = p.on_out; on_err = p.on_err }
+-- a text was printed, and nothing said
+pub ended_printing : {S : Type 0} {ways : ℕ → List ℕ → List ℕ → Type 0} (K : Sink S) (out out' err : S) (text : List ℕ) (status : ℕ)
+    → ways status text [] → Grew (sink_seen K out) (sink_seen K out') text → Ended ways (outputs_seen K out err) (outputs_seen K out' err) status
+ended_printing K out out' err text status way printed = record { text = text; line = []; way = way; on_out = printed; on_err = nothing_said K err }
 
--- the same, where no blocks were read
-pub ends_of_fault : {words : List (List ℕ)} {files files' : FilesSeen} {out out' : SinkSeen} (task : Task) (names : List (List ℕ)) (fault : BlocksFault)
-    → AskFor words task names → (fault ≡ ReadFault → Rose files.faults files'.faults)
-    → (fault ≢ Memory → fault ≢ ReadFault → OfFiles files (λ holds. FailFirst holds names fault))
-    → Ends words files files' out out' (fault_status fault) [] (blocks_line (length names) fault)
-ends_of_fault task names Memory is rose fails = ends_without_memory task {names = names} is
-ends_of_fault task names ReadFault is rose fails = ends_unread task {names = names} is (rose refl)
-ends_of_fault task names Large is rose fails = ends_refused task {names = names} is (λ tells. unspelled Large (fails (λ e. cc) (λ e. cc) tells))
-ends_of_fault task names (in_block number fault) is rose fails =
-    ends_refused task {names = names} is (λ tells. unspelled (in_block number fault) (fails (λ e. cc) (λ e. cc) tells))
+-- a beginning of a text was printed, and a line said
+pub ended_within : {S : Type 0} {ways : ℕ → List ℕ → List ℕ → Type 0} (K : Sink S) (out out' err err' : S) (text line : List ℕ) (status : ℕ)
+    → ((n : ℕ) → ways status (take n text) line) → (K.told out ≡ true → GrewByPart (K.written out) (K.written out') text)
+    → GrewByLine (sink_seen K err) (sink_seen K err') line → Ended ways (outputs_seen K out err) (outputs_seen K out' err') status
+ended_within K out out' err err' text line status way part said =
+    let taken = part_taken (K.told out) (K.written out) (K.written out') text part in
+    record { text = take taken.0 text; line = line; way = way taken.0; on_out = taken.1; on_err = said }
 
-pub ran_of_fault : {words : List (List ℕ)} {files files' : FilesSeen} {out out' err err' : SinkSeen} {status : ℕ} (task : Task) (names : List (List ℕ)) (many : ℕ) (fault : BlocksFault)
-    → AskFor words task names → many ≡ length names → (fault ≡ ReadFault → Rose files.faults files'.faults)
-    → (fault ≢ Memory → fault ≢ ReadFault → OfFiles files (λ holds. FailFirst holds names fault))
-    → Grew out out' [] → FaultPrinted many fault err err' status → Ran words files files' out out' err err' status
-ran_of_fault task names many fault is all rose fails quiet p = record {
-  printed = [];
-  line = blocks_line (length names) fault;
-  ends = rw p.ends (ends_of_fault task names fault is rose fails);
-  on_out = quiet;
-  on_err = rw all at p.on_err;
-}
-
--- there are as many texts as words
-pub count_of_texts : (words : List (String Global)) → length words ≡ length (texts words)
-count_of_texts words = sym (length-map words string_bytes)
+-- one way is another
+pub ended_as : {ways others : ℕ → List ℕ → List ℕ → Type 0} {before after : Outputs} {status : ℕ}
+    → ((text line : List ℕ) → ways status text line → others status text line) → Ended ways before after status → Ended others before after status
+ended_as other ended = record { text = ended.text; line = ended.line; way = other ended.text ended.line ended.way; on_out = ended.on_out; on_err = ended.on_err }

@@ -1,3 +1,4 @@
-pub mod Sent
-pub mod Ending
 pub mod Complete
+pub mod Ending
+pub mod Repeats
+pub mod Sent

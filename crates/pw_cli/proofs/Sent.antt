@@ -2,24 +2,25 @@
 use Rattle.std.proofs.Common.{◌≡◌, ℕ, Bool, true, false, List, [], ◌++◌, Result, Ok, Err, OnOk, OnErr, is_ok, take, inl, inr, refl, sym, ap, subst, ◌∙◌}
 use Rattle.std.proofs.lemmas.Bool.{false≢true}
 use Rattle.std.proofs.lemmas.List.{append-nil}
+use Rattle.pw_base.specs.declared.sink.Sink.{Ghosts as Sink}
 use Rattle.pw_base.specs.Outside.{GrewByPart}
+use Rattle.pw_base.specs.Seen.{sink_seen, Grew, GrewByLine}
 use Rattle.pw_text.specs.Puts.{PutsText}
-use Rattle.pw_cli.specs.Seen.{sink_seen, Grew, GrewByLine}
 
-module _ {S : Type 0} {told : S → Bool} {written : S → List ℕ} {faults : S → ℕ} where
+module _ {S : Type 0} {K : Sink S} where
   pub sent_ok : {A E : Type 0} {a b : S} {waited waits text : List ℕ} (r : Result A E) → waited ≡ [] → waits ≡ []
-      → PutsText told written faults a b waited waits text (is_ok r) → OnOk r (told a ≡ true → written b ≡ written a ++ text)
-  sent_ok {a = a} {b = b} {text = text} (Ok x) none empty p = λ tells. sym (append-nil (written b)) ∙ ap (λ l. written b ++ l) (sym empty) ∙ p.whole refl tells ∙ ap
-      (λ l. written a ++ (l ++ text)) none
+      → PutsText K a b waited waits text (is_ok r) → OnOk r (K.told a ≡ true → K.written b ≡ K.written a ++ text)
+  sent_ok {a = a} {b = b} {text = text} (Ok x) none empty p = λ tells. sym (append-nil (K.written b)) ∙ ap (λ l. K.written b ++ l) (sym empty) ∙ p.whole refl tells ∙ ap
+      (λ l. K.written a ++ (l ++ text)) none
   sent_ok (Err e) none empty p = tt
 
-  pub sent_part : {A E : Type 0} {a b : S} {waited waits text : List ℕ} (r : Result A E) → waited ≡ [] → PutsText told written faults a b waited waits text (is_ok r)
-      → OnErr r (told a ≡ true → GrewByPart (written a) (written b) text)
+  pub sent_part : {A E : Type 0} {a b : S} {waited waits text : List ℕ} (r : Result A E) → waited ≡ [] → PutsText K a b waited waits text (is_ok r)
+      → OnErr r (K.told a ≡ true → GrewByPart (K.written a) (K.written b) text)
   sent_part (Ok x) none p = tt
-  sent_part {a = a} {b = b} {text = text} (Err e) none p = λ tells. subst (λ l. GrewByPart (written a) (written b) (l ++ text)) none (p.part tells)
+  sent_part {a = a} {b = b} {text = text} (Err e) none p = λ tells. subst (λ l. GrewByPart (K.written a) (K.written b) (l ++ text)) none (p.part tells)
 
   pub sent_line : {A E : Type 0} {a b : S} {waited waits text : List ℕ} (r : Result A E) → waited ≡ [] → waits ≡ []
-      → PutsText told written faults a b waited waits text (is_ok r) → GrewByLine (sink_seen told written faults a) (sink_seen told written faults b) text
+      → PutsText K a b waited waits text (is_ok r) → GrewByLine (sink_seen K a) (sink_seen K b) text
   sent_line {A} {E} (Ok x) none empty p = λ tells. inl (sent_ok {A = A} {E = E} (Ok x) none empty p tells)
   sent_line {A} {E} (Err e) none empty p = λ tells. inr (p.failed refl, sent_part {A = A} {E = E} (Err e) none p tells)
 
@@ -29,9 +30,9 @@ part_taken true old new text part = let p = part refl in (p.0, λ tells. p.1)
 part_taken false old new text part = (0, λ tells. absurd (false≢true tells))
 
 -- nothing was said on a sink that stayed
-pub nothing_said : {S : Type 0} (told : S → Bool) (written : S → List ℕ) (faults : S → ℕ) (s : S) → GrewByLine (sink_seen told written faults s) (sink_seen told written faults s) []
-nothing_said told written faults s = λ tells. inl (sym (append-nil (written s)))
+pub nothing_said : {S : Type 0} (K : Sink S) (s : S) → GrewByLine (sink_seen K s) (sink_seen K s) []
+nothing_said K s = λ tells. inl (sym (append-nil (K.written s)))
 
 -- nothing was printed on it
-pub nothing_printed : {S : Type 0} (told : S → Bool) (written : S → List ℕ) (faults : S → ℕ) (s : S) → Grew (sink_seen told written faults s) (sink_seen told written faults s) []
-nothing_printed told written faults s = λ tells. sym (append-nil (written s))
+pub nothing_printed : {S : Type 0} (K : Sink S) (s : S) → Grew (sink_seen K s) (sink_seen K s) []
+nothing_printed K s = λ tells. sym (append-nil (K.written s))

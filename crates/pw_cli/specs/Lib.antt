@@ -1,4 +1,5 @@
-pub mod Seen
+pub mod inner
 pub mod Lines
 pub mod Runs
-pub mod Printed
+pub mod Seen
+pub mod Tasks

@@ -53,7 +53,7 @@ fault_line many number fault = block_start many number ++ fault_words fault ++ c
 abbrev pub blocks_line : ℕ → BlocksFault → List ℕ
 blocks_line many (blocks_faults.Block number fault) = fault_line many number fault
 blocks_line many blocks_faults.Large = codes "blocks: larger than 16777216\n"
-blocks_line many blocks_faults.ReadFault = codes "read fault\n"
+blocks_line many (blocks_faults.ReadFault number) = codes "read fault\n"
 blocks_line many blocks_faults.Memory = codes "no memory\n"
 
 -- the line of a place at which two objects are placed

@@ -1,80 +1,93 @@
 -- How a run of the program ends.
-use Rattle.std.specs.Prelude.{◌≡◌, ℕ, true, List, [], length, codes, take, Option}
-use Rattle.std.specs.List.{flat_map}
+use Rattle.std.specs.Prelude.{◌≡◌, ℕ, true, List, [], length, codes, take}
 use Rattle.std.proofs.Common.{◌⊎◌}
 use Rattle.pw_base.specs.Outside.{Rose}
+use Rattle.pw_base.specs.Seen.{OfFiles, Grew, GrewByLine}
 use Rattle.aml_block.specs.declared.block.Block.{Block}
-use Rattle.aml_block.specs.Written.{written_block}
-use Rattle.acpi_space.specs.Distinct.{IsDistinct, IsFirstRepeat}
-use Rattle.acpi_space.specs.Places.{Place}
-use Rattle.acpi_space.specs.Namespace.{entries_in, places_of}
 use Rattle.pw_blocks.specs.declared.fault.BlocksFault.{BlocksFault}
-use Rattle.pw_blocks.specs.Held.{HoldBlocks, FailFirst}
-use Rattle.pw_show.specs.Show.{show_text}
+use Rattle.pw_blocks.specs.declared.fault.BlocksFault.TheVariants.{Block as in_block, Large, ReadFault, Memory}
+use Rattle.pw_blocks.specs.Held.{HoldBlocks, IsCauseOf, IsOwn, RoseIfUnread}
 use Rattle.pw_words.specs.Words.{AskFor, IsCommand, Task}
-use Rattle.pw_words.specs.Words.Task.{to_show, to_rewrite}
-use Rattle.pw_cli.specs.Lines.{blocks_line, twice_line}
-use Rattle.pw_cli.specs.Seen.{FilesSeen, SinkSeen, OfFiles, Grew, GrewByLine}
+use Rattle.pw_cli.specs.Lines.{blocks_line}
+use Rattle.pw_cli.specs.Seen.{Outputs, Seen}
+use Rattle.pw_cli.specs.Tasks.{IsTextOf, IsRefusalOf, IsPrintedAs, IsRefusedBy}
 
--- # What is printed of blocks, or why they are refused
+-- # The ways in which a run ends: its status, what the output grew by, and the line on the error output
 
--- This is the text that the task makes of blocks: to show them, the lines of the objects that they place, if they place
--- none where one was placed before; to rewrite them, their shortest spellings one after the other.
-abbrev pub IsTextOf : Task → List Block → List ℕ → Type 0
-IsTextOf to_show blocks text = IsDistinct (places_of (entries_in blocks)) × (text ≡ show_text (entries_in blocks))
-IsTextOf to_rewrite blocks text = text ≡ flat_map written_block blocks
+-- What a task does with blocks that were read.
+pub data EndsOver (task : Task) (blocks : List Block) (before after : Outputs) : ℕ → List ℕ → List ℕ → Type 0 where
+  -- its text of them is printed
+  printed : {text : List ℕ} → IsTextOf task blocks text → EndsOver task blocks before after 0 text []
+  -- it refuses them
+  refused : {line : List ℕ} → IsRefusalOf task blocks line → EndsOver task blocks before after 1 [] line
+  -- the text couldn't be written whole
+  unwritten : (text : List ℕ) (n : ℕ) → IsTextOf task blocks text → Rose before.out.faults after.out.faults
+      → EndsOver task blocks before after 4 (take n text) (codes "write fault\n")
+  -- want of memory, before anything was written
+  without_memory : EndsOver task blocks before after 6 [] (codes "no memory\n")
 
--- This is the line by which the task refuses blocks that are spelled: to show them, that of the first place that is given
--- a second object; to rewrite them, none.
-abbrev pub IsRefusalOf : Task → List Block → List ℕ → Type 0
-IsRefusalOf to_show blocks line = (place : Place) × IsFirstRepeat (places_of (entries_in blocks)) place × (line ≡ twice_line place)
-IsRefusalOf to_rewrite blocks line = ⊥
+-- The status where no blocks were read: they are at fault, a file couldn't be read, or memory ran out.
+abbrev pub fault_status : BlocksFault → ℕ
+fault_status (in_block number fault) = 1
+fault_status Large = 1
+fault_status (ReadFault number) = 3
+fault_status Memory = 6
 
--- Files hold blocks under the names, and this is the task's text of them.
-pub record IsPrintedAs (task : Task) (names : List (List ℕ)) (text : List ℕ) (holds : List ℕ → Option (List ℕ)) : Type 0 where
-  pub blocks : List Block
-  pub held : HoldBlocks holds names blocks
-  pub printed : IsTextOf task blocks text
+-- What a task does with the files of these names.
+pub data EndsOn (task : Task) (names : List (List ℕ)) (before after : Seen) : ℕ → List ℕ → List ℕ → Type 0 where
+  -- Blocks were read. They are those that the files hold, where the files tell.
+  over_blocks : {status : ℕ} {text line : List ℕ} (blocks : List Block) → OfFiles before.files (λ holds. HoldBlocks holds names blocks)
+      → EndsOver task blocks before.outputs after.outputs status text line → EndsOn task names before after status text line
+  -- None were read, for this fault: it is what is first at fault in the files, where they tell, and a file is unread only
+  -- where their count rose. Before a file that is unread the files hold blocks.
+  at_fault : (fault : BlocksFault) → IsOwn fault → RoseIfUnread fault before.files.faults after.files.faults
+      → OfFiles before.files (λ holds. IsCauseOf holds names fault)
+      → EndsOn task names before after (fault_status fault) [] (blocks_line (length names) fault)
 
--- Files hold no blocks under the names, or blocks that the task refuses, and this line says what is first at fault.
-pub data IsRefusedBy (task : Task) (names : List (List ℕ)) : List ℕ → (List ℕ → Option (List ℕ)) → Type 0 where
-  unspelled : {holds : List ℕ → Option (List ℕ)} (fault : BlocksFault) → FailFirst holds names fault
-      → IsRefusedBy task names (blocks_line (length names) fault) holds
-  unusable : {line : List ℕ} {holds : List ℕ → Option (List ℕ)} (blocks : List Block) → HoldBlocks holds names blocks → IsRefusalOf task blocks line
-      → IsRefusedBy task names line holds
+-- What a run does with words.
+pub data EndsBy (words : List (List ℕ)) (before after : Seen) : ℕ → List ℕ → List ℕ → Type 0 where
+  -- they are no command
+  misworded : (IsCommand words → ⊥) → EndsBy words before after 2 [] (codes "words: refused\n")
+  -- they ask for a task
+  commanded : {status : ℕ} {text line : List ℕ} (task : Task) (names : List (List ℕ)) → AskFor words task names
+      → EndsOn task names before after status text line → EndsBy words before after status text line
 
 -- # The run
 
--- How a run ends: its status, what the output grew by, and the line on the error output.
-pub data Ends (words : List (List ℕ)) (files files' : FilesSeen) (out out' : SinkSeen) : ℕ → List ℕ → List ℕ → Type 0 where
-  -- the words are no command
-  ends_misworded : (IsCommand words → ⊥) → Ends words files files' out out' 2 [] (codes "words: refused\n")
-  -- the task's text of the blocks
-  ends_printed : (task : Task) {names : List (List ℕ)} {text : List ℕ} → AskFor words task names → OfFiles files (IsPrintedAs task names text)
-      → Ends words files files' out out' 0 text []
-  -- what the files hold is refused
-  ends_refused : (task : Task) {names : List (List ℕ)} {line : List ℕ} → AskFor words task names → OfFiles files (IsRefusedBy task names line)
-      → Ends words files files' out out' 1 [] line
-  -- a file couldn't be read
-  ends_unread : (task : Task) {names : List (List ℕ)} → AskFor words task names → Rose files.faults files'.faults → Ends words files files' out out' 3 [] (codes "read fault\n")
-  -- the text couldn't be written whole
-  ends_unwritten : (task : Task) {names : List (List ℕ)} (text : List ℕ) (n : ℕ) → AskFor words task names → OfFiles files (IsPrintedAs task names text)
-      → Rose out.faults out'.faults → Ends words files files' out out' 4 (take n text) (codes "write fault\n")
-  -- want of memory, before anything was written
-  ends_without_memory : (task : Task) {names : List (List ℕ)} → AskFor words task names → Ends words files files' out out' 6 [] (codes "no memory\n")
-
--- One run: how it ended, and that the two sinks grew by just that.
-pub record Ran (words : List (List ℕ)) (files files' : FilesSeen) (out out' err err' : SinkSeen) (status : ℕ) : Type 0 where
-  pub printed : List ℕ
+-- It ended with this status in one of these ways, and the two outputs grew by just what that way says.
+pub record Ended (ways : ℕ → List ℕ → List ℕ → Type 0) (before after : Outputs) (status : ℕ) : Type 0 where
+  pub text : List ℕ
   pub line : List ℕ
-  pub ends : Ends words files files' out out' status printed line
-  pub on_out : Grew out out' printed
-  pub on_err : GrewByLine err err' line
+  pub way : ways status text line
+  pub on_out : Grew before.out after.out text
+  pub on_err : GrewByLine before.err after.err line
 
--- With right words, blocks that the task prints, and no fault of the files and the output, the whole text is printed, or memory runs out.
-pub record IsComplete (words : List (List ℕ)) (files files' : FilesSeen) (out out' : SinkSeen) (status : ℕ) : Type 0 where
-  pub prints : {task : Task} {names : List (List ℕ)} {text : List ℕ} → AskFor words task names → files.told ≡ true → IsPrintedAs task names text files.holds
-      → (Rose files.faults files'.faults → ⊥) → (Rose out.faults out'.faults → ⊥) → (status ≡ 0) ⊎ (status ≡ 6)
-  -- and what the task refuses is refused with status 1, or memory runs out
-  pub refuses : {task : Task} {names : List (List ℕ)} {line : List ℕ} → AskFor words task names → files.told ≡ true → IsRefusedBy task names line files.holds
-      → (Rose files.faults files'.faults → ⊥) → (status ≡ 1) ⊎ (status ≡ 6)
+-- one run
+abbrev pub Ran : List (List ℕ) → Seen → Seen → ℕ → Type 0
+Ran words before after status = Ended (EndsBy words before after) before.outputs after.outputs status
+
+-- It ended with this status, this text and this line.
+pub record EndedSo (before after : Outputs) (status : ℕ) (so : ℕ) (text line : List ℕ) : Type 0 where
+  pub is : status ≡ so
+  pub on_out : Grew before.out after.out text
+  pub on_err : GrewByLine before.err after.err line
+
+-- What must come, want of memory aside.
+pub record IsComplete (words : List (List ℕ)) (before after : Seen) (status : ℕ) : Type 0 where
+  -- words that are no command are refused, and no others
+  pub misworded : (IsCommand words → ⊥) → EndedSo before.outputs after.outputs status 2 [] (codes "words: refused\n")
+  pub worded : status ≡ 2 → IsCommand words → ⊥
+  -- what the task prints of told files is printed, if no count of files and output rose
+  pub prints : {task : Task} {names : List (List ℕ)} {text : List ℕ} → AskFor words task names → before.files.told ≡ true
+      → IsPrintedAs task names text before.files.holds → (Rose before.files.faults after.files.faults → ⊥)
+      → (Rose before.outputs.out.faults after.outputs.out.faults → ⊥) → EndedSo before.outputs after.outputs status 0 text [] ⊎ (status ≡ 6)
+  -- what it refuses is refused by its line, if no count of files rose
+  pub refuses : {task : Task} {names : List (List ℕ)} {line : List ℕ} → AskFor words task names → before.files.told ≡ true
+      → IsRefusedBy task names line before.files.holds → (Rose before.files.faults after.files.faults → ⊥)
+      → EndedSo before.outputs after.outputs status 1 [] line ⊎ (status ≡ 6)
+  -- status 1 comes exactly where the files hold no blocks that the task prints
+  pub unprinted : {task : Task} {names : List (List ℕ)} → AskFor words task names → before.files.told ≡ true
+      → ((text : List ℕ) → IsPrintedAs task names text before.files.holds → ⊥) → (Rose before.files.faults after.files.faults → ⊥)
+      → (status ≡ 1) ⊎ (status ≡ 6)
+  pub unprintable : {task : Task} {names : List (List ℕ)} {text : List ℕ} → AskFor words task names → before.files.told ≡ true
+      → status ≡ 1 → IsPrintedAs task names text before.files.holds → ⊥

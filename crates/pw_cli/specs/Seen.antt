@@ -1,34 +1,22 @@
--- What a run sees of the outside: files by name, and what a sink took.
-use Rattle.std.specs.Prelude.{◌≡◌, ℕ, Bool, true, List, ◌++◌, Option}
-use Rattle.std.proofs.Common.{◌⊎◌}
-use Rattle.pw_base.specs.Outside.{Rose, GrewByPart}
+-- What a run sees of the outside at one moment.
+use Rattle.pw_base.specs.declared.files.Files.{Ghosts as Files}
+use Rattle.pw_base.specs.declared.sink.Sink.{Ghosts as Sink}
+use Rattle.pw_base.specs.Seen.{FilesSeen, SinkSeen, files_seen, sink_seen}
 
--- files at one moment: whether they tell, what each name holds, and how often they failed
-pub record FilesSeen : Type 0 where
-  pub told : Bool
-  pub holds : List ℕ → Option (List ℕ)
-  pub faults : ℕ
+-- its output and its error output
+pub record Outputs : Type 0 where
+  pub out : SinkSeen
+  pub err : SinkSeen
 
--- a sink at one moment: whether it tells, what it took, and how often it failed
-pub record SinkSeen : Type 0 where
-  pub told : Bool
-  pub written : List ℕ
-  pub faults : ℕ
+-- the files that it reads, and its two outputs
+pub record Seen : Type 0 where
+  pub files : FilesSeen
+  pub outputs : Outputs
 
-abbrev pub files_seen : {S : Type 0} → (S → Bool) → (S → List ℕ → Option (List ℕ)) → (S → ℕ) → S → FilesSeen
-files_seen told holds faults s = record { told = told s; holds = holds s; faults = faults s }
+-- what is seen of two sinks of some type
+abbrev pub outputs_seen : {S : Type 0} → Sink S → S → S → Outputs
+outputs_seen K out err = record { out = sink_seen K out; err = sink_seen K err }
 
-abbrev pub sink_seen : {S : Type 0} → (S → Bool) → (S → List ℕ) → (S → ℕ) → S → SinkSeen
-sink_seen told written faults s = record { told = told s; written = written s; faults = faults s }
-
--- where the files tell, this holds of what they hold
-abbrev pub OfFiles : FilesSeen → ((List ℕ → Option (List ℕ)) → Type 0) → Type 0
-OfFiles files P = files.told ≡ true → P files.holds
-
--- where the sink tells, it grew by a text
-abbrev pub Grew : SinkSeen → SinkSeen → List ℕ → Type 0
-Grew old new text = old.told ≡ true → new.written ≡ old.written ++ text
-
--- where the sink tells, it grew by a line, or by a beginning of it where its count rose
-abbrev pub GrewByLine : SinkSeen → SinkSeen → List ℕ → Type 0
-GrewByLine old new line = old.told ≡ true → (new.written ≡ old.written ++ line) ⊎ (Rose old.faults new.faults × GrewByPart old.written new.written line)
+-- what is seen of files of some type, and of two sinks of another
+abbrev pub all_seen : {S T : Type 0} → Files S → Sink T → S → T → T → Seen
+all_seen F K files out err = record { files = files_seen F files; outputs = outputs_seen K out err }

@@ -1,6 +1,7 @@
 //! The program: the words of a command line, the command's work, and what it prints.
 #![tactic(auto)]
 
+mod blocks;
 mod lines;
 mod outcome;
 mod program;

@@ -17,7 +17,7 @@ pub fn put_fault_line<K: Sink>(
     number: usize,
     fault: BlockFault,
 ) -> Result<(), Failed>
-    ensures { PutsText K.told K.written K.faults sink.old sink.new page.old page.new
+    ensures { PutsText K.Sink sink.old sink.new page.old page.new
         (fault_line many number fault) (is_ok result) }
 {
     put_block_start(page, sink, many, number)?;
@@ -31,7 +31,7 @@ fn put_block_start<K: Sink>(
     many: usize,
     number: usize,
 ) -> Result<(), Failed>
-    ensures { PutsText K.told K.written K.faults sink.old sink.new page.old page.new
+    ensures { PutsText K.Sink sink.old sink.new page.old page.new
         (block_start many number) (is_ok result) }
 {
     if many == 1 {
@@ -43,7 +43,7 @@ fn put_block_start<K: Sink>(
 
 /// Puts the line of a path at which two objects are placed.
 pub fn put_twice_line<K: Sink>(page: &mut Page, sink: &mut K, path: &[Seg]) -> Result<(), Failed>
-    ensures { PutsText K.told K.written K.faults sink.old sink.new page.old page.new
+    ensures { PutsText K.Sink sink.old sink.new page.old page.new
         (twice_line path.now) (is_ok result) }
 {
     page.put(sink, b"block: ")?;
@@ -52,7 +52,7 @@ pub fn put_twice_line<K: Sink>(page: &mut Page, sink: &mut K, path: &[Seg]) -> R
 }
 
 fn put_fault_words<K: Sink>(page: &mut Page, sink: &mut K, fault: BlockFault) -> Result<(), Failed>
-    ensures { PutsText K.told K.written K.faults sink.old sink.new page.old page.new
+    ensures { PutsText K.Sink sink.old sink.new page.old page.new
         (fault_words fault) (is_ok result) }
 {
     match fault {
@@ -71,7 +71,7 @@ fn put_fault_words<K: Sink>(page: &mut Page, sink: &mut K, fault: BlockFault) ->
 }
 
 fn put_header_words<K: Sink>(page: &mut Page, sink: &mut K, why: HeaderFault) -> Result<(), Failed>
-    ensures { PutsText K.told K.written K.faults sink.old sink.new page.old page.new
+    ensures { PutsText K.Sink sink.old sink.new page.old page.new
         (codes "header " ++ header_word why) (is_ok result) }
 {
     match why {
@@ -84,7 +84,7 @@ fn put_header_words<K: Sink>(page: &mut Page, sink: &mut K, why: HeaderFault) ->
 }
 
 fn put_data_words<K: Sink>(page: &mut Page, sink: &mut K, fault: DataFault) -> Result<(), Failed>
-    ensures { PutsText K.told K.written K.faults sink.old sink.new page.old page.new
+    ensures { PutsText K.Sink sink.old sink.new page.old page.new
         (data_words fault) (is_ok result) }
 {
     match fault {
@@ -113,7 +113,7 @@ fn put_between<K: Sink>(
     number: usize,
     after: &[u8],
 ) -> Result<(), Failed>
-    ensures { PutsText K.told K.written K.faults sink.old sink.new page.old page.new
+    ensures { PutsText K.Sink sink.old sink.new page.old page.new
         (before.now ++ decimal number ++ after.now) (is_ok result) }
 {
     page.put(sink, before)?;
@@ -122,7 +122,7 @@ fn put_between<K: Sink>(
 }
 
 fn put_at<K: Sink>(page: &mut Page, sink: &mut K, at: usize, what: &[u8]) -> Result<(), Failed>
-    ensures { PutsText K.told K.written K.faults sink.old sink.new page.old page.new
+    ensures { PutsText K.Sink sink.old sink.new page.old page.new
         (at_place at what.now) (is_ok result) }
 {
     put_between(page, sink, b"at ", at, what)
@@ -135,7 +135,7 @@ fn put_at_number<K: Sink>(
     what: &[u8],
     number: u64,
 ) -> Result<(), Failed>
-    ensures { PutsText K.told K.written K.faults sink.old sink.new page.old page.new
+    ensures { PutsText K.Sink sink.old sink.new page.old page.new
         (at_place at (what.now ++ hex_text number)) (is_ok result) }
 {
     put_at(page, sink, at, what)?;

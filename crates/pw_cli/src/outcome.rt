@@ -8,7 +8,7 @@
 /// | 3 | a file can't be read |
 /// | 4 | the output can't be written |
 /// | 6 | want of memory |
-#[derive(Clone, Copy, Debug, PartialEq, Eq)]
+#[derive(Clone, Copy)]
 pub struct Outcome {
     /// The exit status of the program.
     pub status: u8,

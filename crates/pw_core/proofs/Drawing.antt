@@ -27,7 +27,7 @@ use Rattle.acpi_values.specs.declared.operation.Op.TheVariants as op
 use Rattle.pw_base.specs.Room.{Bounded}
 use Rattle.pw_plan.specs.Requests.{group_bound}
 use Rattle.pw_core.specs.Chains.{states_in}
-use Rattle.pw_core.specs.Drawn.{drawn_among}
+use Rattle.pw_core.specs.inner.Drawn.{drawn_among}
 use Rattle.pw_core.proofs.Climbing.{chain_fits}
 
 -- # One more member of those that pass a test

@@ -1,7 +1,6 @@
 pub mod Voting
 pub mod Climbing
 pub mod Composing
-pub mod Fitting
 pub mod Starting
 pub mod Drawing
 pub mod Comparing

@@ -18,28 +18,11 @@ use Rattle.pw_model.specs.States.{IsIndex, IsState, ask_of, limit_of, opening, o
 use Rattle.pw_model.specs.Domains.{standing, stands_at}
 use Rattle.pw_model.specs.Operations.{first_member, opening_at, opening_ops_of, set_on}
 use Rattle.pw_model.proofs.Maps.{map_agree}
-
--- the limit that processor p opens with
-abbrev pub own_limit : Plan → DomainKind → ℕ → ℕ
-own_limit P kind p = opening_limit (scale_of kind (cpu_at P p))
+use Rattle.pw_model.proofs.Opening.{own_limit, opening_ask, opening_own}
 
 -- the slowest limit that these processors open with
 abbrev pub slowest : Plan → DomainKind → List ℕ → ℕ
 slowest P kind members = fold max 0 (map (own_limit P kind) members)
-
--- # What stands in the state at the start
-
-pub opening_ask : (P : Plan) (kind : DomainKind) (p : ℕ) → p < length P.cpus → ask_of kind (opening P) p ≡ own_limit P kind p
-unfolding opening
-opening_ask P kinds.Perf p lt = get_or-map (λ (c : CpuParts). opening_limit c.perf) P.cpus p no_cpu 0 lt
-opening_ask P kinds.Throttle p lt = get_or-map (λ (c : CpuParts). opening_limit c.throttle) P.cpus p no_cpu 0 lt
-opening_ask P kinds.Idle p lt = refl
-
-pub opening_own : (P : Plan) (kind : DomainKind) (p : ℕ) → p < length P.cpus → limit_of kind (opening P) p ≡ own_limit P kind p
-unfolding opening
-opening_own P kinds.Perf p lt = get_or-map (λ (c : CpuParts). opening_limit c.perf) P.cpus p no_cpu 0 lt
-opening_own P kinds.Throttle p lt = get_or-map (λ (c : CpuParts). opening_limit c.throttle) P.cpus p no_cpu 0 lt
-opening_own P kinds.Idle p lt = refl
 
 -- # Where a domain stands at the start
 
@@ -174,28 +157,3 @@ module _ (P : Plan) (d : ℕ) (D : Domain) (ms : List ℕ) (lt : d < length P.do
           let own : first ≡ x = cc in
           let whole : (domain_at P d).members ≡ x ∷ xs = ap (λ (y : Domain). y.members) (sym is) ∙ sym members ∙ same in
           rw (own, e, members, is) (sym (opens_first P d kind_is fit_is exist x xs (ap (λ (y : Domain). y.coord) (sym is) ∙ coord) whole))
-
--- # The state at the start is one of the plan
-
-opening_vote : (P : Plan) (p : ℕ) → p < length P.cpus → get_or (map (λ (c : CpuParts). running) P.cpus) p running ≡ running
-opening_vote P p lt = get_or-map (λ (c : CpuParts). running) P.cpus p no_cpu running lt
-
-limit_index : (P : Plan) (kind : DomainKind) (p : ℕ) → IsIndex (scale_of kind (cpu_at P p)) (own_limit P kind p)
-limit_index P kind p = by (scale_of kind (cpu_at P p)) (P.sound.small.some_states kind p)
-  where
-    by : (scale : Option Scale) → (is_some scale ≡ true → 0 < count_of scale) → IsIndex scale (opening_limit scale)
-    by None positive = refl
-    by (Some scale) positive = let some = positive refl in omega (arith, some)
-
-pub opening_fits : (P : Plan) → IsState P (opening P)
-unfolding opening
-opening_fits P = record {
-  votes = length-map P.cpus (λ (c : CpuParts). running);
-  perf_asks = length-map P.cpus (λ (c : CpuParts). opening_limit c.perf);
-  perf_limits = length-map P.cpus (λ (c : CpuParts). opening_limit c.perf);
-  throttle_asks = length-map P.cpus (λ (c : CpuParts). opening_limit c.throttle);
-  throttle_limits = length-map P.cpus (λ (c : CpuParts). opening_limit c.throttle);
-  vote = λ p lt. rw (opening_vote P p lt) (omega arith);
-  ask = λ kind p lt. rw (opening_ask P kind p lt) (limit_index P kind p);
-  limit = λ kind p lt. rw (opening_own P kind p lt) (limit_index P kind p);
-}

@@ -17,7 +17,7 @@ use Rattle.pw_model.proofs.Greatest.{greatest-agree, greatest-here}
 use Rattle.pw_model.proofs.Maps.{map_map}
 use Rattle.pw_core.specs.declared.tree.Known.{Known}
 use Rattle.pw_core.specs.declared.tree.Allowance.{Allowance}
-use Rattle.pw_core.specs.Known.{IsKnown, known_vote}
+use Rattle.pw_core.specs.inner.Known.{IsKnown, known_vote}
 
 -- the deepest state that all children of a container enable
 abbrev pub least_reach : Plan → State → ℕ → ℕ

@@ -1,5 +1,3 @@
-pub mod Changes
 pub mod Rooms
 pub mod Chains
-pub mod Known
-pub mod Drawn
+pub mod inner

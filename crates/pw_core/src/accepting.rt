@@ -3,13 +3,13 @@ ghost use Rattle.pw_plan.specs.Places.{cpu_at};
 ghost use Rattle.pw_plan.specs.Requests.{Has, group_bound, ops_bound};
 ghost use Rattle.pw_model.specs.States.{IsState, vote_of, with_change};
 ghost use Rattle.pw_model.specs.Refusals.{fixed_refusal};
-ghost use Rattle.pw_model.specs.Answers.{accepted as the_reply, chain_of, change_of as the_change};
+ghost use Rattle.pw_model.specs.Answers.{accepted, chain_of, change_of};
 ghost use Rattle.pw_model.specs.Answers.{states_of};
 ghost use Rattle.pw_model.specs.Composites.{composite_of};
-ghost use Rattle.pw_model.specs.Operations.{accepted_ops, enter as the_entry, idle_ops};
-ghost use Rattle.pw_model.specs.Operations.{is_drawn as the_draw};
+ghost use Rattle.pw_model.specs.Operations.{accepted_ops, enter, idle_ops};
+ghost use Rattle.pw_model.specs.Operations.{is_drawn};
 ghost use Rattle.pw_core.specs.Chains.{AreStatesOf, IsChain, states_in};
-ghost use Rattle.pw_core.specs.Drawn.{drawn_among};
+ghost use Rattle.pw_core.specs.inner.Drawn.{drawn_among};
 ghost use Rattle.pw_core.specs.Rooms.{HasRoom};
 
 use crate::c_states::is_drawn;
@@ -28,7 +28,7 @@ pub fn accepted_reply(plan: &Plan, state: &State, change: Change, request: Reque
     requires accepted { fixed_refusal plan.now request ≡ None }
     requires old { IsState plan.now state.now }
     requires fits { IsState plan.now (with_change state.now change) }
-    ensures { result ≡ the_reply plan.now (with_change state.now change) request }
+    ensures { result ≡ accepted plan.now (with_change state.now change) request }
 {
     let perf = DomainKind::Perf;
     let throttle = DomainKind::Throttle;
@@ -62,7 +62,7 @@ fn joins(plan: &Plan, state: &State, change: Change, cpu: u32, other: u32) -> bo
     requires other { other < length plan.now.cpus }
     requires fits { IsState plan.now state.now }
     ensures { result ≡ (not (other == cpu)
-        && the_draw plan.now state.now (with_change state.now change) other) }
+        && is_drawn plan.now state.now (with_change state.now change) other) }
 {
     other != cpu && is_drawn(plan, state, change, other)
 }
@@ -78,7 +78,7 @@ fn draw_along(plan: &Plan, state: &State, change: Change, cpu: u32, members: &[u
     ensures { let after = with_change state.now change in
         ops.new ≡ record ops.old {
           elements = ops.old.elements
-              ++ map (the_entry plan.now after)
+              ++ map (enter plan.now after)
               (drawn_among plan.now state.now after cpu members.now);
         } }
 {
@@ -122,11 +122,11 @@ fn idle(plan: &Plan, state: &State, change: Change, cpu: u32, ops: &mut Ops) -> 
 pub fn accept(plan: &Plan, state: &State, change: Change, request: Request, ops: &mut Ops) -> Reply
     requires request { Has plan.now request }
     requires accepted { fixed_refusal plan.now request ≡ None }
-    requires change { change ≡ the_change plan.now request }
+    requires change { change ≡ change_of plan.now request }
     requires old { IsState plan.now state.now }
     requires fits { IsState plan.now (with_change state.now change) }
     requires room { HasRoom ops.old (ops_bound plan.now request) }
-    ensures reply { result ≡ the_reply plan.now (with_change state.now change) request }
+    ensures reply { result ≡ accepted plan.now (with_change state.now change) request }
     ensures list { ops.new ≡ record ops.old {
       elements = ops.old.elements
           ++ accepted_ops plan.now state.now (with_change state.now change) request;

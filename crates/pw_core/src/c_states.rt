@@ -1,9 +1,9 @@
 ghost use Rattle.std.specs.Prelude.{◌≡◌, ◌<◌, ◌&&◌, length, All};
 ghost use Rattle.std.specs.List.{list_any};
 ghost use Rattle.pw_model.specs.States.{IsState, with_change};
-ghost use Rattle.pw_model.specs.Domains.{c_state as the_c_state, governs as the_governing};
-ghost use Rattle.pw_model.specs.Domains.{is_gathered as the_gathered, is_sw_all, may_enter as the_leave};
-ghost use Rattle.pw_model.specs.Operations.{is_drawn as the_draw};
+ghost use Rattle.pw_model.specs.Domains.{c_state, governs};
+ghost use Rattle.pw_model.specs.Domains.{is_gathered, is_sw_all, may_enter};
+ghost use Rattle.pw_model.specs.Operations.{is_drawn};
 
 use crate::reads::vote_under;
 use acpi_values::Coord;
@@ -13,7 +13,7 @@ use pw_plan::{Domain, DomainKind, Plan, covers};
 /// Whether each member votes for the domain's state or a deeper one.
 fn is_gathered(state: &State, change: Change, domain: &Domain) -> bool
     requires { All (λ p. p < length state.now.votes) domain.now.members }
-    ensures { result ≡ the_gathered (with_change state.now change) domain.now }
+    ensures { result ≡ is_gathered (with_change state.now change) domain.now }
 {
     for member in domain.members.as_slice() {
         if u32::from(vote_under(state, change, *member).state) <= domain.index {
@@ -25,7 +25,7 @@ fn is_gathered(state: &State, change: Change, domain: &Domain) -> bool
 
 /// Whether it is an idle domain of this processor that software coordinates, about this C state.
 fn governs(cpu: u32, level: u8, domain: &Domain) -> bool
-    ensures { result ≡ the_governing cpu level domain.now }
+    ensures { result ≡ governs cpu level domain.now }
 {
     // The tests that cost least come first.
     u64::from(domain.index) + 1 == u64::from(level)
@@ -36,7 +36,7 @@ fn governs(cpu: u32, level: u8, domain: &Domain) -> bool
 /// Whether each domain that governs this C state of the processor is gathered.
 fn may_enter(plan: &Plan, state: &State, change: Change, cpu: u32, level: u8) -> bool
     requires { IsState plan.now state.now }
-    ensures { result ≡ the_leave plan.now (with_change state.now change) cpu level }
+    ensures { result ≡ may_enter plan.now (with_change state.now change) cpu level }
 {
     for domain in plan.domains.as_slice() {
         if governs(cpu, level, domain) && !is_gathered(state, change, domain) {
@@ -50,7 +50,7 @@ fn may_enter(plan: &Plan, state: &State, change: Change, cpu: u32, level: u8) ->
 pub fn c_state(plan: &Plan, state: &State, change: Change, cpu: u32) -> u8
     requires cpu { cpu < length plan.now.cpus }
     requires fits { IsState plan.now state.now }
-    ensures { result ≡ the_c_state plan.now (with_change state.now change) cpu }
+    ensures { result ≡ c_state plan.now (with_change state.now change) cpu }
 {
     let mut level = vote_under(state, change, cpu).state;
     while level > 0 {
@@ -64,7 +64,7 @@ pub fn c_state(plan: &Plan, state: &State, change: Change, cpu: u32) -> u8
 
 /// Whether a SW_ALL domain of the processor is about this C state.
 fn is_set_on_all(plan: &Plan, cpu: u32, level: u8) -> bool
-    ensures { result ≡ list_any (λ d. the_governing cpu level d && is_sw_all d.coord) plan.now.domains }
+    ensures { result ≡ list_any (λ d. governs cpu level d && is_sw_all d.coord) plan.now.domains }
 {
     for domain in plan.domains.as_slice() {
         if governs(cpu, level, domain) && matches!(domain.coord, Coord::SwAll) {
@@ -78,7 +78,7 @@ fn is_set_on_all(plan: &Plan, cpu: u32, level: u8) -> bool
 pub fn is_drawn(plan: &Plan, state: &State, change: Change, cpu: u32) -> bool
     requires cpu { cpu < length plan.now.cpus }
     requires fits { IsState plan.now state.now }
-    ensures { result ≡ the_draw plan.now state.now (with_change state.now change) cpu }
+    ensures { result ≡ is_drawn plan.now state.now (with_change state.now change) cpu }
 {
     let after = c_state(plan, state, change, cpu);
     c_state(plan, state, Change::Nothing, cpu) < after && is_set_on_all(plan, cpu, after)

@@ -1,11 +1,11 @@
 ghost use Rattle.std.specs.Prelude.{◌≡◌, ◌<◌, length, None};
-ghost use Rattle.pw_plan.specs.Parts.{scale_of as the_scale};
+ghost use Rattle.pw_plan.specs.Parts.{scale_of};
 ghost use Rattle.pw_plan.specs.Places.{cpu_at};
 ghost use Rattle.pw_plan.specs.Requests.{Has};
-ghost use Rattle.pw_model.specs.States.{IsState, capped as the_cap, with_change};
+ghost use Rattle.pw_model.specs.States.{IsState, capped, with_change};
 ghost use Rattle.pw_model.specs.Refusals.{refusal};
-ghost use Rattle.pw_core.specs.Changes.{CanChange};
-ghost use Rattle.pw_model.specs.Answers.{change_of as the_change};
+ghost use Rattle.pw_core.specs.inner.Changes.{CanChange};
+ghost use Rattle.pw_model.specs.Answers.{change_of};
 
 use crate::tree::RUNNING;
 use pw_model::{Change, State, Vote};
@@ -14,7 +14,7 @@ use pw_plan::{DomainKind, Plan, Request};
 /// A limit, which past the last state counts as the last one.
 pub fn capped(plan: &Plan, kind: DomainKind, cpu: u32, n: u32) -> u8
     requires { cpu < length plan.now.cpus }
-    ensures { result ≡ the_cap (the_scale kind (cpu_at plan.now cpu)) n }
+    ensures { result ≡ capped (scale_of kind (cpu_at plan.now cpu)) n }
 {
     let last = (plan.cpu(cpu).state_count(kind) as u32).saturating_sub(1);
     n.min(last) as u8
@@ -25,7 +25,7 @@ pub fn capped(plan: &Plan, kind: DomainKind, cpu: u32, n: u32) -> u8
 pub fn change_of(plan: &Plan, state: &State, request: Request) -> Change
     requires request { Has plan.now request }
     requires accepted { refusal plan.now state.now request ≡ None }
-    ensures { result ≡ the_change plan.now request }
+    ensures { result ≡ change_of plan.now request }
 {
     match request {
         Request::Idle {

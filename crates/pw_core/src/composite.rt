@@ -1,5 +1,5 @@
 ghost use Rattle.std.specs.Prelude.{◌≡◌, ◌<◌, length};
-ghost use Rattle.pw_model.specs.Composites.{add_entry as the_sum, composite_of, own_register as the_own};
+ghost use Rattle.pw_model.specs.Composites.{add_entry, composite_of, own_register};
 ghost use Rattle.pw_core.specs.Chains.{AreStatesOf, IsChain, states_in};
 
 use crate::tree::row;
@@ -8,7 +8,7 @@ use pw_plan::Plan;
 
 /// A processor's own entry method as a register: a number is the address of one of fixed hardware.
 pub fn own_register(entry: EntryMethod) -> Register
-    ensures { result ≡ the_own entry }
+    ensures { result ≡ own_register entry }
 {
     match entry {
         EntryMethod::Register(register) => register,
@@ -24,7 +24,7 @@ pub fn own_register(entry: EntryMethod) -> Register
 
 /// A container's entry method on top of what is below it.
 fn add_entry(register: Register, entry: EntryMethod) -> Register
-    ensures { result ≡ the_sum register entry }
+    ensures { result ≡ add_entry register entry }
 {
     match entry {
         EntryMethod::Register(own) => own,

@@ -1,7 +1,7 @@
 ghost use Rattle.std.specs.Prelude.{◌≡◌, ◌<◌, length, map, All};
-ghost use Rattle.pw_model.specs.States.{IsState, ask_of as the_ask, limit_of as the_limit};
+ghost use Rattle.pw_model.specs.States.{IsState, ask_of, limit_of};
 ghost use Rattle.pw_model.specs.States.{with_change};
-ghost use Rattle.pw_model.specs.Domains.{standing as the_standing, stands_at as the_level};
+ghost use Rattle.pw_model.specs.Domains.{standing, stands_at};
 
 use crate::reads::{ask_under, limit_under};
 use acpi_values::Coord;
@@ -13,8 +13,8 @@ fn stands_at(plan: &Plan, state: &State, change: Change, kind: DomainKind, membe
     requires members { All (λ p. p < length plan.now.cpus) members.now }
     requires fits { IsState plan.now state.now }
     ensures { let after = with_change state.now change in
-        result ≡ the_level (map (the_ask kind after) members.now)
-        (map (the_limit kind after) members.now) }
+        result ≡ stands_at (map (ask_of kind after) members.now)
+        (map (limit_of kind after) members.now) }
 {
     let mut limit = 0;
     let mut ask = u8::MAX;
@@ -31,7 +31,7 @@ pub fn standing(plan: &Plan, state: &State, change: Change, place: usize, cpu: u
     requires place { place < length plan.now.domains }
     requires cpu { cpu < length plan.now.cpus }
     requires fits { IsState plan.now state.now }
-    ensures { result ≡ the_standing plan.now (with_change state.now change) place cpu }
+    ensures { result ≡ standing plan.now (with_change state.now change) place cpu }
 {
     let domain = plan.domain(place);
     let kind = domain.kind;

@@ -15,13 +15,15 @@ mod reads;
 mod refusal;
 mod replaying;
 mod setting;
-pub mod slow;
 mod state;
-#[cfg(test)]
-mod tests;
 mod tree;
 
+pub use composite::{chain_composite, own_register};
+pub use opening::opening_limit;
 pub use ops::Ops;
 pub use pw_model::{HistoryEntry, Reply, Vote};
+pub use refusal::fixed_answer;
 pub use replaying::{replay, replay_on};
+pub use setting::{set_each, set_on};
 pub use state::State;
+pub use tree::row;

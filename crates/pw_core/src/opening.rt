@@ -1,10 +1,10 @@
 ghost use Rattle.std.specs.Prelude.{◌≡◌, ◌<◌, ◌≤◌, ◌++◌, length, map, max, fold, All, IfOk};
-ghost use Rattle.pw_plan.specs.Parts.{scale_of as the_scale};
+ghost use Rattle.pw_plan.specs.Parts.{scale_of};
 ghost use Rattle.pw_plan.specs.Places.{cpu_at, domain_at};
 ghost use Rattle.pw_plan.specs.Planning.{opening_count};
 ghost use Rattle.pw_plan.specs.Requests.{opening_bound};
-ghost use Rattle.pw_model.specs.States.{opening as the_opening, opening_limit as the_limit, running};
-ghost use Rattle.pw_model.specs.Operations.{opening_ops, opening_ops_of as the_ops, set_on as the_set};
+ghost use Rattle.pw_model.specs.States.{opening, opening_limit, running};
+ghost use Rattle.pw_model.specs.Operations.{opening_ops, opening_ops_of, set_on};
 ghost use Rattle.pw_core.specs.Rooms.{HasRoom};
 
 use crate::changing::capped;
@@ -18,9 +18,9 @@ use pw_plan::{DomainKind, Plan};
 use std::alloc::Global;
 
 /// The limit that a processor opens with, 0 where it has no states of this kind.
-fn opening_limit(plan: &Plan, kind: DomainKind, cpu: u32) -> u8
+pub fn opening_limit(plan: &Plan, kind: DomainKind, cpu: u32) -> u8
     requires { cpu < length plan.now.cpus }
-    ensures { result ≡ the_limit (the_scale kind (cpu_at plan.now cpu)) }
+    ensures { result ≡ opening_limit (scale_of kind (cpu_at plan.now cpu)) }
 {
     match plan.cpu(cpu).scale(kind) {
         None => 0,
@@ -30,13 +30,13 @@ fn opening_limit(plan: &Plan, kind: DomainKind, cpu: u32) -> u8
 
 /// The limits that processors open with.
 fn opening_limits(alloc: Global, plan: &Plan, kind: DomainKind) -> Result<List<u8>, Memory>
-    ensures { IfOk result (λ limits. limits ≡ map (λ c. the_limit (the_scale kind c)) plan.now.cpus) }
+    ensures { IfOk result (λ limits. limits ≡ map (λ c. opening_limit (scale_of kind c)) plan.now.cpus) }
 {
     let mut limits = Vec::new(alloc);
     for cpu in 0..plan.cpus.as_slice().len() {
         limits.push(opening_limit(plan, kind, cpu as u32))?;
     }
-    List::from_vec(alloc, limits)
+    Ok(List::from_vec(limits))
 }
 
 /// The votes that processors open with.
@@ -48,13 +48,13 @@ fn opening_votes(alloc: Global, plan: &Plan) -> Result<List<Vote>, Memory>
     for _cpu in plan.cpus.as_slice() {
         votes.push(RUNNING)?;
     }
-    List::from_vec(alloc, votes)
+    Ok(List::from_vec(votes))
 }
 
 /// The state that a plan opens with.
 #[tactic(auto, unfolding(pw_model::specs::States::opening))]
 pub fn opened(alloc: Global, plan: &Plan) -> Result<State, Memory>
-    ensures { IfOk result (λ state. state ≡ the_opening plan.now) }
+    ensures { IfOk result (λ state. state ≡ opening plan.now) }
 {
     Ok(State {
         votes: opening_votes(alloc, plan)?,
@@ -70,7 +70,7 @@ pub fn opened(alloc: Global, plan: &Plan) -> Result<State, Memory>
 fn slowest_limit(plan: &Plan, kind: DomainKind, members: &[u32]) -> u8
     requires { All (λ p. p < length plan.now.cpus) members.now }
     ensures { result ≡ fold max 0
-        (map (λ p. the_limit (the_scale kind (cpu_at plan.now p))) members.now) }
+        (map (λ p. opening_limit (scale_of kind (cpu_at plan.now p))) members.now) }
 {
     let mut limit = 0;
     for member in members {
@@ -85,7 +85,7 @@ fn open_each(plan: &Plan, kind: DomainKind, members: &[u32], ops: &mut Ops)
     requires room { HasRoom ops.old (length members.now) }
     ensures { ops.new ≡ record ops.old {
       elements = ops.old.elements
-          ++ map (λ p. the_set plan.now kind (the_limit (the_scale kind (cpu_at plan.now p))) p) members.now;
+          ++ map (λ p. set_on plan.now kind (opening_limit (scale_of kind (cpu_at plan.now p))) p) members.now;
     } }
 {
     for member in members {
@@ -98,7 +98,7 @@ fn open_each(plan: &Plan, kind: DomainKind, members: &[u32], ops: &mut Ops)
 fn open_domain(plan: &Plan, place: usize, ops: &mut Ops)
     requires place { place < length plan.now.domains }
     requires room { HasRoom ops.old (opening_count (domain_at plan.now place)) }
-    ensures { ops.new ≡ record ops.old { elements = ops.old.elements ++ the_ops plan.now place } }
+    ensures { ops.new ≡ record ops.old { elements = ops.old.elements ++ opening_ops_of plan.now place } }
 {
     let domain = plan.domain(place);
     let kind = domain.kind;

@@ -7,7 +7,7 @@ use std::marker::Model;
 
 /// A list of operations with a capacity: it takes memory when it is made, and none later. Contracts
 /// see its operations and its capacity.
-#[derive(Debug, Drop)]
+#[derive(Drop)]
 pub struct Ops {
     room: Room<Op>,
 }

@@ -1,7 +1,7 @@
 //! What stands in a state that a request changes, without writing it.
 ghost use Rattle.std.specs.Prelude.{◌≡◌, ◌<◌, length};
-ghost use Rattle.pw_model.specs.States.{ask_of as the_ask, limit_of as the_limit};
-ghost use Rattle.pw_model.specs.States.{vote_of as the_vote, with_change};
+ghost use Rattle.pw_model.specs.States.{ask_of, limit_of};
+ghost use Rattle.pw_model.specs.States.{vote_of, with_change};
 
 use pw_model::{Change, State, Vote};
 use pw_plan::DomainKind;
@@ -9,7 +9,7 @@ use pw_plan::DomainKind;
 /// The vote of a processor in the changed state.
 pub fn vote_under(state: &State, change: Change, cpu: u32) -> Vote
     requires { cpu < length state.now.votes }
-    ensures { result ≡ the_vote (with_change state.now change) cpu }
+    ensures { result ≡ vote_of (with_change state.now change) cpu }
 {
     match change {
         Change::Vote { cpu: changed, vote } if changed == cpu => vote,
@@ -21,7 +21,7 @@ pub fn vote_under(state: &State, change: Change, cpu: u32) -> Vote
 pub fn ask_under(kind: DomainKind, state: &State, change: Change, cpu: u32) -> u8
     requires perf_asks { cpu < length state.now.perf_asks }
     requires throttle_asks { cpu < length state.now.throttle_asks }
-    ensures { result ≡ the_ask kind (with_change state.now change) cpu }
+    ensures { result ≡ ask_of kind (with_change state.now change) cpu }
 {
     match kind {
         DomainKind::Perf => match change {
@@ -48,7 +48,7 @@ pub fn ask_under(kind: DomainKind, state: &State, change: Change, cpu: u32) -> u
 pub fn limit_under(kind: DomainKind, state: &State, change: Change, cpu: u32) -> u8
     requires perf_limits { cpu < length state.now.perf_limits }
     requires throttle_limits { cpu < length state.now.throttle_limits }
-    ensures { result ≡ the_limit kind (with_change state.now change) cpu }
+    ensures { result ≡ limit_of kind (with_change state.now change) cpu }
 {
     match kind {
         DomainKind::Perf => match change {

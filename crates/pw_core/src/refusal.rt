@@ -1,14 +1,14 @@
 ghost use Rattle.std.specs.Prelude.{◌≡◌, ◌<◌, length};
 ghost use Rattle.std.specs.List.{position_or_len};
-ghost use Rattle.pw_plan.specs.Parts.{scale_of as the_scale};
+ghost use Rattle.pw_plan.specs.Parts.{scale_of};
 ghost use Rattle.pw_plan.specs.Places.{cpu_at};
 ghost use Rattle.pw_plan.specs.Requests.{Has};
 ghost use Rattle.pw_model.specs.States.{IsState};
-ghost use Rattle.pw_model.specs.Refusals.{above_limit as the_limit_test, ask_refusal as the_ask_refusal};
-ghost use Rattle.pw_model.specs.Refusals.{domain_refusal as the_domain_refusal};
-ghost use Rattle.pw_model.specs.Refusals.{fixed_refusal as the_fixed_refusal};
-ghost use Rattle.pw_model.specs.Refusals.{idle_refusal as the_idle_refusal, is_unfit as the_unfit};
-ghost use Rattle.pw_model.specs.Refusals.{refusal as the_refusal, unfit_refusal as the_unfit_refusal};
+ghost use Rattle.pw_model.specs.Refusals.{above_limit, ask_refusal};
+ghost use Rattle.pw_model.specs.Refusals.{domain_refusal};
+ghost use Rattle.pw_model.specs.Refusals.{fixed_refusal};
+ghost use Rattle.pw_model.specs.Refusals.{idle_refusal, is_unfit};
+ghost use Rattle.pw_model.specs.Refusals.{refusal, unfit_refusal};
 
 use crate::counts::in_32_bits;
 use crate::reads::limit_under;
@@ -19,14 +19,14 @@ use pw_plan::{Domain, DomainKind, Plan, Request, covers};
 
 /// Whether it is an idle domain of the processor that can't be coordinated.
 fn is_unfit(cpu: u32, domain: &Domain) -> bool
-    ensures { result ≡ the_unfit cpu domain.now }
+    ensures { result ≡ is_unfit cpu domain.now }
 {
     covers(DomainKind::Idle, cpu, domain) && domain.unfit != 0
 }
 
 /// The place of the first such domain, or how many domains there are.
 fn unfit_of(plan: &Plan, cpu: u32) -> usize
-    ensures { result ≡ position_or_len (the_unfit cpu) plan.now.domains }
+    ensures { result ≡ position_or_len (is_unfit cpu) plan.now.domains }
 {
     let domains = plan.domains.as_slice();
     for (place, domain) in domains.iter().enumerate() {
@@ -39,7 +39,7 @@ fn unfit_of(plan: &Plan, cpu: u32) -> usize
 
 /// The refusal for the first such domain.
 fn unfit_refusal(plan: &Plan, cpu: u32) -> Option<Reply>
-    ensures { result ≡ the_unfit_refusal plan.now cpu }
+    ensures { result ≡ unfit_refusal plan.now cpu }
 {
     let place = unfit_of(plan, cpu);
     if place < plan.domains.as_slice().len() {
@@ -55,7 +55,7 @@ fn unfit_refusal(plan: &Plan, cpu: u32) -> Option<Reply>
 /// The refusal of an idle request.
 fn idle_refusal(plan: &Plan, cpu: u32, state: u32, tolerance: u32) -> Option<Reply>
     requires { cpu < length plan.now.cpus }
-    ensures { result ≡ the_idle_refusal plan.now cpu state tolerance }
+    ensures { result ≡ idle_refusal plan.now cpu state tolerance }
 {
     let table = &plan.cpu(cpu).idle;
     if matches!(table.kind, IdleKind::Absent) {
@@ -83,7 +83,7 @@ fn idle_refusal(plan: &Plan, cpu: u32, state: u32, tolerance: u32) -> Option<Rep
 /// The refusal of a request on the processor's domain of this kind.
 fn domain_refusal(plan: &Plan, kind: DomainKind, cpu: u32) -> Option<Reply>
     requires { cpu < length plan.now.cpus }
-    ensures { result ≡ the_domain_refusal plan.now kind cpu (the_scale kind (cpu_at plan.now cpu)) }
+    ensures { result ≡ domain_refusal plan.now kind cpu (scale_of kind (cpu_at plan.now cpu)) }
 {
     if plan.cpu(cpu).scale(kind).is_none() {
         return Some(Reply::NoTable);
@@ -103,7 +103,7 @@ fn domain_refusal(plan: &Plan, kind: DomainKind, cpu: u32) -> Option<Reply>
 /// The refusal of a request for a state of this kind.
 fn ask_refusal(plan: &Plan, kind: DomainKind, cpu: u32, index: u32) -> Option<Reply>
     requires { cpu < length plan.now.cpus }
-    ensures { result ≡ the_ask_refusal plan.now kind cpu index }
+    ensures { result ≡ ask_refusal plan.now kind cpu index }
 {
     if let Some(reply) = domain_refusal(plan, kind, cpu) {
         return Some(reply);
@@ -116,12 +116,13 @@ fn ask_refusal(plan: &Plan, kind: DomainKind, cpu: u32, index: u32) -> Option<Re
     }
 }
 
-/// The refusal that comes in every state.
-fn fixed_refusal(plan: &Plan, request: Request) -> Option<Reply>
-    requires { Has plan.now request }
-    ensures { result ≡ the_fixed_refusal plan.now request }
+/// The refusal of a request that is refused so in every state, `None` where some state accepts it. It
+/// takes no memory.
+pub fn fixed_answer(plan: &Plan, request: &Request) -> Option<Reply>
+    requires { Has plan.now request.now }
+    ensures { result ≡ fixed_refusal plan.now request.now }
 {
-    match request {
+    match *request {
         Request::Idle {
             cpu,
             state,
@@ -139,7 +140,7 @@ fn fixed_refusal(plan: &Plan, request: Request) -> Option<Reply>
 fn above_limit(plan: &Plan, state: &State, kind: DomainKind, cpu: u32, index: u32) -> Option<Reply>
     requires cpu { cpu < length plan.now.cpus }
     requires fits { IsState plan.now state.now }
-    ensures { result ≡ the_limit_test state.now kind cpu index }
+    ensures { result ≡ above_limit state.now kind cpu index }
 {
     let limit = u32::from(limit_under(kind, state, Change::Nothing, cpu));
     if index < limit {
@@ -153,9 +154,9 @@ fn above_limit(plan: &Plan, state: &State, kind: DomainKind, cpu: u32, index: u3
 pub fn refusal(plan: &Plan, state: &State, request: Request) -> Option<Reply>
     requires request { Has plan.now request }
     requires fits { IsState plan.now state.now }
-    ensures { result ≡ the_refusal plan.now state.now request }
+    ensures { result ≡ refusal plan.now state.now request }
 {
-    if let Some(reply) = fixed_refusal(plan, request) {
+    if let Some(reply) = fixed_answer(plan, &request) {
         return Some(reply);
     }
     match request {

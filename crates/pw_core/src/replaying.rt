@@ -1,6 +1,6 @@
 ghost use Rattle.std.specs.Prelude.{◌≡◌, All, IfOk};
 ghost use Rattle.pw_model.specs.States.{IsState};
-ghost use Rattle.pw_model.specs.History.{IsEntry, replay as the_replay, replay_from};
+ghost use Rattle.pw_model.specs.History.{IsEntry, replay, replay_from};
 
 use crate::state::State;
 use pw_base::Memory;
@@ -26,7 +26,7 @@ pub fn replay_on(plan: &Plan, state: &mut State, entries: &[HistoryEntry])
 #[tactic(auto, unfolding(pw_model::specs::History::replay))]
 pub fn replay(alloc: Global, plan: &Plan, entries: &[HistoryEntry]) -> Result<State, Memory>
     requires { All (IsEntry plan.now) entries.now }
-    ensures replay { IfOk result (λ state. state ≡ the_replay plan.now entries.now) }
+    ensures replay { IfOk result (λ state. state ≡ replay plan.now entries.now) }
     ensures fits { IfOk result (λ state. IsState plan.now state) }
 {
     let mut state = State::open(alloc, plan)?;

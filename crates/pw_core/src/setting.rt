@@ -1,11 +1,11 @@
 ghost use Rattle.std.specs.Prelude.{◌≡◌, ◌<◌, ◌++◌, length, map, All};
-ghost use Rattle.pw_plan.specs.Parts.{scale_of as the_scale};
+ghost use Rattle.pw_plan.specs.Parts.{scale_of};
 ghost use Rattle.pw_plan.specs.Requests.{domain_bound};
-ghost use Rattle.pw_plan.specs.Places.{domain_of as the_place};
+ghost use Rattle.pw_plan.specs.Places.{domain_of};
 ghost use Rattle.pw_model.specs.States.{IsState, with_change};
 ghost use Rattle.pw_model.specs.Answers.{stands};
-ghost use Rattle.pw_model.specs.Operations.{control_of as the_control, domain_ops as the_ops};
-ghost use Rattle.pw_model.specs.Operations.{register_of as the_register, set_on as the_set};
+ghost use Rattle.pw_model.specs.Operations.{control_of, domain_ops};
+ghost use Rattle.pw_model.specs.Operations.{register_of, set_on};
 ghost use Rattle.pw_core.specs.Rooms.{HasRoom};
 
 use crate::composite::own_register;
@@ -17,7 +17,7 @@ use pw_plan::{CpuParts, DomainKind, Plan};
 
 /// The control register of a processor's states of this kind.
 fn register_of(kind: DomainKind, cpu: &CpuParts) -> Register
-    ensures { result ≡ the_register (the_scale kind cpu.now) }
+    ensures { result ≡ register_of (scale_of kind cpu.now) }
 {
     match cpu.scale(kind) {
         None => own_register(EntryMethod::Integer(0)),
@@ -30,7 +30,7 @@ fn register_of(kind: DomainKind, cpu: &CpuParts) -> Register
 
 /// The control value of a processor's state of this kind.
 fn control_of(kind: DomainKind, cpu: &CpuParts, state: u8) -> u32
-    ensures { result ≡ the_control (the_scale kind cpu.now) state }
+    ensures { result ≡ control_of (scale_of kind cpu.now) state }
 {
     match cpu.scale(kind) {
         None => 0,
@@ -48,7 +48,7 @@ fn control_of(kind: DomainKind, cpu: &CpuParts, state: u8) -> u32
 /// Sets a state on a processor, by its own register and control value.
 pub fn set_on(plan: &Plan, kind: DomainKind, state: u8, cpu: u32) -> Op
     requires { cpu < length plan.now.cpus }
-    ensures { result ≡ the_set plan.now kind state cpu }
+    ensures { result ≡ set_on plan.now kind state cpu }
 {
     let parts = plan.cpu(cpu);
     Op::Set {
@@ -63,7 +63,7 @@ pub fn set_each(plan: &Plan, kind: DomainKind, state: u8, members: &[u32], ops: 
     requires members { All (λ p. p < length plan.now.cpus) members.now }
     requires room { HasRoom ops.old (length members.now) }
     ensures { ops.new ≡ record ops.old {
-      elements = ops.old.elements ++ map (the_set plan.now kind state) members.now;
+      elements = ops.old.elements ++ map (set_on plan.now kind state) members.now;
     } }
 {
     for member in members {
@@ -74,7 +74,7 @@ pub fn set_each(plan: &Plan, kind: DomainKind, state: u8, members: &[u32], ops: 
 /// Where the processor's domain of this kind stands in the changed state.
 pub fn stands_under(plan: &Plan, state: &State, change: Change, kind: DomainKind, cpu: u32) -> Reply
     requires cpu { cpu < length plan.now.cpus }
-    requires place { the_place plan.now kind cpu < length plan.now.domains }
+    requires place { domain_of plan.now kind cpu < length plan.now.domains }
     requires fits { IsState plan.now state.now }
     ensures { result ≡ stands plan.now (with_change state.now change) kind cpu }
 {
@@ -95,13 +95,13 @@ pub fn set_domain(
     ops: &mut Ops,
 ) -> Reply
     requires cpu { cpu < length plan.now.cpus }
-    requires place { the_place plan.now kind cpu < length plan.now.domains }
+    requires place { domain_of plan.now kind cpu < length plan.now.domains }
     requires fits { IsState plan.now state.now }
     requires room { HasRoom ops.old (domain_bound plan.now kind cpu) }
     ensures reply { result ≡ stands plan.now (with_change state.now change) kind cpu }
     ensures list { ops.new ≡ record ops.old {
       elements = ops.old.elements
-          ++ the_ops plan.now state.now (with_change state.now change) kind cpu;
+          ++ domain_ops plan.now state.now (with_change state.now change) kind cpu;
     } }
 {
     let place = plan.domain_of(kind, cpu);

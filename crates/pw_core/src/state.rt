@@ -10,7 +10,7 @@ use std::alloc::Global;
 use std::marker::Model;
 
 /// What the processors of a plan last asked for. Contracts see the lists of votes, asks and limits.
-#[derive(Debug, Drop)]
+#[derive(Drop)]
 pub struct State {
     lists: Lists,
 }
@@ -26,15 +26,15 @@ impl Model for State {
 impl State {
     ghost use Rattle.std.specs.Prelude.{◌≡◌, ◌++◌, IfOk};
     ghost use Rattle.pw_plan.specs.Requests.{Has, opening_bound, ops_bound};
-    ghost use Rattle.pw_model.specs.States.{IsState, opening as the_opening};
-    ghost use Rattle.pw_model.specs.Answers.{after, answer as the_answer};
+    ghost use Rattle.pw_model.specs.States.{IsState, opening};
+    ghost use Rattle.pw_model.specs.Answers.{after, answer};
     ghost use Rattle.pw_model.specs.Operations.{opening_ops, ops_of};
     ghost use Rattle.pw_core.specs.Rooms.{HasRoom};
 
     /// The state at the start: everyone runs, the limits are those of the tables, and each processor
     /// asks for the fastest state that its limit allows.
     pub fn open(alloc: Global, plan: &Plan) -> Result<State, Memory>
-        ensures opening { IfOk result (λ state. state ≡ the_opening plan.now) }
+        ensures opening { IfOk result (λ state. state ≡ opening plan.now) }
         ensures fits { IfOk result (λ state. IsState plan.now state) }
     {
         Ok(State {
@@ -54,7 +54,7 @@ impl State {
     pub fn answer(&self, plan: &Plan, request: Request) -> Reply
         requires request { Has plan.now request }
         requires fits { IsState plan.now self.now }
-        ensures { result ≡ the_answer plan.now self.now request }
+        ensures { result ≡ answer plan.now self.now request }
     {
         let lists = &self.lists;
         match refusal(plan, lists, request) {
@@ -108,7 +108,7 @@ impl State {
         requires request { Has plan.now request }
         requires fits { IsState plan.now self.old }
         requires room { HasRoom ops.old (ops_bound plan.now request) }
-        ensures reply { result ≡ the_answer plan.now self.old request }
+        ensures reply { result ≡ answer plan.now self.old request }
         ensures list { ops.new ≡ record ops.old {
           elements = ops.old.elements
               ++ ops_of plan.now self.old request;

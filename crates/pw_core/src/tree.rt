@@ -2,9 +2,9 @@ ghost use Rattle.std.specs.Prelude.{◌≡◌, ◌<◌, ◌≤◌, ◌&&◌, ◌
 ghost use Rattle.acpi_values.specs.Idle.{rows_of};
 ghost use Rattle.pw_plan.specs.Places.{row_at};
 ghost use Rattle.pw_model.specs.States.{IsState, idling, running, with_change};
-ghost use Rattle.pw_model.specs.Containers.{child_vote as the_child_vote, container_vote as the_vote};
-ghost use Rattle.pw_model.specs.Containers.{enables_to as the_reach, greatest};
-ghost use Rattle.pw_core.specs.Known.{IsKnown, known_vote as the_known};
+ghost use Rattle.pw_model.specs.Containers.{child_vote, container_vote};
+ghost use Rattle.pw_model.specs.Containers.{enables_to, greatest};
+ghost use Rattle.pw_core.specs.inner.Known.{IsKnown, known_vote};
 
 use crate::reads::vote_under;
 use acpi_values::{IdleKind, IdleRow, IdleTable};
@@ -45,7 +45,7 @@ pub fn row(table: &IdleTable, state: u8) -> IdleRow
 /// What a child with this table and vote allows.
 fn allowed(table: &IdleTable, vote: Vote) -> Allowance
     requires { vote.state ≤ length (rows_of table.now) }
-    ensures value { result ≡ record { state = the_reach table.now vote; tolerance = vote.tolerance } }
+    ensures value { result ≡ record { state = enables_to table.now vote; tolerance = vote.tolerance } }
     ensures fits { vote.tolerance < 2 ^ 32 }
 {
     let state = if vote.state == 0 {
@@ -86,7 +86,7 @@ fn deepest(table: &IdleTable, allowance: Allowance) -> u8
 fn cpu_vote(plan: &Plan, state: &State, change: Change, cpu: u32) -> Vote
     requires cpu { cpu < length plan.now.cpus }
     requires fits { IsState plan.now state.now }
-    ensures { result ≡ the_child_vote plan.now (with_change state.now change) (Child.Cpu cpu) }
+    ensures { result ≡ child_vote plan.now (with_change state.now change) (Child.Cpu cpu) }
 {
     match plan.cpu(cpu).idle.kind {
         IdleKind::Lpi => vote_under(state, change, cpu),
@@ -109,7 +109,7 @@ fn vote_in(state: u8, tolerance: u32) -> Vote
 
 /// The vote of this container, where it is known.
 fn known_vote(known: Option<Known>, node: u32) -> Option<Vote>
-    ensures { result ≡ the_known known node }
+    ensures { result ≡ known_vote known node }
 {
     match known {
         Some(found) if found.node == node => Some(found.vote),
@@ -129,7 +129,7 @@ pub fn container_vote(
     requires old { IsState plan.now state.now }
     requires fits { IsState plan.now (with_change state.now change) }
     requires known { IsKnown plan.now (with_change state.now change) known }
-    ensures { result ≡ the_vote plan.now (with_change state.now change) node }
+    ensures { result ≡ container_vote plan.now (with_change state.now change) node }
 {
     if let Some(vote) = known_vote(known, node) {
         return vote;

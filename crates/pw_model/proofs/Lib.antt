@@ -9,3 +9,5 @@ pub mod Standings
 pub mod Registers
 pub mod Histories
 pub mod Gathering
+pub mod Opening
+pub mod Fitting

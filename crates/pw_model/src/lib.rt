@@ -7,8 +7,6 @@ mod entry;
 mod laws;
 mod reply;
 mod state;
-#[cfg(test)]
-mod tests;
 
 pub use entry::HistoryEntry;
 pub use laws::{

@@ -12,7 +12,7 @@ pub struct Vote {
 }
 
 /// Votes, asks and limits: in each list one for each processor of a plan.
-#[derive(Debug, Drop)]
+#[derive(Drop)]
 pub struct State {
     pub votes: List<Vote>,
     /// The performance state that is asked for, counted from 0, the fastest. 0 without such states.

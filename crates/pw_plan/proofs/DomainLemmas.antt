@@ -16,8 +16,9 @@ use Rattle.pw_plan.specs.declared.domain.DomainKind.{DomainKind}
 use Rattle.pw_plan.specs.declared.domain.DomainKind.TheVariants.{Perf, Throttle, Idle}
 use Rattle.pw_plan.specs.declared.domains.DomainName.{DomainName}
 use Rattle.pw_plan.specs.Parts.{cpu_in, no_cpu, scale_of}
-use Rattle.pw_plan.specs.Domains.{all_domains, declared_of, dependency_in, domain_with, domains_of, entry_of, is_alone, is_in, is_known, led_by, members_of, name_in, named_domains, names_of}
-use Rattle.pw_plan.specs.Domains.{own_domain}
+use Rattle.pw_plan.specs.Domains.{declared_of, dependency_in, entry_of, is_alone, is_in}
+use Rattle.pw_plan.specs.inner.DomainList.{all_domains, domain_with, domains_of, is_known, led_by, members_of, name_in, named_domains, names_of}
+use Rattle.pw_plan.specs.inner.DomainList.{own_domain}
 use Rattle.pw_plan.specs.Groups.{has_member, is_idle, no_domain}
 use Rattle.pw_plan.specs.Planning.{HasDomains, covers, opening_by, opening_count, same_kind}
 use Rattle.pw_plan.proofs.Lists.{any_append_left, any_append_right, any_at, any_flat_map, each_append, each_flat_map, each_map, first_place, length-flat_map-le, or_left, places-each, places-has}

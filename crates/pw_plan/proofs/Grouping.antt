@@ -87,7 +87,7 @@ map_map f g [] = refl
 map_map f g (x ∷ xs) = ap (λ ys. g (f x) ∷ ys) (map_map f g xs)
 
 -- the first place is that of the first element that passes
-places-first : {X : Type 0} (t : X → Bool) (k : ℕ) (xs : List X) (i : ℕ) (d : X) → i < length xs → t (get_or xs i d) ≡ true → list_any t (take i xs) ≡ false → first_of (places_from t k xs) ≡ k + i
+pub places-first : {X : Type 0} (t : X → Bool) (k : ℕ) (xs : List X) (i : ℕ) (d : X) → i < length xs → t (get_or xs i d) ≡ true → list_any t (take i xs) ≡ false → first_of (places_from t k xs) ≡ k + i
 places-first t k [] i d lt e n = absurd (omega arith)
 places-first t k (x ∷ xs) zero d lt e n = rw e (omega arith)
 places-first t k (x ∷ xs) (suc i) d lt e n = step (t x) n (places-first t (k + 1) xs i d (omega arith) e)
@@ -97,11 +97,11 @@ places-first t k (x ∷ xs) (suc i) d lt e n = step (t x) n (places-first t (k +
     step true n r = cc
     step false n r = r n ∙ omega arith
 
-some_member : (xs : List ℕ) (p : ℕ) → has_member xs p ≡ true → 0 < length xs
+pub some_member : (xs : List ℕ) (p : ℕ) → has_member xs p ≡ true → 0 < length xs
 some_member [] p e = cc
 some_member (x ∷ xs) p e = omega arith
 
-negated : (b : Bool) → not b ≡ true → b ≡ false
+pub negated : (b : Bool) → not b ≡ true → b ≡ false
 negated true e = cc
 negated false e = refl
 

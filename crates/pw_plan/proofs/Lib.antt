@@ -10,3 +10,9 @@ pub mod GroupLemmas
 pub mod Soundness
 pub mod Joining
 pub mod Grouping
+pub mod Found
+pub mod Rising
+pub mod Orders
+pub mod Ordered
+pub mod OneDomains
+pub mod Listing

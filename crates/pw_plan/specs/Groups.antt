@@ -13,6 +13,9 @@ use Rattle.pw_plan.specs.Tree.{places_from}
 unfoldable pub no_domain : Domain
 no_domain = record { kind = Idle; number = None; index = 0; coord = HwAll; members = []; unfit = 0 }
 
+unfoldable pub no_group : Group
+no_group = record { members = [] }
+
 abbrev pub domain_in : List Domain → ℕ → Domain
 domain_in ds k = slice_index_or ds k no_domain
 

@@ -3,6 +3,8 @@ pub mod Tree
 pub mod Limits
 pub mod Domains
 pub mod Groups
+pub mod Orderly
 pub mod Planning
 pub mod Places
 pub mod Requests
+pub mod inner

@@ -14,6 +14,7 @@ use Rattle.pw_plan.specs.declared.domain.Group.{Group}
 use Rattle.pw_plan.specs.declared.plan.Plan.{Plan}
 use Rattle.pw_plan.specs.Parts.{container_in, cpu_in, no_row}
 use Rattle.pw_plan.specs.Groups.{domain_in, has_member}
+unfoldable pub use Rattle.pw_plan.specs.Groups.{no_group}
 use Rattle.pw_plan.specs.Planning.{covers}
 
 abbrev pub container_at : Plan → ℕ → ContainerParts
@@ -27,9 +28,6 @@ children_at P n = slice_index_or P.children n []
 
 abbrev pub domain_at : Plan → ℕ → Domain
 domain_at P d = domain_in P.domains d
-
-unfoldable pub no_group : Group
-no_group = record { members = [] }
 
 abbrev pub group_at : Plan → ℕ → Group
 group_at P g = slice_index_or P.groups g no_group

@@ -15,7 +15,7 @@ use Rattle.pw_plan.specs.declared.domain.Group.{Group}
 use Rattle.pw_plan.specs.Parts.{PartsFit, container_in, cpu_in, scale_of, count_of}
 use Rattle.pw_plan.specs.Tree.{all_children, containers_of, is_number}
 use Rattle.pw_plan.specs.Limits.{limit_passed}
-use Rattle.pw_plan.specs.Domains.{all_domains, has_register}
+use Rattle.pw_plan.specs.Domains.{AreDomains, has_register}
 use Rattle.pw_plan.specs.Groups.{domain_in, groups_of, is_idle, has_member}
 
 -- It is the plan of its parts: they fit together and pass no limit, and the rest is made of them.
@@ -23,7 +23,7 @@ pub record IsPlanOf (cs : List ContainerParts) (ps : List CpuParts) (children : 
   pub fit : PartsFit cs ps
   pub within : limit_passed cs ps ≡ None
   pub children_are : children ≡ all_children cs ps
-  pub domains_are : ds ≡ all_domains ps
+  pub domains_are : AreDomains ps ds
   pub groups_are : gs ≡ groups_of ds (length ps)
 
 -- # What follows for every plan

@@ -1,14 +1,14 @@
 ghost use Rattle.std.specs.Prelude.{◌≡◌, ◌<◌, ◌≤◌, ◌^◌, length};
-ghost use Rattle.pw_plan.specs.Planning.{covers as the_test, opening_by as the_opening};
-ghost use Rattle.pw_plan.specs.Planning.{opening_count as the_count, same_kind as the_same};
-ghost use Rattle.pw_plan.specs.Requests.{set_by as the_setting};
+ghost use Rattle.pw_plan.specs.Planning.{covers, opening_by};
+ghost use Rattle.pw_plan.specs.Planning.{opening_count, same_kind};
+ghost use Rattle.pw_plan.specs.Requests.{set_by};
 
 use crate::domain::{Domain, DomainKind};
 use crate::groups::{has_member, is_idle};
 use acpi_values::Coord;
 
 fn same_kind(one: DomainKind, other: DomainKind) -> bool
-    ensures { result ≡ the_same one other }
+    ensures { result ≡ same_kind one other }
 {
     match one {
         DomainKind::Perf => matches!(other, DomainKind::Perf),
@@ -19,14 +19,14 @@ fn same_kind(one: DomainKind, other: DomainKind) -> bool
 
 /// Whether the domain is of this kind and has the processor.
 pub fn covers(kind: DomainKind, cpu: u32, domain: &Domain) -> bool
-    ensures { result ≡ the_test kind cpu domain.now }
+    ensures { result ≡ covers kind cpu domain.now }
 {
     same_kind(domain.kind, kind) && has_member(domain.members.as_slice(), cpu)
 }
 
 /// On how many members a new state of a domain is set.
 pub fn set_by(coord: Coord, members: u32) -> u32
-    ensures { result ≡ the_setting coord members }
+    ensures { result ≡ set_by coord members }
 {
     match coord {
         Coord::SwAll => members,
@@ -38,7 +38,7 @@ pub fn set_by(coord: Coord, members: u32) -> u32
 /// On how many members a domain's state is set at the start.
 pub fn opening_count(domain: &Domain) -> u32
     requires { length domain.now.members ≤ 256 }
-    ensures { result ≡ the_count domain.now }
+    ensures { result ≡ opening_count domain.now }
 {
     if is_idle(domain.kind) || domain.unfit > 0 {
         return 0;

@@ -20,7 +20,7 @@ pub enum DomainKind {
 }
 
 /// A dependency domain: processors whose states depend on one another (ACPI 6.5, 8.3).
-#[derive(Debug, Drop)]
+#[derive(Drop)]
 pub struct Domain {
     pub kind: DomainKind,
     /// The number that its members declare; None for a domain of a single processor that declares none.
@@ -39,7 +39,7 @@ pub struct Domain {
 
 /// Processors joined by chains of idle domains that software coordinates: their C states are
 /// decided together.
-#[derive(Debug, Drop)]
+#[derive(Drop)]
 pub struct Group {
     /// The numbers of its processors, in order.
     pub members: List<u32>,

@@ -1,10 +1,10 @@
 ghost use Rattle.std.specs.Prelude.{◌≡◌, ◌<◌, ◌≤◌, length, slice_index_or, All, IfOk};
 ghost use Rattle.std.specs.List.{range_with_len};
-ghost use Rattle.pw_plan.specs.Groups.{group_with as the_group, groups_by, groups_of as the_groups};
-ghost use Rattle.pw_plan.specs.Groups.{has_member as the_member, is_idle as the_idle, is_link as the_link};
-ghost use Rattle.pw_plan.specs.Groups.{is_linked as the_linked, is_software as the_software};
-ghost use Rattle.pw_plan.specs.Groups.{join_members as the_joined, labels_of as the_labels};
-ghost use Rattle.pw_plan.specs.Groups.{leads_group as the_lead, relabel as the_relabel, rename};
+ghost use Rattle.pw_plan.specs.Groups.{group_with, groups_by, groups_of};
+ghost use Rattle.pw_plan.specs.Groups.{has_member, is_idle, is_link};
+ghost use Rattle.pw_plan.specs.Groups.{is_linked, is_software};
+ghost use Rattle.pw_plan.specs.Groups.{join_members, labels_of};
+ghost use Rattle.pw_plan.specs.Groups.{leads_group, relabel, rename};
 
 use crate::domain::{Domain, DomainKind, Group};
 use acpi_values::Coord;
@@ -13,7 +13,7 @@ use std::alloc::Global;
 
 /// Whether software coordinates.
 pub fn is_software(coord: Coord) -> bool
-    ensures { result ≡ the_software coord }
+    ensures { result ≡ is_software coord }
 {
     match coord {
         Coord::SwAll => true,
@@ -24,7 +24,7 @@ pub fn is_software(coord: Coord) -> bool
 
 /// Whether it is a domain of idle states.
 pub fn is_idle(kind: DomainKind) -> bool
-    ensures { result ≡ the_idle kind }
+    ensures { result ≡ is_idle kind }
 {
     match kind {
         DomainKind::Perf => false,
@@ -35,21 +35,21 @@ pub fn is_idle(kind: DomainKind) -> bool
 
 /// Whether a processor is among these.
 pub fn has_member(members: &[u32], cpu: u32) -> bool
-    ensures { result ≡ the_member members.now cpu }
+    ensures { result ≡ has_member members.now cpu }
 {
     members.contains(&cpu)
 }
 
 /// Whether it is an idle domain that software coordinates.
 fn is_link(domain: &Domain) -> bool
-    ensures { result ≡ the_link domain.now }
+    ensures { result ≡ is_link domain.now }
 {
     is_idle(domain.kind) && is_software(domain.coord)
 }
 
 /// Whether the processor is in an idle domain that software coordinates.
 fn is_linked(domains: &[Domain], cpu: u32) -> bool
-    ensures { result ≡ the_linked domains.now cpu }
+    ensures { result ≡ is_linked domains.now cpu }
 {
     for domain in domains {
         if is_link(domain) && has_member(domain.members.as_slice(), cpu) {
@@ -68,7 +68,7 @@ fn renamed(label: u32, old: u32, new: u32) -> u32
 
 /// Writes one label in place of another.
 fn relabel(labels: &mut [u32], old: u32, new: u32)
-    ensures { labels.new ≡ the_relabel old new labels.old }
+    ensures { labels.new ≡ relabel old new labels.old }
 {
     for label in labels.iter_mut() {
         *label = renamed(*label, old, new);
@@ -78,7 +78,7 @@ fn relabel(labels: &mut [u32], old: u32, new: u32)
 /// Gives all members one label, and with them all that had theirs.
 fn join_members(labels: &mut [u32], members: &[u32])
     requires { All (λ p. p < length labels.old) members.now }
-    ensures { labels.new ≡ the_joined members.now labels.old }
+    ensures { labels.new ≡ join_members members.now labels.old }
 {
     if let Some(first) = members.first() {
         for member in &members[1..] {
@@ -93,7 +93,7 @@ fn join_members(labels: &mut [u32], members: &[u32])
 #[tactic(auto, using(crate::proofs::Ranges::range_next, crate::proofs::Ranges::range_length))]
 fn labels_of(alloc: Global, domains: &[Domain], count: u32) -> Result<Vec<u32>, Memory>
     requires { All (λ d. All (λ p. p < count) d.members) domains.now }
-    ensures list { IfOk result (λ labels. labels.items ≡ the_labels domains.now count) }
+    ensures list { IfOk result (λ labels. labels.items ≡ labels_of domains.now count) }
     ensures size { IfOk result (λ labels. length labels.items ≡ count) }
 {
     let mut labels = Vec::new(alloc);
@@ -111,7 +111,7 @@ fn labels_of(alloc: Global, domains: &[Domain], count: u32) -> Result<Vec<u32>, 
 /// Whether a processor is the first with its label, and in an idle domain that software coordinates.
 fn leads_group(domains: &[Domain], labels: &[u32], cpu: u32) -> bool
     requires { cpu < length labels.now }
-    ensures { result ≡ the_lead domains.now labels.now cpu }
+    ensures { result ≡ leads_group domains.now labels.now cpu }
 {
     is_linked(domains, cpu) && !has_member(&labels[..cpu as usize], labels[cpu as usize])
 }
@@ -120,7 +120,7 @@ fn leads_group(domains: &[Domain], labels: &[u32], cpu: u32) -> bool
 fn group_with(alloc: Global, labels: &[u32], cpu: u32) -> Result<Group, Memory>
     requires cpu { cpu < length labels.now }
     requires few { length labels.now ≤ 256 }
-    ensures { IfOk result (λ group. group ≡ the_group labels.now cpu) }
+    ensures { IfOk result (λ group. group ≡ group_with labels.now cpu) }
 {
     let own = labels[cpu as usize];
     let mut members = Vec::new(alloc);
@@ -130,7 +130,7 @@ fn group_with(alloc: Global, labels: &[u32], cpu: u32) -> Result<Group, Memory>
         }
     }
     Ok(Group {
-        members: List::from_vec(alloc, members)?,
+        members: List::from_vec(members),
     })
 }
 
@@ -146,14 +146,14 @@ fn groups_with(alloc: Global, domains: &[Domain], labels: &[u32]) -> Result<List
             groups.push(group_with(alloc, labels, cpu as u32)?)?;
         }
     }
-    List::from_vec(alloc, groups)
+    Ok(List::from_vec(groups))
 }
 
 /// The groups of so many processors.
 pub fn groups_of(alloc: Global, domains: &[Domain], count: u32) -> Result<List<Group>, Memory>
     requires few { count ≤ 256 }
     requires members { All (λ d. All (λ p. p < count) d.members) domains.now }
-    ensures { IfOk result (λ groups. groups ≡ the_groups domains.now count) }
+    ensures { IfOk result (λ groups. groups ≡ groups_of domains.now count) }
 {
     let labels = labels_of(alloc, domains, count)?;
     groups_with(alloc, domains, labels.as_slice())

@@ -7,18 +7,18 @@ mod domain;
 mod domains;
 mod fault;
 mod groups;
+mod laws;
 mod limits;
 mod parts;
 mod parts_check;
 mod plan;
 mod request;
-#[cfg(test)]
-mod tests;
 mod tree;
 
 pub use bounds::covers;
 pub use domain::{Child, Domain, DomainKind, Group};
 pub use fault::PlanFault;
+pub use laws::domains_are_known;
 pub use parts::{ContainerParts, CpuParts, Scale};
 pub use parts_check::parts_ok;
 pub use plan::Plan;

@@ -1,8 +1,8 @@
 ghost use Rattle.std.specs.Prelude.{◌≡◌, ◌<◌, ◌≤◌, ◌∷◌, [], length};
 ghost use Rattle.pw_plan.specs.Parts.{ParentsFall};
-ghost use Rattle.pw_plan.specs.Limits.{capped as the_cap, child_counts, depths, first_above};
-ghost use Rattle.pw_plan.specs.Limits.{limit_passed as the_limit, table_counts};
-ghost use Rattle.pw_plan.specs.Tree.{children_of, depth_of as the_depth};
+ghost use Rattle.pw_plan.specs.Limits.{capped, child_counts, depths, first_above};
+ghost use Rattle.pw_plan.specs.Limits.{limit_passed, table_counts};
+ghost use Rattle.pw_plan.specs.Tree.{children_of, depth_of};
 
 use crate::domain::DomainKind;
 use crate::fault::PlanFault;
@@ -11,7 +11,7 @@ use crate::tree::{container_in, is_number};
 
 /// A count in 32 bits. One that is greater stands at their end.
 pub fn capped(count: usize) -> u32
-    ensures { result ≡ the_cap count }
+    ensures { result ≡ capped count }
 {
     if count < u32::MAX as usize {
         count as u32
@@ -35,7 +35,7 @@ fn above(bound: usize, count: usize) -> Option<u32>
 fn depth_of(containers: &[ContainerParts], node: u32) -> usize
     requires node { node < length containers.now }
     requires fall { ParentsFall containers.now }
-    ensures { result ≡ the_depth containers.now node }
+    ensures { result ≡ depth_of containers.now node }
 {
     let mut depth = 0;
     let mut next = Some(node);
@@ -128,7 +128,7 @@ fn long(containers: &[ContainerParts], cpus: &[CpuParts]) -> Option<u32>
 /// The limit that the parts pass, the least one first.
 pub fn limit_passed(containers: &[ContainerParts], cpus: &[CpuParts]) -> Option<PlanFault>
     requires { ParentsFall containers.now }
-    ensures { result ≡ the_limit containers.now cpus.now }
+    ensures { result ≡ limit_passed containers.now cpus.now }
 {
     if let Some(number) = above(256, containers.len()) {
         return Some(PlanFault::Limit { which: 1, number });

@@ -4,7 +4,7 @@ use aml_data::FullPath;
 use pw_base::List;
 
 /// The performance or the throttling states of a processor, the fastest first.
-#[derive(Debug, Drop)]
+#[derive(Drop)]
 pub struct Scale {
     /// The control values of `_PSS` or `_TSS`, in their order.
     pub controls: List<u32>,
@@ -17,7 +17,7 @@ pub struct Scale {
 }
 
 /// What the firmware says of a container (ACPI 6.5, 8.4.2).
-#[derive(Debug, Drop)]
+#[derive(Drop)]
 pub struct ContainerParts {
     pub path: FullPath,
     /// The number of the container around it.
@@ -26,7 +26,7 @@ pub struct ContainerParts {
 }
 
 /// What the firmware says of a processor (ACPI 6.5, 8.4).
-#[derive(Debug, Drop)]
+#[derive(Drop)]
 pub struct CpuParts {
     pub path: FullPath,
     /// The number of the container around it.

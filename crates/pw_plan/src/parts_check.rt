@@ -1,9 +1,9 @@
 ghost use Rattle.std.specs.Prelude.{◌≡◌, ◌↔◌, ◌<◌, ◌≢◌, ℕ, Some, length, true, IsTrue};
 ghost use Rattle.std.specs.List.{list_any};
 ghost use Rattle.acpi_values.specs.declared.idle.IdleKind.TheVariants.{Cst};
-ghost use Rattle.pw_plan.specs.Parts.{FitsCsd, ParentsFall, PartsFit, container_in as the_container};
-ghost use Rattle.pw_plan.specs.Parts.{cpu_in as the_cpu, entry_in as the_entry, has_states as the_states};
-ghost use Rattle.pw_plan.specs.Parts.{is_below as the_below, is_entry as the_entry_test};
+ghost use Rattle.pw_plan.specs.Parts.{FitsCsd, ParentsFall, PartsFit, container_in};
+ghost use Rattle.pw_plan.specs.Parts.{cpu_in, entry_in, has_states};
+ghost use Rattle.pw_plan.specs.Parts.{is_below, is_entry};
 
 use crate::domains::{DomainName, is_entry};
 use crate::parts::{ContainerParts, CpuParts, Scale};
@@ -12,7 +12,7 @@ use aml_data::Seg;
 
 /// Whether a parent's number is below this one.
 fn is_below(bound: usize, parent: Option<u32>) -> bool
-    ensures { result ≡ the_below bound parent }
+    ensures { result ≡ is_below bound parent }
 {
     match parent {
         None => true,
@@ -34,7 +34,7 @@ fn parents_fall(containers: &[ContainerParts]) -> bool
 
 /// Whether there is no scale, or one with a state.
 fn has_states(scale: &Option<Scale>) -> bool
-    ensures { result ≡ the_states scale.now }
+    ensures { result ≡ has_states scale.now }
 {
     match scale {
         None => true,
@@ -72,7 +72,7 @@ fn same_path(one: &CpuParts, other: &CpuParts) -> bool
 
 /// Whether an entry of `_CSD` stands among these.
 fn is_repeated(entry: CDependency, others: &[CDependency]) -> bool
-    ensures { result ≡ list_any (the_entry_test entry.domain entry.index) others.now }
+    ensures { result ≡ list_any (is_entry entry.domain entry.index) others.now }
 {
     for other in others {
         if is_entry(
@@ -91,7 +91,7 @@ fn is_repeated(entry: CDependency, others: &[CDependency]) -> bool
 /// An entry of `_CSD`.
 fn entry_in(csd: &[CDependency], number: usize) -> CDependency
     requires { number < length csd.now }
-    ensures { result ≡ the_entry csd.now number }
+    ensures { result ≡ entry_in csd.now number }
 {
     csd[number]
 }
@@ -125,7 +125,7 @@ fn fits_csd(cpu: &CpuParts) -> bool
 fn is_only(cpus: &[CpuParts], cpu: usize) -> bool
     requires { cpu < length cpus.now }
     ensures { IsTrue result ↔ ((q : ℕ) → cpu < q → q < length cpus.now
-        → (the_cpu cpus.now cpu).path ≢ (the_cpu cpus.now q).path) }
+        → (cpu_in cpus.now cpu).path ≢ (cpu_in cpus.now q).path) }
 {
     for other in cpu + 1..cpus.len() {
         if same_path(&cpus[cpu], &cpus[other]) {

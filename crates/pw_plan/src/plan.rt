@@ -1,3 +1,4 @@
+ghost use Rattle.pw_plan.specs.Orderly.{IsOrderly};
 ghost use Rattle.pw_plan.specs.Planning.{IsPlanOf, IsSound};
 
 use crate::bounds::{covers, opening_count, set_by};
@@ -14,7 +15,7 @@ use std::alloc::Global;
 
 /// A machine as coordination sees it. `Plan::new` alone makes one: that its lists are those of its
 /// parts is part of the type.
-#[derive(Debug, Drop)]
+#[derive(Drop)]
 pub struct Plan {
     pub containers: List<ContainerParts>,
     /// Of each container: its containers in their order, then its processors in theirs.
@@ -27,20 +28,21 @@ pub struct Plan {
     pub groups: List<Group>,
     pub ghost planned: { ∥ IsPlanOf containers cpus children domains groups ∥₁ },
     pub ghost sound: { IsSound containers cpus children domains groups },
+    pub ghost orderly: { IsOrderly containers cpus children domains groups },
 }
 
 impl Plan {
     ghost use Rattle.std.specs.Prelude.{◌≡◌, ◌↔◌, ◌<◌, length, IfOk, IsTrue, ℕ, Some};
     ghost use Rattle.pw_plan.specs.Parts.{PartsFit};
-    ghost use Rattle.pw_plan.specs.Tree.{all_children as the_children};
-    ghost use Rattle.pw_plan.specs.Limits.{limit_passed as the_limit};
-    ghost use Rattle.pw_plan.specs.Domains.{all_domains as the_domains};
-    ghost use Rattle.pw_plan.specs.Groups.{AreGroups, groups_of as the_groups};
+    ghost use Rattle.pw_plan.specs.Tree.{all_children};
+    ghost use Rattle.pw_plan.specs.Limits.{limit_passed};
+    ghost use Rattle.pw_plan.specs.Domains.{AreDomains};
+    ghost use Rattle.pw_plan.specs.Groups.{AreGroups, groups_of};
     ghost use Rattle.pw_plan.specs.Places.{container_at, children_at, cpu_at, domain_at};
-    ghost use Rattle.pw_plan.specs.Places.{domain_of as the_place, group_at, group_of as the_group_place};
-    ghost use Rattle.pw_plan.specs.Requests.{Has, domain_bound as the_domain_bound};
-    ghost use Rattle.pw_plan.specs.Requests.{group_bound as the_group_bound};
-    ghost use Rattle.pw_plan.specs.Requests.{opening_bound as the_opening_bound, ops_bound as the_bound};
+    ghost use Rattle.pw_plan.specs.Places.{domain_of, group_at, group_of};
+    ghost use Rattle.pw_plan.specs.Requests.{Has, domain_bound};
+    ghost use Rattle.pw_plan.specs.Requests.{group_bound};
+    ghost use Rattle.pw_plan.specs.Requests.{opening_bound, ops_bound};
 
     /// The plan of these parts.
     pub fn new(
@@ -51,14 +53,14 @@ impl Plan {
         requires { PartsFit containers.items cpus.items }
         ensures containers { IfOk result (λ plan. plan.containers ≡ containers.items) }
         ensures cpus { IfOk result (λ plan. plan.cpus ≡ cpus.items) }
-        ensures children { IfOk result (λ plan. plan.children ≡ the_children containers.items cpus.items) }
-        ensures domains { IfOk result (λ plan. plan.domains ≡ the_domains cpus.items) }
-        ensures groups { IfOk result (λ plan. plan.groups ≡ the_groups plan.domains (length cpus.items)) }
+        ensures children { IfOk result (λ plan. plan.children ≡ all_children containers.items cpus.items) }
+        ensures domains { IfOk result (λ plan. AreDomains cpus.items plan.domains) }
+        ensures groups { IfOk result (λ plan. plan.groups ≡ groups_of plan.domains (length cpus.items)) }
         // What the list of the groups means.
         ensures joined { IfOk result (λ plan. AreGroups plan.domains plan.groups) }
         // A limit is named exactly where one is passed.
         ensures limit { (which number : ℕ) → (result ≡ Err (PlanFault.Limit which number))
-            ↔ (the_limit containers.items cpus.items ≡ Some (PlanFault.Limit which number)) }
+            ↔ (limit_passed containers.items cpus.items ≡ Some (PlanFault.Limit which number)) }
     {
         if let Some(fault) = limit_passed(containers.as_slice(), cpus.as_slice()) {
             return Err(fault);
@@ -66,8 +68,8 @@ impl Plan {
         let children = all_children(alloc, containers.as_slice(), cpus.as_slice())?;
         let domains = all_domains(alloc, cpus.as_slice())?;
         let groups = groups_of(alloc, domains.as_slice(), cpus.len() as u32)?;
-        let containers = List::from_vec(alloc, containers)?;
-        let cpus = List::from_vec(alloc, cpus)?;
+        let containers = List::from_vec(containers);
+        let cpus = List::from_vec(cpus);
         Ok(Plan {
             containers,
             children,
@@ -119,7 +121,7 @@ impl Plan {
 
     /// The place of the first domain of this kind that has the processor, or how many domains there are.
     pub fn domain_of(&self, kind: DomainKind, cpu: u32) -> usize
-        ensures { result ≡ the_place self.now kind cpu }
+        ensures { result ≡ domain_of self.now kind cpu }
     {
         let domains = self.domains.as_slice();
         for (place, domain) in domains.iter().enumerate() {
@@ -132,7 +134,7 @@ impl Plan {
 
     /// The place of the group that has the processor, or how many groups there are.
     pub fn group_of(&self, cpu: u32) -> usize
-        ensures { result ≡ the_group_place self.now cpu }
+        ensures { result ≡ group_of self.now cpu }
     {
         let groups = self.groups.as_slice();
         for (place, group) in groups.iter().enumerate() {
@@ -153,7 +155,7 @@ impl Plan {
     /// The bound on the operations of a request on the processor's domain of this kind.
     #[tactic(auto, unfolding(crate::specs::Groups::no_domain))]
     fn domain_bound(&self, kind: DomainKind, cpu: u32) -> u32
-        ensures { result ≡ the_domain_bound self.now kind cpu }
+        ensures { result ≡ domain_bound self.now kind cpu }
     {
         let place = self.domain_of(kind, cpu);
         if place < self.domains.as_slice().len() {
@@ -166,7 +168,7 @@ impl Plan {
 
     /// The bound on the operations of an idle request.
     fn group_bound(&self, cpu: u32) -> u32
-        ensures { result ≡ the_group_bound self.now cpu }
+        ensures { result ≡ group_bound self.now cpu }
     {
         let place = self.group_of(cpu);
         if place < self.groups.as_slice().len() {
@@ -178,7 +180,7 @@ impl Plan {
 
     /// How many operations the request has at most, in any state.
     pub fn ops_bound(&self, request: &Request) -> u32
-        ensures { result ≡ the_bound self.now request.now }
+        ensures { result ≡ ops_bound self.now request.now }
     {
         match *request {
             Request::Idle { cpu, .. } => self.group_bound(cpu),
@@ -192,7 +194,7 @@ impl Plan {
 
     /// How many operations there are at the start.
     pub fn opening_bound(&self) -> u32
-        ensures { result ≡ the_opening_bound self.now }
+        ensures { result ≡ opening_bound self.now }
     {
         let mut bound = 0;
         for domain in self.domains.as_slice() {

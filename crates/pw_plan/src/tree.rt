@@ -1,8 +1,8 @@
 ghost use Rattle.std.specs.Prelude.{◌≡◌, ◌<◌, ◌≤◌, ◌^◌, length, map, IfOk};
 ghost use Rattle.std.specs.List.{range_with_len};
-ghost use Rattle.pw_plan.specs.Parts.{container_in as the_container, cpu_in as the_cpu};
-ghost use Rattle.pw_plan.specs.Tree.{all_children as the_lists, children_of as the_children};
-ghost use Rattle.pw_plan.specs.Tree.{is_number as the_test, places_from};
+ghost use Rattle.pw_plan.specs.Parts.{container_in, cpu_in};
+ghost use Rattle.pw_plan.specs.Tree.{all_children, children_of};
+ghost use Rattle.pw_plan.specs.Tree.{is_number, places_from};
 
 use crate::domain::Child;
 use crate::parts::{ContainerParts, CpuParts};
@@ -12,7 +12,7 @@ use std::alloc::Global;
 /// The container of this number.
 pub fn container_in(containers: &[ContainerParts], node: u32) -> &ContainerParts
     requires { node < length containers.now }
-    ensures { result.now ≡ the_container containers.now node }
+    ensures { result.now ≡ container_in containers.now node }
 {
     &containers[node as usize]
 }
@@ -20,14 +20,14 @@ pub fn container_in(containers: &[ContainerParts], node: u32) -> &ContainerParts
 /// The processor of this number.
 pub fn cpu_in(cpus: &[CpuParts], cpu: u32) -> &CpuParts
     requires { cpu < length cpus.now }
-    ensures { result.now ≡ the_cpu cpus.now cpu }
+    ensures { result.now ≡ cpu_in cpus.now cpu }
 {
     &cpus[cpu as usize]
 }
 
 /// Whether a parent is the container of this number.
 pub fn is_number(number: u32, parent: Option<u32>) -> bool
-    ensures { result ≡ the_test number parent }
+    ensures { result ≡ is_number number parent }
 {
     match parent {
         None => false,
@@ -44,7 +44,7 @@ fn children_of(
 ) -> Result<List<Child>, Memory>
     requires containers { length containers.now < 2 ^ 32 }
     requires cpus { length cpus.now < 2 ^ 32 }
-    ensures { IfOk result (λ children. children ≡ the_children containers.now cpus.now node) }
+    ensures { IfOk result (λ children. children ≡ children_of containers.now cpus.now node) }
 {
     let mut children = Vec::new(alloc);
     'containers: for (number, container) in containers.iter().enumerate() {
@@ -57,7 +57,7 @@ fn children_of(
             children.push(Child::Cpu(number as u32))?;
         }
     }
-    List::from_vec(alloc, children)
+    Ok(List::from_vec(children))
 }
 
 /// The children of each container.
@@ -69,11 +69,11 @@ pub fn all_children(
 ) -> Result<List<List<Child>>, Memory>
     requires containers { length containers.now < 2 ^ 32 }
     requires cpus { length cpus.now < 2 ^ 32 }
-    ensures { IfOk result (λ lists. lists ≡ the_lists containers.now cpus.now) }
+    ensures { IfOk result (λ lists. lists ≡ all_children containers.now cpus.now) }
 {
     let mut lists = Vec::new(alloc);
     for node in 0..containers.len() {
         lists.push(children_of(alloc, containers, cpus, node as u32)?)?;
     }
-    List::from_vec(alloc, lists)
+    Ok(List::from_vec(lists))
 }

@@ -1,17 +1,8 @@
-//! Whole runs of the program over files and outputs in memory: tests that cross the layers.
+//! Runs of the program over files that can't be read and outputs that can't be written. Whole runs over
+//! files and outputs that don't fail are the cases of `pw_cases`.
 #![tactic(auto)]
 
 #[cfg(test)]
-mod clusters;
-#[cfg(test)]
-mod faults;
-#[cfg(test)]
-mod lists;
-#[cfg(test)]
 mod outside;
 #[cfg(test)]
-mod rewriting;
-#[cfg(test)]
 mod runs;
-#[cfg(test)]
-mod showing;

@@ -1,34 +1,31 @@
 -- Texts that are put in three parts, or one for each element of a list.
 use Rattle.std.proofs.Common.{◌≡◌, ◌+◌, ◌<◌, ℕ, Bool, true, false, List, [], ◌∷◌, ◌++◌, map, refl, ap, ◌∙◌, Result, IsErr, is_ok, take, drop, get_or, length, sym, append_assoc, add-one}
 use Rattle.std.specs.List.{flat_map}
+use Rattle.std.proofs.lemmas.List.Folds.{flat_map-map}
+use Rattle.pw_base.specs.declared.sink.Sink.{Ghosts as Sink}
 use Rattle.pw_text.specs.Puts.{PutsText}
 use Rattle.pw_show.specs.Values.{behind, separated}
 use Rattle.pw_text.proofs.Joined.{flat_map-in_parts, flat_map-take-suc}
 use Rattle.pw_text.proofs.Putting.{PutsText-as, PutsText-stop, PutsText-then}
 
-module _ {S : Type 0} {told : S → Bool} {written : S → List ℕ} {faults : S → ℕ} where
+module _ {S : Type 0} {K : Sink S} where
   -- the first of three failed to be put
   pub stop_at_first : {A E : Type 0} {a b : S} {waited waits first : List ℕ} (second third : List ℕ) (r : Result A E) → IsErr r
-      → PutsText told written faults a b waited waits first false → PutsText told written faults a b waited waits ((first ++ second) ++ third) (is_ok r)
+      → PutsText K a b waited waits first false → PutsText K a b waited waits ((first ++ second) ++ third) (is_ok r)
   stop_at_first {first = first} second third r failed p = PutsText-as ((first ++ second) ++ third) (sym (append_assoc first second third)) (PutsText-stop (second ++ third) r failed p)
 
   -- one more element was put behind those before it
   pub each_more : {X : Type 0} {a b c : S} {waited left waits : List ℕ} (f : X → List ℕ) (xs : List X) (i : ℕ) (x : X) → i < length xs
-      → x ≡ get_or xs i x → PutsText told written faults a b waited left (flat_map f (take i xs)) true
-      → PutsText told written faults b c left waits (f x) true → PutsText told written faults a c waited waits (flat_map f (take (i + 1) xs)) true
+      → x ≡ get_or xs i x → PutsText K a b waited left (flat_map f (take i xs)) true
+      → PutsText K b c left waits (f x) true → PutsText K a c waited waits (flat_map f (take (i + 1) xs)) true
   each_more f xs i x within is before now = rw (add-one, flat_map-take-suc f i xs x within is) (PutsText-then before now)
 
   -- one element behind those before it failed to be put
   pub each_stop : {X A E : Type 0} {a b c : S} {waited left waits : List ℕ} (f : X → List ℕ) (xs : List X) (i : ℕ) (x : X) (r : Result A E)
-      → i < length xs → x ≡ get_or xs i x → IsErr r → PutsText told written faults a b waited left (flat_map f (take i xs)) true
-      → PutsText told written faults b c left waits (f x) false → PutsText told written faults a c waited waits (flat_map f xs) (is_ok r)
+      → i < length xs → x ≡ get_or xs i x → IsErr r → PutsText K a b waited left (flat_map f (take i xs)) true
+      → PutsText K b c left waits (f x) false → PutsText K a c waited waits (flat_map f xs) (is_ok r)
   each_stop f xs i x r within is failed before now =
       PutsText-as (flat_map f xs) (flat_map-in_parts f i xs x within is) (PutsText-stop (flat_map f (drop (i + 1) xs)) r failed (PutsText-then before now))
-
--- what is done to each element and then to each result is done to each element
-pub flat_map-map : {X Y A : Type 0} (f : Y → List A) (h : X → Y) (xs : List X) → flat_map f (map h xs) ≡ flat_map (λ x. f (h x)) xs
-flat_map-map f h [] = refl
-flat_map-map f h (x ∷ xs) = ap (λ rest. f (h x) ++ rest) (flat_map-map f h xs)
 
 -- shown elements with a separator between them: the first, and each other behind the separator
 pub separated-first : {X : Type 0} (separator : List ℕ) (h : X → List ℕ) (xs : List X) (x : X) (rest : List X) → xs ≡ x ∷ rest

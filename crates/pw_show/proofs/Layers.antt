@@ -8,7 +8,7 @@ use Rattle.aml_data.specs.Objects.{buffer_of, Buffer, counted_of, VarPackage}
 use Rattle.aml_data.specs.declared.data.Data.TheViews.{outs-Int, outs-Ones, outs-Revision, outs-Text, outs-Buffer, outs-Package, outs-VarPackage, outs-Path}
 use Rattle.aml_data.specs.declared.path.Path.{Path}
 use Rattle.pw_text.specs.Text.{path_text}
-use Rattle.pw_show.specs.Values.{value_text, value_layer, escaped, hex_pair, separated, braced}
+use Rattle.pw_show.specs.Values.{value_text, value_layer, escaped, byte_digits, separated, braced}
 
 pub value_text-layer : (v : Data) (l : Data-F Data) → out-Data v ≡ l → value_text v ≡ value_layer (map-Data Data (List ℕ) value_text l)
 unfolding value_text
@@ -26,7 +26,7 @@ value_text-Revision = value_text-layer Revision layer.Revision outs-Revision
 pub value_text-Text : (t : List ℕ) → value_text (Text t) ≡ codes "\"" ++ flat_map escaped t ++ codes "\""
 value_text-Text t = value_text-layer (Text t) (layer.Text t) (outs-Text t)
 
-pub value_text-Buffer : (size : ℕ) (bytes : List ℕ) → value_text (Buffer size bytes) ≡ braced (codes "Buffer(") size (separated (codes " ") (map hex_pair bytes))
+pub value_text-Buffer : (size : ℕ) (bytes : List ℕ) → value_text (Buffer size bytes) ≡ braced (codes "Buffer(") size (separated (codes " ") (map byte_digits bytes))
 value_text-Buffer size bytes = value_text-layer (Buffer size bytes) (layer.Buffer (buffer_of size bytes)) (outs-Buffer (buffer_of size bytes))
 
 pub value_text-Package : (count : ℕ) (vs : List Data) → value_text (Package count vs) ≡ braced (codes "Package(") count (separated (codes ", ") (map value_text vs))

@@ -7,14 +7,14 @@ use Rattle.aml_data.specs.declared.data.Data.TheOpen as layer
 use Rattle.pw_text.specs.Text.{path_text}
 
 -- two upper-case hexadecimal digits
-abbrev pub hex_pair : ℕ → List ℕ
-hex_pair byte = digit_glyph true (byte / 16) ∷ digit_glyph true (byte % 16) ∷ []
+abbrev pub byte_digits : ℕ → List ℕ
+byte_digits byte = digit_glyph true (byte / 16) ∷ digit_glyph true (byte % 16) ∷ []
 
 -- A byte of a string: a quote or a backslash stands behind a backslash, and a control character is `\x` and its digits.
 abbrev pub escaped : ℕ → List ℕ
 escaped byte =
     if byte == 34 || byte == 92 then 92 ∷ byte ∷ []
-    else (if nat_lt byte 32 || byte == 127 then 92 ∷ 120 ∷ hex_pair byte else byte ∷ [])
+    else (if nat_lt byte 32 || byte == 127 then 92 ∷ 120 ∷ byte_digits byte else byte ∷ [])
 
 -- a text behind a separator
 abbrev pub behind : List ℕ → List ℕ → List ℕ
@@ -35,7 +35,7 @@ value_layer (layer.Int n) = decimal n
 value_layer layer.Ones = codes "Ones"
 value_layer layer.Revision = codes "Revision"
 value_layer (layer.Text text) = codes "\"" ++ flat_map escaped text ++ codes "\""
-value_layer (layer.Buffer buffer) = braced (codes "Buffer(") buffer.size (separated (codes " ") (map hex_pair buffer.bytes))
+value_layer (layer.Buffer buffer) = braced (codes "Buffer(") buffer.size (separated (codes " ") (map byte_digits buffer.bytes))
 value_layer (layer.Package count elements) = braced (codes "Package(") count (separated (codes ", ") elements)
 value_layer (layer.VarPackage counted) = braced (codes "VarPackage(") counted.count (separated (codes ", ") counted.elements)
 value_layer (layer.Path path) = path_text path

@@ -22,7 +22,7 @@ pub fn put_space<K: Sink>(
     path: &mut Room<Seg>,
 ) -> Result<(), Failed>
     requires { All (λ (e : Entry). length e.path ≤ path.old.capacity) space.now }
-    ensures { PutsText K.told K.written K.faults sink.old sink.new page.old page.new
+    ensures { PutsText K.Sink sink.old sink.new page.old page.new
         (show_text space.now) (is_ok result) }
 {
     for (index, placed) in space.placed().iter().enumerate() {
@@ -39,7 +39,7 @@ pub fn put_line<K: Sink>(
     path: &[Seg],
     object: Object<'_>,
 ) -> Result<(), Failed>
-    ensures { PutsText K.told K.written K.faults sink.old sink.new page.old page.new
+    ensures { PutsText K.Sink sink.old sink.new page.old page.new
         (object_line path.now (thing object.entry)) (is_ok result) }
 {
     put_place(page, sink, path)?;
@@ -48,7 +48,7 @@ pub fn put_line<K: Sink>(
 }
 
 fn put_object<K: Sink>(page: &mut Page, sink: &mut K, object: Object<'_>) -> Result<(), Failed>
-    ensures { PutsText K.told K.written K.faults sink.old sink.new page.old page.new
+    ensures { PutsText K.Sink sink.old sink.new page.old page.new
         (object_text (thing object.entry)) (is_ok result) }
 {
     match object {
@@ -61,7 +61,7 @@ fn put_object<K: Sink>(page: &mut Page, sink: &mut K, object: Object<'_>) -> Res
 }
 
 fn put_data<K: Sink>(page: &mut Page, sink: &mut K, value: &Data) -> Result<(), Failed>
-    ensures { PutsText K.told K.written K.faults sink.old sink.new page.old page.new
+    ensures { PutsText K.Sink sink.old sink.new page.old page.new
         (codes " = " ++ value_text value.now) (is_ok result) }
 {
     page.put(sink, b" = ")?;
@@ -69,7 +69,7 @@ fn put_data<K: Sink>(page: &mut Page, sink: &mut K, value: &Data) -> Result<(), 
 }
 
 fn put_target<K: Sink>(page: &mut Page, sink: &mut K, target: &Path) -> Result<(), Failed>
-    ensures { PutsText K.told K.written K.faults sink.old sink.new page.old page.new
+    ensures { PutsText K.Sink sink.old sink.new page.old page.new
         (codes " alias " ++ path_text target.now) (is_ok result) }
 {
     page.put(sink, b" alias ")?;

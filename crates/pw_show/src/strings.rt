@@ -1,14 +1,14 @@
 ghost use Rattle.std.specs.Prelude.{◌≡◌, ◌++◌, codes, is_ok};
 ghost use Rattle.std.specs.List.{flat_map};
 ghost use Rattle.pw_text.specs.Puts.{PutsText};
-ghost use Rattle.pw_show.specs.Values.{hex_pair, escaped};
+ghost use Rattle.pw_show.specs.Values.{byte_digits, escaped};
 
 use pw_base::{Failed, Sink};
 use pw_text::{Page, hex_digit};
 
 /// Puts the bytes of a string between double quotes.
 pub fn put_string<K: Sink>(page: &mut Page, sink: &mut K, text: &[u8]) -> Result<(), Failed>
-    ensures { PutsText K.told K.written K.faults sink.old sink.new page.old page.new
+    ensures { PutsText K.Sink sink.old sink.new page.old page.new
         (codes "\"" ++ flat_map escaped text.now ++ codes "\"") (is_ok result) }
 {
     page.put(sink, b"\"")?;
@@ -17,7 +17,7 @@ pub fn put_string<K: Sink>(page: &mut Page, sink: &mut K, text: &[u8]) -> Result
 }
 
 fn put_escaped<K: Sink>(page: &mut Page, sink: &mut K, text: &[u8]) -> Result<(), Failed>
-    ensures { PutsText K.told K.written K.faults sink.old sink.new page.old page.new
+    ensures { PutsText K.Sink sink.old sink.new page.old page.new
         (flat_map escaped text.now) (is_ok result) }
 {
     for byte in text {
@@ -27,7 +27,7 @@ fn put_escaped<K: Sink>(page: &mut Page, sink: &mut K, text: &[u8]) -> Result<()
 }
 
 fn put_byte<K: Sink>(page: &mut Page, sink: &mut K, byte: u8) -> Result<(), Failed>
-    ensures { PutsText K.told K.written K.faults sink.old sink.new page.old page.new
+    ensures { PutsText K.Sink sink.old sink.new page.old page.new
         (escaped byte) (is_ok result) }
 {
     if byte == b'"' || byte == b'\\' {
@@ -42,7 +42,7 @@ fn put_byte<K: Sink>(page: &mut Page, sink: &mut K, byte: u8) -> Result<(), Fail
 
 /// Two upper-case hexadecimal digits.
 pub fn hex_pair(byte: u8) -> [u8; 2]
-    ensures { result ≡ hex_pair byte }
+    ensures { result ≡ byte_digits byte }
 {
     [hex_digit(byte / 16), hex_digit(byte % 16)]
 }

@@ -1,9 +1,9 @@
 ghost use Rattle.std.specs.Prelude.{◌≡◌, ◌++◌, codes, decimal, map, is_ok};
-ghost use Rattle.std.specs.List.{flat_map};
 ghost use Rattle.pw_text.specs.Puts.{PutsText};
-ghost use Rattle.pw_show.specs.Values.{hex_pair, separated, behind, braced, value_text};
+ghost use Rattle.pw_show.specs.Values.{separated, behind, braced, value_text};
 
-use crate::strings::{hex_pair, put_string};
+use crate::buffers::put_buffer;
+use crate::strings::put_string;
 use aml_data::Data;
 use pw_base::{Failed, Sink};
 use pw_text::{Page, put_number, put_path};
@@ -12,7 +12,7 @@ use pw_text::{Page, put_number, put_path};
 #[cycle(values)]
 #[tactic(auto, using(crate::proofs::Layers::layers))]
 pub fn put_value<K: Sink>(page: &mut Page, sink: &mut K, value: &Data) -> Result<(), Failed>
-    ensures { PutsText K.told K.written K.faults sink.old sink.new page.old page.new
+    ensures { PutsText K.Sink sink.old sink.new page.old page.new
         (value_text value.now) (is_ok result) }
 {
     match value {
@@ -50,7 +50,7 @@ fn put_package<K: Sink>(
     count: u64,
     elements: &[Data],
 ) -> Result<(), Failed>
-    ensures { PutsText K.told K.written K.faults sink.old sink.new page.old page.new
+    ensures { PutsText K.Sink sink.old sink.new page.old page.new
         (braced word.now count (separated (codes ", ") (map value_text elements.now))) (is_ok result) }
 {
     put_head(page, sink, word, count)?;
@@ -60,7 +60,7 @@ fn put_package<K: Sink>(
 
 #[cycle(values)]
 fn put_elements<K: Sink>(page: &mut Page, sink: &mut K, elements: &[Data]) -> Result<(), Failed>
-    ensures { PutsText K.told K.written K.faults sink.old sink.new page.old page.new
+    ensures { PutsText K.Sink sink.old sink.new page.old page.new
         (separated (codes ", ") (map value_text elements.now)) (is_ok result) }
 {
     let Some((first, rest)) = elements.split_first() else {
@@ -75,56 +75,24 @@ fn put_elements<K: Sink>(page: &mut Page, sink: &mut K, elements: &[Data]) -> Re
 
 #[cycle(values)]
 fn put_behind_comma<K: Sink>(page: &mut Page, sink: &mut K, element: &Data) -> Result<(), Failed>
-    ensures { PutsText K.told K.written K.faults sink.old sink.new page.old page.new
+    ensures { PutsText K.Sink sink.old sink.new page.old page.new
         (behind (codes ", ") (value_text element.now)) (is_ok result) }
 {
     page.put(sink, b", ")?;
     put_value(page, sink, element)
 }
 
-fn put_head<K: Sink>(page: &mut Page, sink: &mut K, word: &[u8], count: u64) -> Result<(), Failed>
-    ensures { PutsText K.told K.written K.faults sink.old sink.new page.old page.new
+/// Puts the front of what stands in braces: a word, and a count in parentheses.
+pub fn put_head<K: Sink>(
+    page: &mut Page,
+    sink: &mut K,
+    word: &[u8],
+    count: u64,
+) -> Result<(), Failed>
+    ensures { PutsText K.Sink sink.old sink.new page.old page.new
         (word.now ++ decimal count ++ codes ") {") (is_ok result) }
 {
     page.put(sink, word)?;
     put_number(page, sink, count)?;
     page.put(sink, b") {")
-}
-
-fn put_buffer<K: Sink>(page: &mut Page, sink: &mut K, size: u64, bytes: &[u8]) -> Result<(), Failed>
-    ensures { PutsText K.told K.written K.faults sink.old sink.new page.old page.new
-        (braced (codes "Buffer(") size (separated (codes " ") (map hex_pair bytes.now))) (is_ok result) }
-{
-    put_head(page, sink, b"Buffer(", size)?;
-    put_bytes(page, sink, bytes)?;
-    page.put(sink, b"}")
-}
-
-fn put_bytes<K: Sink>(page: &mut Page, sink: &mut K, bytes: &[u8]) -> Result<(), Failed>
-    ensures { PutsText K.told K.written K.faults sink.old sink.new page.old page.new
-        (separated (codes " ") (map hex_pair bytes.now)) (is_ok result) }
-{
-    let Some((first, rest)) = bytes.split_first() else {
-        return Ok(());
-    };
-    page.put(sink, &hex_pair(*first))?;
-    put_other_bytes(page, sink, rest)
-}
-
-fn put_other_bytes<K: Sink>(page: &mut Page, sink: &mut K, bytes: &[u8]) -> Result<(), Failed>
-    ensures { PutsText K.told K.written K.faults sink.old sink.new page.old page.new
-        (flat_map (λ b. behind (codes " ") (hex_pair b)) bytes.now) (is_ok result) }
-{
-    for byte in bytes {
-        put_behind_space(page, sink, *byte)?;
-    }
-    Ok(())
-}
-
-fn put_behind_space<K: Sink>(page: &mut Page, sink: &mut K, byte: u8) -> Result<(), Failed>
-    ensures { PutsText K.told K.written K.faults sink.old sink.new page.old page.new
-        (behind (codes " ") (hex_pair byte)) (is_ok result) }
-{
-    page.put(sink, b" ")?;
-    page.put(sink, &hex_pair(byte))
 }

@@ -1,7 +1,7 @@
 use crate::cases::{Case, Part, Table};
 use acpi_fields::package_object;
 use aml_data::Data;
-use pw_base::List;
+use pw_base::CompactList;
 use std::alloc::Global;
 use std::test::Fail;
 
@@ -140,8 +140,8 @@ fn changed(cases: &[Case], outer: u32, inner: u32) -> Option<Part> {
     None
 }
 
-fn list(alloc: Global, bytes: &[u8]) -> Result<List<u8>, Fail> {
-    Ok(List::from_slice(alloc, bytes)?)
+fn list(alloc: Global, bytes: &[u8]) -> Result<CompactList<u8>, Fail> {
+    Ok(CompactList::from_slice(alloc, bytes)?)
 }
 
 /// A buffer of this size, with so many first bytes of the template, the last of 17 being this one.
@@ -152,7 +152,7 @@ fn buffer(alloc: Global, size: u64, count: usize, last: u8) -> Result<Data, Fail
     for byte in template.iter().take(count) {
         bytes.push(*byte)?;
     }
-    let bytes = List::from_vec(alloc, bytes)?;
+    let bytes = CompactList::from_vec(alloc, bytes)?;
     Ok(Data::buffer(alloc, size, bytes)?)
 }
 
@@ -175,7 +175,7 @@ fn package(alloc: Global, elements: Vec<Data>, variable: bool) -> Result<Data, F
         return Err("too many elements".into());
     }
     if variable {
-        let elements = List::from_vec(alloc, elements)?;
+        let elements = CompactList::from_vec(alloc, elements)?;
         return Ok(Data::var_package(alloc, 200, elements)?);
     }
     Ok(package_object(alloc, elements)?)

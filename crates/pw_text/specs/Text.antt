@@ -3,7 +3,6 @@ use Rattle.std.specs.Prelude.{ℕ, true, List, [], ◌∷◌, ◌++◌, replicat
 use Rattle.std.specs.Fmt.{digits}
 use Rattle.std.specs.List.{join_with_byte}
 use Rattle.aml_data.specs.declared.path.Path.{Path}
-use Rattle.aml_data.specs.declared.path.FullPath.{FullPath}
 
 -- Segments of four characters, joined by dots (NameSeg: ACPI 6.5, 20.2.2).
 abbrev pub segments_text : List (List ℕ) → List ℕ
@@ -12,10 +11,6 @@ segments_text segs = join_with_byte 46 segs
 -- A place in the namespace: a backslash and its segments. The root is the backslash alone.
 abbrev pub place_text : List (List ℕ) → List ℕ
 place_text segs = 92 ∷ segments_text segs
-
--- A full path is printed as its place.
-abbrev pub full_path_text : FullPath → List ℕ
-full_path_text path = place_text path.segs
 
 -- What stands before the segments of a path: a backslash for the root, or `^` for each step up.
 abbrev pub path_prefix : Path → List ℕ

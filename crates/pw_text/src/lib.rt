@@ -7,7 +7,4 @@ mod paths;
 
 pub use numbers::{hex_digit, put_hex, put_number};
 pub use page::Page;
-pub use paths::{put_full_path, put_path, put_place};
-
-#[cfg(test)]
-mod tests;
+pub use paths::{put_path, put_place};

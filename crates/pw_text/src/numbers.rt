@@ -9,7 +9,7 @@ use pw_base::{Failed, Sink};
 
 /// Puts a number in decimal.
 pub fn put_number<K: Sink>(page: &mut Page, sink: &mut K, number: u64) -> Result<(), Failed>
-    ensures { PutsText K.told K.written K.faults sink.old sink.new page.old page.new
+    ensures { PutsText K.Sink sink.old sink.new page.old page.new
         (decimal number) (is_ok result) }
 {
     let mut digits = Buffer::new();
@@ -18,7 +18,7 @@ pub fn put_number<K: Sink>(page: &mut Page, sink: &mut K, number: u64) -> Result
 
 /// Puts a number in upper-case hexadecimal behind `0x`.
 pub fn put_hex<K: Sink>(page: &mut Page, sink: &mut K, number: u64) -> Result<(), Failed>
-    ensures { PutsText K.told K.written K.faults sink.old sink.new page.old page.new
+    ensures { PutsText K.Sink sink.old sink.new page.old page.new
         (hex_text number) (is_ok result) }
 {
     page.put(sink, b"0x")?;

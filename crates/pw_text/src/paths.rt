@@ -1,32 +1,29 @@
 ghost use Rattle.std.specs.Prelude.{◌≡◌, ◌∷◌, is_ok};
 ghost use Rattle.std.specs.List.{flat_map};
 ghost use Rattle.pw_text.specs.Puts.{PutsText};
-ghost use Rattle.pw_text.specs.Text.{full_path_text, place_text, path_prefix, path_text, segments_text};
+ghost use Rattle.pw_text.specs.Text.{place_text, path_prefix, path_text, segments_text};
 
 use crate::page::Page;
-use aml_data::{FullPath, Path, Seg};
+use aml_data::{Path, Seg};
 use pw_base::{Failed, Sink};
-
-/// Puts a full path.
-pub fn put_full_path<K: Sink>(page: &mut Page, sink: &mut K, path: &FullPath) -> Result<(), Failed>
-    ensures { PutsText K.told K.written K.faults sink.old sink.new page.old page.new
-        (full_path_text path.now) (is_ok result) }
-{
-    put_place(page, sink, path.segs.as_slice())
-}
 
 /// Puts the place of these segments, counted from the root.
 pub fn put_place<K: Sink>(page: &mut Page, sink: &mut K, segs: &[Seg]) -> Result<(), Failed>
-    ensures { PutsText K.told K.written K.faults sink.old sink.new page.old page.new
+    ensures { PutsText K.Sink sink.old sink.new page.old page.new
         (place_text segs.now) (is_ok result) }
 {
-    page.put(sink, b"\\")?;
-    put_segments(page, sink, segs)
+    match segs.split_first() {
+        None => page.put(sink, b"\\"),
+        Some((first, rest)) => {
+            put_behind(page, sink, b'\\', *first)?;
+            put_behind_dots(page, sink, rest)
+        }
+    }
 }
 
 /// Puts a path as it is written.
 pub fn put_path<K: Sink>(page: &mut Page, sink: &mut K, path: &Path) -> Result<(), Failed>
-    ensures { PutsText K.told K.written K.faults sink.old sink.new page.old page.new
+    ensures { PutsText K.Sink sink.old sink.new page.old page.new
         (path_text path.now) (is_ok result) }
 {
     put_prefix(page, sink, path)?;
@@ -34,7 +31,7 @@ pub fn put_path<K: Sink>(page: &mut Page, sink: &mut K, path: &Path) -> Result<(
 }
 
 fn put_prefix<K: Sink>(page: &mut Page, sink: &mut K, path: &Path) -> Result<(), Failed>
-    ensures { PutsText K.told K.written K.faults sink.old sink.new page.old page.new
+    ensures { PutsText K.Sink sink.old sink.new page.old page.new
         (path_prefix path.now) (is_ok result) }
 {
     if path.root {
@@ -47,7 +44,7 @@ fn put_prefix<K: Sink>(page: &mut Page, sink: &mut K, path: &Path) -> Result<(),
 }
 
 fn put_segments<K: Sink>(page: &mut Page, sink: &mut K, segs: &[Seg]) -> Result<(), Failed>
-    ensures { PutsText K.told K.written K.faults sink.old sink.new page.old page.new
+    ensures { PutsText K.Sink sink.old sink.new page.old page.new
         (segments_text segs.now) (is_ok result) }
 {
     match segs.split_first() {
@@ -60,19 +57,19 @@ fn put_segments<K: Sink>(page: &mut Page, sink: &mut K, segs: &[Seg]) -> Result<
 }
 
 fn put_behind_dots<K: Sink>(page: &mut Page, sink: &mut K, segs: &[Seg]) -> Result<(), Failed>
-    ensures { PutsText K.told K.written K.faults sink.old sink.new page.old page.new
+    ensures { PutsText K.Sink sink.old sink.new page.old page.new
         (flat_map (λ seg. 46 ∷ seg) segs.now) (is_ok result) }
 {
     for seg in segs {
-        put_behind_dot(page, sink, *seg)?;
+        put_behind(page, sink, b'.', *seg)?;
     }
     Ok(())
 }
 
-fn put_behind_dot<K: Sink>(page: &mut Page, sink: &mut K, seg: Seg) -> Result<(), Failed>
-    ensures { PutsText K.told K.written K.faults sink.old sink.new page.old page.new
-        (46 ∷ seg) (is_ok result) }
+/// Puts a segment behind a character.
+fn put_behind<K: Sink>(page: &mut Page, sink: &mut K, lead: u8, seg: Seg) -> Result<(), Failed>
+    ensures { PutsText K.Sink sink.old sink.new page.old page.new (lead ∷ seg) (is_ok result) }
 {
-    page.put(sink, b".")?;
-    page.put(sink, &seg.bytes())
+    let [a, b, c, d] = seg.bytes();
+    page.put(sink, &[lead, a, b, c, d])
 }

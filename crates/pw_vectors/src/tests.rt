@@ -247,7 +247,7 @@ fn lpi_state(alloc: Global) -> Result<LpiState, Fail> {
         entry: EntryMethod::Register(FIXED_3),
         residency: NULL,
         usage: NULL,
-        name: List::from_vec(alloc, Vec::from_slice(alloc, b"S1")?)?,
+        name: List::from_vec(Vec::from_slice(alloc, b"S1")?),
     })
 }
 
@@ -266,7 +266,7 @@ fn low_power_idle_states(rt: HostRuntime) -> Result<(), Fail> {
     states.push(lpi_state(alloc)?)?;
     let lpi = Lpi {
         level: 0,
-        states: List::from_vec(alloc, states)?,
+        states: List::from_vec(states),
     };
     assert!(rt; lpi.states.as_slice().len() <= 250);
     let object = write_lpi(alloc, &lpi)?;
@@ -311,7 +311,7 @@ fn continuous_performance_control(rt: HostRuntime) -> Result<(), Fail> {
     assert_eq!(rt; entries.len(), 21);
     let cpc = Cpc {
         revision: 3,
-        entries: List::from_vec(alloc, entries)?,
+        entries: List::from_vec(entries),
     };
     assert!(rt; cpc.entries.as_slice().len() <= 250);
     let object = write_cpc(alloc, &cpc)?;

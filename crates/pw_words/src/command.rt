@@ -1,14 +1,26 @@
 ghost use Rattle.std.specs.Prelude.{◌≡◌, ◌≤◌, ◌∷◌, length, MatchOption};
 ghost use Rattle.pw_words.specs.Words.{texts, task_word, IsCommand, Task};
-ghost use Rattle.pw_words.specs.Command.{MeansWords};
+ghost use Rattle.pw_words.specs.Command.{asked_names, MeansWords};
 
 /// What the words of a command line ask for.
-#[derive(Clone, Copy, Debug)]
+#[derive(Clone, Copy)]
 pub enum Command<'a> {
     /// `show BLOCK..`: a line for each object that the definition blocks in these files place.
     Show { blocks: &'a [String] },
     /// `rewrite BLOCK..`: the definition blocks in these files in their shortest spelling.
     Rewrite { blocks: &'a [String] },
+}
+
+impl<'a> Command<'a> {
+    /// The names of the files whose blocks it asks for.
+    pub fn blocks(self) -> &'a [String]
+        ensures { texts result.now ≡ asked_names self.entry }
+    {
+        match self {
+            Command::Show { blocks } => blocks,
+            Command::Rewrite { blocks } => blocks,
+        }
+    }
 }
 
 /// So many blocks at most are named in one command: this project's own limit.

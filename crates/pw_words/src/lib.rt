@@ -2,8 +2,7 @@
 #![tactic(auto)]
 
 mod command;
+mod laws;
 
 pub use command::{Command, command_of};
-
-#[cfg(test)]
-mod tests;
+pub use laws::one_task;

@@ -5,7 +5,8 @@ use Rattle.std.specs.Result.{MatchResult}
 use Rattle.acpi_space.specs.Things.Thing.{device, processor}
 use Rattle.acpi_space.specs.Places.{place_of, opened}
 use Rattle.acpi_space.specs.Steps.{Step, opens, gives, touched, steps_of, steps_in}
-use Rattle.acpi_space.specs.Standing.{StandsIn, IsFaultOf}
+use Rattle.acpi_space.specs.Standing.{IsFaultOf}
+use Rattle.acpi_space.specs.inner.Standing.{StandsIn}
 use Rattle.acpi_space.proofs.Known.{more_turns, turn_fault, first_fault, grown_at, grown_on}
 use Rattle.acpi_space.proofs.TermSteps.{steps-Name, steps-Scope, steps-Device, steps-Processor, steps-Alias, steps-External, steps-Mutex, steps-Event, steps-Region}
 use Rattle.acpi_space.proofs.TermSteps.{unread_other, unread_method, inside_step}
@@ -121,15 +122,15 @@ place_term-returns-in-Region-clause-done t c before stands =
     let scope = get_or c.args.building.now.tree c.args.scope [] in
     rw (c.in-Region.is, steps-Region c.args.width c.in-Region.path c.in-Region.space c.in-Region.offset c.in-Region.length scope before, append-nil before) stands
 
-pub place_term-returns-then-opcode-ne-METHOD-clause-done : goal.place_term-returns-then-opcode-ne-METHOD-clause-done
-place_term-returns-then-opcode-ne-METHOD-clause-done t c before stands =
+pub place_term-returns-then-opcode-ne-METHOD_OP-clause-done : goal.place_term-returns-then-opcode-ne-METHOD_OP-clause-done
+place_term-returns-then-opcode-ne-METHOD_OP-clause-done t c before stands =
     let scope = get_or c.args.building.now.tree c.args.scope [] in
-    rw (c.in-Unread.is, unread_other c.args.width c.in-Unread.opcode c.in-Unread.body scope before c.if-opcode-ne-METHOD.true, append-nil before) stands
+    rw (c.in-Unread.is, unread_other c.args.width c.in-Unread.opcode c.in-Unread.body scope before c.if-opcode-ne-METHOD_OP.true, append-nil before) stands
 
-pub place_term-returns-else-opcode-ne-METHOD-clause-done : goal.place_term-returns-else-opcode-ne-METHOD-clause-done
-place_term-returns-else-opcode-ne-METHOD-clause-done t c before stands =
+pub place_term-returns-else-opcode-ne-METHOD_OP-clause-done : goal.place_term-returns-else-opcode-ne-METHOD_OP-clause-done
+place_term-returns-else-opcode-ne-METHOD_OP-clause-done t c before stands =
     let scope = get_or c.args.building.now.tree c.args.scope [] in
-    let method : c.in-Unread.opcode ≡ 20 = (let f = c.if-opcode-ne-METHOD.false in omega arith) in
+    let method : c.in-Unread.opcode ≡ 20 = (let f = c.if-opcode-ne-METHOD_OP.false in omega arith) in
     rw (c.in-Unread.is, unread_method c.args.width c.in-Unread.opcode c.in-Unread.body scope before method, ← c.as_slice-in-Unread.ensures) (c.place_method.ensures.done before stands)
 
 pub place_terms-returns-in_err-place_term-clause-done : goal.place_terms-returns-in_err-place_term-clause-done

@@ -1,7 +1,7 @@
 use Rattle.std.proofs.Common.{◌++◌, [], List, take, get_or}
 use Rattle.acpi_space.specs.Steps.{Step, steps_in}
-use Rattle.acpi_space.specs.Trees.{IsGrown}
-use Rattle.acpi_space.specs.Standing.{StandsIn}
+use Rattle.acpi_space.specs.inner.Trees.{IsGrown}
+use Rattle.acpi_space.specs.inner.Standing.{StandsIn}
 use Rattle.acpi_space.proofs.terms.+terms.Given as goal
 
 abbrev pub invariant-place_terms-loop-term : goal.invariant-place_terms-loop-term

@@ -1,6 +1,6 @@
 use Rattle.std.proofs.Common.{◌≡◌, ◌-◌, ◌≤◌, true, vec_len}
 use Rattle.pw_base.specs.Outside.{KeepsFiles}
-use Rattle.aml_block.specs.Content.{Begins}
+use Rattle.aml_block.specs.inner.Content.{Begins}
 use Rattle.aml_block.proofs.file.read_all.Given as goal
 
 abbrev pub invariant-loop-filled : goal.invariant-loop-filled

@@ -1,7 +1,7 @@
 use Rattle.std.proofs.Common.{arith}
 use Rattle.aml_data.specs.Grammar.{Spells}
 use Rattle.aml_data.specs.Faults.{Fails}
-use Rattle.aml_data.specs.ReadingObjects.{object_at}
+use Rattle.aml_data.specs.inner.ReadingObjects.{object_at}
 use Rattle.aml_data.proofs.Objects.{object_takes, object_again}
 use Rattle.aml_data.proofs.ObjectFaults.{object_fails, object_refused}
 use Rattle.aml_data.proofs.Places.{is_found, is_only, is_fault, is_refused}

@@ -1,7 +1,7 @@
 use Rattle.std.proofs.Common.{arith}
 use Rattle.aml_data.specs.Grammar.{Const}
 use Rattle.aml_data.specs.Faults.{ConstFails}
-use Rattle.aml_data.specs.Reading.{constant_at}
+use Rattle.aml_data.specs.inner.Reading.{constant_at}
 use Rattle.aml_data.proofs.Constants.{constant_takes, constant_again, constant_fails, constant_refused}
 use Rattle.aml_data.proofs.Places.{told_found, told_only, told_fault, told_refused}
 use Rattle.aml_data.proofs.decoding.decode_constant.Goals as goal

@@ -1,7 +1,7 @@
 use Rattle.std.proofs.Common.{arith}
 use Rattle.aml_data.specs.Grammar.{NameOf}
 use Rattle.aml_data.specs.Faults.{NameFails}
-use Rattle.aml_data.specs.Reading.{name_at}
+use Rattle.aml_data.specs.inner.Reading.{name_at}
 use Rattle.aml_data.proofs.Names.{name_takes, name_again}
 use Rattle.aml_data.proofs.NameFaults.{name_fails, name_refused}
 use Rattle.aml_data.proofs.Places.{is_found, is_only, is_fault, is_refused}

@@ -1,105 +1,161 @@
-use Rattle.std.proofs.Common.{◌<◌, ◌^◌, true, [], ◌∷◌, map, take, length, is_ok, ap, sym, subst, ◌∙◌, arith}
+use Rattle.std.proofs.Common.{◌+◌, ◌-◌, ◌≤◌, ◌<◌, ◌^◌, [], ◌∷◌, map, length, length-append, ap, sym, subst, ◌∙◌, arith}
 use Rattle.aml_data.specs.declared.data.Data.{Data}
 use Rattle.aml_data.specs.declared.data.Data.TheVariants.{Package}
 use Rattle.aml_data.specs.Segment.{joined}
-use Rattle.aml_data.specs.Written.{written, written_constant, written_name, IsWritableWithin}
-use Rattle.aml_data.proofs.Appending.{Appends-exact, Appends-sized, Appends-then, joined_map-take-suc}
-use Rattle.aml_data.proofs.WrittenLayers.{package_parts, var_package_parts, path_parts, written-Int, written-Package, written-VarPackage, written-Path}
-use Rattle.aml_data.proofs.WrittenLengths.{all_at, one_le_all, package_content, var_package_content}
+use Rattle.aml_data.specs.Written.{written, written_constant, IsWritableWithin}
+use Rattle.aml_data.proofs.Room.{Fills-sized, object_fits, package_room, var_package_room, told}
+use Rattle.aml_data.proofs.WrittenLayers.{package_parts, var_package_parts, path_parts, written-Package, written-VarPackage}
+use Rattle.aml_data.proofs.WrittenLengths.{all_at, one_le_all, length-Text}
 use Rattle.aml_data.proofs.encoding.+objects.Goals as goal
 
 -- ---- elements
 
-pub put_elements-put_object-requires : goal.put_elements-put_object-requires
-put_elements-put_object-requires t c =
+pub fill_elements-fill_object-start-requires : goal.fill_elements-fill_object-start-requires
+fill_elements-fill_object-start-requires t c =
     let elements = c.args.elements.now in
-    let at = c.loop-element.element-index in
-    let inside : at < length elements = omega arith in
-    let shorter = one_le_all written elements at c.element-item.result inside c.element-item.is in
-    (omega arith, (all_at (IsWritableWithin c.args.depth) elements at c.element-item.result inside c.element-item.is c.requires.within, omega arith))
-
-pub put_elements-loop-element-preserved : goal.put_elements-loop-element-preserved
-put_elements-loop-element-preserved t c =
-    let elements = c.args.elements.now in
-    let at = c.loop-element.element-index in
-    let inside : at < length elements = omega arith in
-    rw (joined_map-take-suc written at elements c.element-item.result inside c.element-item.is)
-    (Appends-then c.args.out.now.items c.loop-element.out.items c.put_object.new.out.items (joined (map written (take at elements))) (written c.element-item.result) true
-    c.loop-element.invariant c.in_ok-put_object.ensures)
+    let left = c.loop-left.left in
+    let element = c.index-elements-left.result in
+    let filled = c.loop-left.invariant.filled in
+    let inside = c.loop-left.invariant.inside in
+    let within = filled.within in
+    let reach = filled.reach in
+    let shorter = one_le_all written elements (left - 1) element (omega arith) c.index-elements-left.is in (
+      omega arith,
+      (
+        all_at (IsWritableWithin c.args.depth) elements (left - 1) element (omega arith) c.index-elements-left.is c.requires.nested,
+        (omega arith, (object_fits elements left c.loop-left.start c.args.end element c.loop-left-test.true inside c.index-elements-left.is reach c.requires.fits, omega arith)),
+      ),
+    )
 
 -- ---- an object
 
-pub put_object-overflow_sub-depth : goal.put_object-overflow_sub-depth
-put_object-overflow_sub-depth t c =
-    let parts = package_parts c.args.depth c.in-Package.count c.in-Package.elements c.args.value.now c.in-Package.is c.requires.within in omega arith
+pub fill_object-fill_text-requires-clause-fits : goal.fill_object-fill_text-requires-clause-fits
+fill_object-fill_text-requires-clause-fits t c =
+    rw (c.as_slice.ensures, ← length-Text c.in-Text.text, ← c.in-Text.is) c.requires.fits
 
-pub put_object-put_package-requires : goal.put_object-put_package-requires
-put_object-put_package-requires t c =
-    let parts = package_parts c.args.depth c.in-Package.count c.in-Package.elements c.args.value.now c.in-Package.is c.requires.within in
-    let is = c.in-Package.is ∙ ap (Package c.in-Package.count) (sym c.as_slice-in-Package.ensures) in
-    (omega arith, (rw c.as_slice-in-Package.ensures parts.inner, subst (λ (v : Data). length (written v) < 2 ^ 28) is c.requires.short))
+pub fill_object-overflow_sub-depth : goal.fill_object-overflow_sub-depth
+fill_object-overflow_sub-depth t c =
+    let parts = package_parts c.args.depth c.in-Package.count c.in-Package.elements c.args.value.now c.in-Package.is c.requires.nested in omega arith
 
-pub put_object-overflow_sub-depth-in-VarPackage : goal.put_object-overflow_sub-depth-in-VarPackage
-put_object-overflow_sub-depth-in-VarPackage t c =
-    let parts = var_package_parts c.args.depth c.in-VarPackage.counted.count c.in-VarPackage.counted.elements c.args.value.now c.in-VarPackage.is c.requires.within in omega arith
+pub fill_object-fill_package-requires : goal.fill_object-fill_package-requires
+fill_object-fill_package-requires t c =
+    let parts = package_parts c.args.depth c.in-Package.count c.in-Package.elements c.args.value.now c.in-Package.is c.requires.nested in
+    let is = c.in-Package.is ∙ ap (Package c.in-Package.count) (sym c.as_slice-in-Package.ensures) in (
+      omega arith,
+      (
+        rw c.as_slice-in-Package.ensures parts.inner,
+        (
+          subst (λ (v : Data). length (written v) < 2 ^ 28) is c.requires.short,
+          (subst (λ (v : Data). length (written v) ≤ c.args.end) is c.requires.fits, c.requires.within),
+        ),
+      ),
+    )
 
-pub put_object-put_var_package-requires : goal.put_object-put_var_package-requires
-put_object-put_var_package-requires t c =
+pub fill_object-overflow_sub-depth-in-VarPackage : goal.fill_object-overflow_sub-depth-in-VarPackage
+fill_object-overflow_sub-depth-in-VarPackage t c =
+    let parts = var_package_parts c.args.depth c.in-VarPackage.counted.count c.in-VarPackage.counted.elements c.args.value.now c.in-VarPackage.is c.requires.nested in omega arith
+
+pub fill_object-fill_var_package-requires : goal.fill_object-fill_var_package-requires
+fill_object-fill_var_package-requires t c =
     let counted = c.in-VarPackage.counted in
-    let parts = var_package_parts c.args.depth counted.count counted.elements c.args.value.now c.in-VarPackage.is c.requires.within in
-    rw c.get-in-VarPackage.ensures (omega arith, (parts.inner, subst (λ (v : Data). length (written v) < 2 ^ 28) c.in-VarPackage.is c.requires.short))
+    let parts = var_package_parts c.args.depth counted.count counted.elements c.args.value.now c.in-VarPackage.is c.requires.nested in
+    rw c.get-in-VarPackage.ensures (
+      omega arith,
+      (
+        parts.inner,
+        (
+          subst (λ (v : Data). length (written v) < 2 ^ 28) c.in-VarPackage.is c.requires.short,
+          (subst (λ (v : Data). length (written v) ≤ c.args.end) c.in-VarPackage.is c.requires.fits, c.requires.within),
+        ),
+      ),
+    )
 
-pub put_object-encode_name-requires-clause-few : goal.put_object-encode_name-requires-clause-few
-put_object-encode_name-requires-clause-few t c = rw c.get-in-Path.ensures ((path_parts c.args.depth c.in-Path.path c.args.value.now c.in-Path.is c.requires.within).0.few)
-
-pub put_object-encode_name-requires-clause-no_ups : goal.put_object-encode_name-requires-clause-no_ups
-put_object-encode_name-requires-clause-no_ups t c = rw c.get-in-Path.ensures ((path_parts c.args.depth c.in-Path.path c.args.value.now c.in-Path.is c.requires.within).0.no_ups)
-
-pub put_object-returns-in-Int : goal.put_object-returns-in-Int
-put_object-returns-in-Int t c =
-    rw (c.in-Int.is, written-Int c.in-Int.number)
-    (Appends-exact c.args.out.now.items c.encode_constant.new.out.items (written_constant c.in-Int.number) c.encode_constant.result c.encode_constant.ensures.ok c.encode_constant.ensures.err)
-
-pub put_object-returns-in-Path : goal.put_object-returns-in-Path
-put_object-returns-in-Path t c =
-    rw (c.in-Path.is, written-Path c.in-Path.path, ← c.get-in-Path.ensures)
-    (Appends-exact c.args.out.now.items c.encode_name.new.out.items (written_name c.get-in-Path.result.now) c.encode_name.result c.encode_name.ensures.ok c.encode_name.ensures.err)
+pub fill_object-fill_name-requires-clause-few : goal.fill_object-fill_name-requires-clause-few
+fill_object-fill_name-requires-clause-few t c = rw c.get-in-Path.ensures ((path_parts c.args.depth c.in-Path.path c.args.value.now c.in-Path.is c.requires.nested).0.few)
 
 -- ---- packages
 
-pub put_package-put_head-requires : goal.put_package-put_head-requires
-put_package-put_head-requires t c = (package_content c.args.count c.elements_len.result c.args.elements.now c.requires.short c.elements_len.ensures).fits
+pub fill_package-fill_elements-body-requires : goal.fill_package-fill_elements-body-requires
+fill_package-fill_elements-body-requires t c =
+    let room = package_room c.args.count c.args.elements.now c.args.end c.requires.short c.requires.fits in
+    let fits = room.fits in
+    let head = room.head in
+    (omega arith, (c.requires.nested, (omega arith, (omega arith, c.requires.within))))
 
-pub put_package-put_elements-requires : goal.put_package-put_elements-requires
-put_package-put_elements-requires t c =
-    let content = package_content c.args.count c.elements_len.result c.args.elements.now c.requires.short c.elements_len.ensures in
-    (omega arith, (c.requires.within, content.part))
+pub fill_package-fill-content-requires-clause-fits : goal.fill_package-fill-content-requires-clause-fits
+fill_package-fill-content-requires-clause-fits t c =
+    let room = package_room c.args.count c.args.elements.now c.args.end c.requires.short c.requires.fits in
+    let head = room.head in
+    let body = c.fill_elements-body.ensures.reach in
+    omega arith
 
-pub put_package-returns : goal.put_package-returns
-put_package-returns t c =
+pub fill_package-fill_head-requires-clause-short : goal.fill_package-fill_head-requires-clause-short
+fill_package-fill_head-requires-clause-short t c =
+    let n = 1 + length (joined (map written c.args.elements.now)) in
+    let room = package_room c.args.count c.args.elements.now c.args.end c.requires.short c.requires.fits in
+    let body = c.fill_elements-body.ensures.reach in
+    let count = c.fill-content.ensures.reach in
+    (told n c.fill-content.result c.args.end room (omega arith)).fits
+
+pub fill_package-fill_head-requires-clause-fits : goal.fill_package-fill_head-requires-clause-fits
+fill_package-fill_head-requires-clause-fits t c =
+    let n = 1 + length (joined (map written c.args.elements.now)) in
+    let room = package_room c.args.count c.args.elements.now c.args.end c.requires.short c.requires.fits in
+    let body = c.fill_elements-body.ensures.reach in
+    let count = c.fill-content.ensures.reach in
+    (told n c.fill-content.result c.args.end room (omega arith)).head
+
+pub fill_package-returns : goal.fill_package-returns
+fill_package-returns t c =
     let elements = joined (map written c.args.elements.now) in
-    let content = package_content c.args.count c.elements_len.result c.args.elements.now c.requires.short c.elements_len.ensures in
+    let body = c.fill_elements-body.ensures.reach in
+    let count = c.fill-content.ensures.reach in
     rw (written-Package c.args.count c.args.elements.now)
-    (Appends-sized c.args.out.now.items c.put_head.new.out.items c.put.new.out.items c.put_elements.new.out.items (c.args.count ∷ []) elements 18 _ (is_ok c.put_elements.result)
-    content.is c.in_ok-put_head.ensures c.in_ok-put.ensures c.put_elements.ensures)
+    (Fills-sized c.args.room.now c.fill_elements-body.new.room c.fill-content.new.room c.fill_head.new.room c.fill_head.result c.fill-content.result c.fill_elements-body.result c.args.end 18
+    (c.args.end - c.fill-content.result) (c.args.count ∷ []) elements (omega (arith, length-append (c.args.count ∷ []) elements)) c.fill_elements-body.ensures c.fill-content.ensures c.fill_head.ensures)
 
-pub put_var_package-put_head-requires : goal.put_var_package-put_head-requires
-put_var_package-put_head-requires t c =
+pub fill_var_package-fill_elements-body-requires : goal.fill_var_package-fill_elements-body-requires
+fill_var_package-fill_elements-body-requires t c =
     let counted = c.args.counted.now in
-    (var_package_content counted.count c.constant_len.result c.elements_len.result counted.elements c.requires.short c.constant_len.ensures (rw c.as_slice-elements.ensures at c.elements_len.ensures)).fits
+    let room = var_package_room counted.count counted.elements c.args.end c.requires.short c.requires.fits in
+    let fits = room.fits in
+    let head = room.head in
+    rw c.as_slice.ensures (omega arith, (c.requires.nested, (omega arith, (omega arith, c.requires.within))))
 
-pub put_var_package-put_elements-requires : goal.put_var_package-put_elements-requires
-put_var_package-put_elements-requires t c =
+pub fill_var_package-fill_constant-content-requires-clause-fits : goal.fill_var_package-fill_constant-content-requires-clause-fits
+fill_var_package-fill_constant-content-requires-clause-fits t c =
     let counted = c.args.counted.now in
-    let content = var_package_content counted.count c.constant_len.result c.elements_len.result counted.elements c.requires.short c.constant_len.ensures (rw c.as_slice-elements.ensures at c.elements_len.ensures) in
-    rw c.as_slice-elements.ensures (omega arith, (c.requires.within, content.part))
+    let room = var_package_room counted.count counted.elements c.args.end c.requires.short c.requires.fits in
+    let head = room.head in
+    let body = (rw c.as_slice.ensures at c.fill_elements-body.ensures).reach in
+    omega arith
 
-pub put_var_package-returns : goal.put_var_package-returns
-put_var_package-returns t c =
+pub fill_var_package-fill_head-requires-clause-short : goal.fill_var_package-fill_head-requires-clause-short
+fill_var_package-fill_head-requires-clause-short t c =
     let counted = c.args.counted.now in
-    let count = written_constant counted.count in
+    let n = length (written_constant counted.count) + length (joined (map written counted.elements)) in
+    let room = var_package_room counted.count counted.elements c.args.end c.requires.short c.requires.fits in
+    let body = (rw c.as_slice.ensures at c.fill_elements-body.ensures).reach in
+    let count = c.fill_constant-content.ensures.reach in
+    (told n c.fill_constant-content.result c.args.end room (omega arith)).fits
+
+pub fill_var_package-fill_head-requires-clause-fits : goal.fill_var_package-fill_head-requires-clause-fits
+fill_var_package-fill_head-requires-clause-fits t c =
+    let counted = c.args.counted.now in
+    let n = length (written_constant counted.count) + length (joined (map written counted.elements)) in
+    let room = var_package_room counted.count counted.elements c.args.end c.requires.short c.requires.fits in
+    let body = (rw c.as_slice.ensures at c.fill_elements-body.ensures).reach in
+    let count = c.fill_constant-content.ensures.reach in
+    (told n c.fill_constant-content.result c.args.end room (omega arith)).head
+
+pub fill_var_package-returns : goal.fill_var_package-returns
+fill_var_package-returns t c =
+    let counted = c.args.counted.now in
+    let head = written_constant counted.count in
     let elements = joined (map written counted.elements) in
-    let content = var_package_content counted.count c.constant_len.result c.elements_len.result counted.elements c.requires.short c.constant_len.ensures (rw c.as_slice-elements.ensures at c.elements_len.ensures) in
+    let filled = rw c.as_slice.ensures at c.fill_elements-body.ensures in
+    let body = filled.reach in
+    let count = c.fill_constant-content.ensures.reach in
     rw (written-VarPackage counted.count counted.elements)
-    (Appends-sized c.args.out.now.items c.put_head.new.out.items c.encode_constant.new.out.items c.put_elements.new.out.items count elements 19 _ (is_ok c.put_elements.result)
-    content.is c.in_ok-put_head.ensures c.in_ok-encode_constant.ensures.ok (rw c.as_slice-elements.ensures at c.put_elements.ensures))
+    (Fills-sized c.args.room.now c.fill_elements-body.new.room c.fill_constant-content.new.room c.fill_head.new.room c.fill_head.result c.fill_constant-content.result c.fill_elements-body.result
+    c.args.end 19 (c.args.end - c.fill_constant-content.result) head elements (omega (arith, length-append head elements)) filled c.fill_constant-content.ensures c.fill_head.ensures)

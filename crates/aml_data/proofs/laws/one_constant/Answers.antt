@@ -1,5 +1,5 @@
 use Rattle.aml_data.specs.Grammar.{Const}
-use Rattle.aml_data.specs.Reading.{constant_at}
+use Rattle.aml_data.specs.inner.Reading.{constant_at}
 use Rattle.aml_data.proofs.Constants.{constant_again}
 use Rattle.aml_data.proofs.Places.{one_spelled, one_place}
 use Rattle.aml_data.proofs.laws.one_constant.Goals as goal

@@ -1,6 +1,6 @@
 use Rattle.aml_data.specs.Grammar.{Const}
 use Rattle.aml_data.specs.Faults.{ConstFails}
-use Rattle.aml_data.specs.Reading.{constant_at}
+use Rattle.aml_data.specs.inner.Reading.{constant_at}
 use Rattle.aml_data.proofs.Constants.{constant_again}
 use Rattle.aml_data.proofs.Constants.{constant_refused}
 use Rattle.aml_data.proofs.Places.{one_fault, no_fault}

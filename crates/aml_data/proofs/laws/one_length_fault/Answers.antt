@@ -1,5 +1,5 @@
 use Rattle.aml_data.specs.Faults.{LenFails}
-use Rattle.aml_data.specs.Reading.{length_at}
+use Rattle.aml_data.specs.inner.Reading.{length_at}
 use Rattle.aml_data.proofs.LengthSpellings.{length_refused}
 use Rattle.aml_data.proofs.Places.{one_fault}
 use Rattle.aml_data.proofs.LengthPlaces.{no_length_fault}

@@ -1,5 +1,5 @@
 use Rattle.aml_data.specs.Grammar.{NameOf}
-use Rattle.aml_data.specs.Reading.{name_at}
+use Rattle.aml_data.specs.inner.Reading.{name_at}
 use Rattle.aml_data.proofs.Names.{name_again}
 use Rattle.aml_data.proofs.Places.{one_spelled, one_place}
 use Rattle.aml_data.proofs.laws.one_name.Goals as goal

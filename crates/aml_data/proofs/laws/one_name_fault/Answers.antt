@@ -1,6 +1,6 @@
 use Rattle.aml_data.specs.Grammar.{NameOf}
 use Rattle.aml_data.specs.Faults.{NameFails}
-use Rattle.aml_data.specs.Reading.{name_at}
+use Rattle.aml_data.specs.inner.Reading.{name_at}
 use Rattle.aml_data.proofs.Names.{name_again}
 use Rattle.aml_data.proofs.NameFaults.{name_refused}
 use Rattle.aml_data.proofs.Places.{one_fault, no_fault}

@@ -1,5 +1,5 @@
 use Rattle.aml_data.specs.Grammar.{Spells}
-use Rattle.aml_data.specs.ReadingObjects.{object_at}
+use Rattle.aml_data.specs.inner.ReadingObjects.{object_at}
 use Rattle.aml_data.proofs.Objects.{object_again}
 use Rattle.aml_data.proofs.Places.{one_spelled, one_place}
 use Rattle.aml_data.proofs.laws.one_object.Goals as goal

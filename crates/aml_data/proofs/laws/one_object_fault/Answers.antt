@@ -1,6 +1,6 @@
 use Rattle.aml_data.specs.Grammar.{Spells}
 use Rattle.aml_data.specs.Faults.{Fails}
-use Rattle.aml_data.specs.ReadingObjects.{object_at}
+use Rattle.aml_data.specs.inner.ReadingObjects.{object_at}
 use Rattle.aml_data.proofs.Objects.{object_again}
 use Rattle.aml_data.proofs.ObjectFaults.{object_refused}
 use Rattle.aml_data.proofs.Places.{one_fault, no_fault}

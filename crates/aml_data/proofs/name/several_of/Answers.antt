@@ -1,6 +1,6 @@
 use Rattle.std.proofs.Common.{arith}
 use Rattle.std.proofs.lemmas.Result.{err_from_is_err_and}
-use Rattle.aml_data.specs.Reading.{several_at}
+use Rattle.aml_data.specs.inner.Reading.{several_at}
 use Rattle.aml_data.proofs.SegmentLoop.{segments_go_on, segments_end}
 use Rattle.aml_data.proofs.name.several_of.Goals as goal
 

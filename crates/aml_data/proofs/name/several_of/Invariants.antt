@@ -1,5 +1,5 @@
 use Rattle.std.proofs.Common.{◌≡◌, ◌+◌, ◌-◌, ◌≤◌, length}
-use Rattle.aml_data.specs.Reading.{several_at}
+use Rattle.aml_data.specs.inner.Reading.{several_at}
 use Rattle.aml_data.proofs.SegmentLoop.{with_front}
 use Rattle.aml_data.proofs.name.several_of.Given as goal
 

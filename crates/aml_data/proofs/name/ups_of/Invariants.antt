@@ -1,5 +1,5 @@
 use Rattle.std.proofs.Common.{◌≡◌, ◌+◌, length}
-use Rattle.aml_data.specs.Reading.{ups_at}
+use Rattle.aml_data.specs.inner.Reading.{ups_at}
 use Rattle.aml_data.proofs.name.ups_of.Given as goal
 
 abbrev pub invariant-loop-rest : goal.invariant-loop-rest

@@ -1,5 +1,5 @@
 use Rattle.std.proofs.Common.{◌≡◌, ◌+◌, ◌*◌, ◌≤◌, length}
-use Rattle.aml_data.specs.ReadingObjects.{elements_at, object_within}
+use Rattle.aml_data.specs.inner.ReadingObjects.{elements_at, object_within}
 use Rattle.aml_data.proofs.ElementLoop.{with_elements}
 use Rattle.aml_data.proofs.object.+objects.Given as goal
 

@@ -1,6 +1,6 @@
 use Rattle.std.proofs.Common.{◌≡◌, ℕ, List, ◌++◌, take, drop, Ok}
-use Rattle.aml_data.specs.Reading.{◌>>=◌, Read}
-use Rattle.aml_data.specs.ReadingObjects.{text_at}
+use Rattle.aml_data.specs.inner.Reading.{◌>>=◌, Read}
+use Rattle.aml_data.specs.inner.ReadingObjects.{text_at}
 use Rattle.aml_data.proofs.text.text_length.Given as goal
 
 -- the bytes that were read before, and those still to be read

@@ -16,7 +16,7 @@ pub returns-then-total-gt-LARGEST_SUM-clause-fault : goal.returns-then-total-gt-
 returns-then-total-gt-LARGEST_SUM-clause-fault g c =
     let name = c.as_str.result.now in
     let next = at_next c.args.names.now c.loop-name.name-index c.name-item.result name c.loop-name.invariant.1 (omega arith) c.name-item.is c.as_str.ensures.value in
-    λ m r. is_large name c.in-Ok.read.0 next
+    is_large name c.in-Ok.read.0 next
     (held_before g.F.Files.told g.F.Files.holds g.F.Files.faults c.args.files.now c.loop-name.files name
     (λ held. IsBlock held c.in-Ok.read.0 c.in-Ok.read.1) c.loop-name.invariant.0 c.in-Ok.ensures.found)
     c.if-total-gt-LARGEST_SUM.true

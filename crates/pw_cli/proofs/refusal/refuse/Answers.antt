@@ -1,8 +1,7 @@
-use Rattle.std.proofs.Common.{refl}
 use Rattle.pw_cli.proofs.refusal.refuse.Goals as goal
 
-pub returns-in-ReadFault-clause-printed : goal.returns-in-ReadFault-clause-printed
-returns-in-ReadFault-clause-printed g c = rw c.in-ReadFault.is (record { ends = refl; on_err = c.say.ensures.line })
+pub returns-in-ReadFault-clause-line : goal.returns-in-ReadFault-clause-line
+returns-in-ReadFault-clause-line g c = rw c.in-ReadFault.is c.say.ensures.line
 
-pub returns-in-Large-clause-printed : goal.returns-in-Large-clause-printed
-returns-in-Large-clause-printed g c = rw c.in-Large.is (record { ends = refl; on_err = c.say-in-Large.ensures.line })
+pub returns-in-Large-clause-line : goal.returns-in-Large-clause-line
+returns-in-Large-clause-line g c = rw c.in-Large.is c.say-in-Large.ensures.line

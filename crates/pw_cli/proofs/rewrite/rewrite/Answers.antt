@@ -1,27 +1,20 @@
-use Rattle.std.proofs.Common.{[], codes}
-use Rattle.pw_words.specs.Words.{texts}
-use Rattle.pw_words.specs.Words.Task.{to_rewrite}
-use Rattle.pw_cli.specs.Runs.Ends.{ends_without_memory}
-use Rattle.pw_cli.proofs.Sent.{nothing_printed}
-use Rattle.pw_cli.proofs.Ending.{ran_of, ran_of_fault, count_of_texts}
+use Rattle.std.proofs.Common.{◌∙◌, codes}
+use Rattle.pw_cli.specs.Runs.EndsOver.{printed, unwritten, without_memory}
+use Rattle.pw_cli.proofs.Ending.{ended_printing, ended_saying, ended_within}
 use Rattle.pw_cli.proofs.rewrite.rewrite.Goals as goal
 
-pub returns-in_default-clause-ran : goal.returns-in_default-clause-ran
-returns-in_default-clause-ran g c = λ words is. record {
-  printed = [];
-  line = codes "no memory\n";
-  ends = rw c.without_memory.ensures.status (ends_without_memory to_rewrite {names = texts c.args.names.now} is);
-  on_out = nothing_printed g.K.Sink.told g.K.Sink.written g.K.Sink.faults c.args.out.now;
-  on_err = c.without_memory.ensures.line;
-}
+pub returns-in_default-clause-over : goal.returns-in_default-clause-over
+returns-in_default-clause-over g c =
+    ended_saying g.K.Sink c.args.out.now c.args.err.now c.without_memory.new.err (codes "no memory\n") c.without_memory.result
+    (rw c.without_memory.ensures.status without_memory) c.without_memory.ensures.line
 
-pub returns-in-Ok-read_blocks-clause-ran : goal.returns-in-Ok-read_blocks-clause-ran
-returns-in-Ok-read_blocks-clause-ran g c = λ words is.
-    ran_of to_rewrite (texts c.args.names.now) c.in-Ok-read_blocks.blocks.items is c.in-Ok-read_blocks.ensures.found
-    (rw c.deref.ensures.value at c.rewrite_blocks-outcome.ensures.printed)
+pub returns-in-Ok-put_all-clause-over : goal.returns-in-Ok-put_all-clause-over
+returns-in-Ok-put_all-clause-over g c =
+    ended_printing g.K.Sink c.args.out.now c.put_all.new.sink c.args.err.now c.as_slice.result.now 0
+    (printed (c.as_slice.ensures.value ∙ c.in-Ok.ensures)) c.in-Ok-put_all.ensures.ok
 
-pub returns-clause-ran : goal.returns-clause-ran
-returns-clause-ran g c = λ words is.
-    let quiet = nothing_printed g.K.Sink.told g.K.Sink.written g.K.Sink.faults c.args.out.now in
-    ran_of_fault to_rewrite (texts c.args.names.now) _ c.in-Err.fault is (count_of_texts c.args.names.now)
-    c.in-Err.ensures.failed c.in-Err.ensures.fault quiet c.refuse.ensures.printed
+pub returns-clause-over : goal.returns-clause-over
+returns-clause-over g c =
+    let text = c.as_slice.result.now in
+    ended_within g.K.Sink c.args.out.now c.put_all.new.sink c.args.err.now c.say.new.err text (codes "write fault\n") 4
+    (λ n. unwritten text n (c.as_slice.ensures.value ∙ c.in-Ok.ensures) c.in-Err.ensures.failed) c.in-Err.ensures.part c.say.ensures.line

@@ -1,27 +1,16 @@
-use Rattle.std.proofs.Common.{[], codes}
-use Rattle.pw_words.specs.Words.{texts}
-use Rattle.pw_words.specs.Words.Task.{to_show}
-use Rattle.pw_cli.specs.Runs.Ends.{ends_without_memory}
-use Rattle.pw_cli.proofs.Sent.{nothing_printed}
-use Rattle.pw_cli.proofs.Ending.{ran_of, ran_of_fault, count_of_texts}
+use Rattle.std.proofs.Common.{◌≡◌, codes, refl}
+use Rattle.pw_cli.specs.Lines.{twice_line}
+use Rattle.pw_cli.specs.Runs.EndsOver.{refused, without_memory}
+use Rattle.pw_cli.proofs.Ending.{ended_saying}
 use Rattle.pw_cli.proofs.show.show.Goals as goal
 
-pub returns-in_default-clause-ran : goal.returns-in_default-clause-ran
-returns-in_default-clause-ran g c = λ words is. record {
-  printed = [];
-  line = codes "no memory\n";
-  ends = rw c.without_memory.ensures.status (ends_without_memory to_show {names = texts c.args.names.now} is);
-  on_out = nothing_printed g.K.Sink.told g.K.Sink.written g.K.Sink.faults c.args.out.now;
-  on_err = c.without_memory.ensures.line;
-}
+pub returns-in-Err-Memory-clause-over : goal.returns-in-Err-Memory-clause-over
+returns-in-Err-Memory-clause-over g c =
+    ended_saying g.K.Sink c.args.out.now c.args.err.now c.without_memory.new.err (codes "no memory\n") c.without_memory.result
+    (rw c.without_memory.ensures.status without_memory) c.without_memory.ensures.line
 
-pub returns-in-Ok-read_blocks-clause-ran : goal.returns-in-Ok-read_blocks-clause-ran
-returns-in-Ok-read_blocks-clause-ran g c = λ words is.
-    ran_of to_show (texts c.args.names.now) c.in-Ok-read_blocks.blocks.items is c.in-Ok-read_blocks.ensures.found
-    (rw c.deref.ensures.value at c.show_blocks-outcome.ensures.printed)
-
-pub returns-clause-ran : goal.returns-clause-ran
-returns-clause-ran g c = λ words is.
-    let quiet = nothing_printed g.K.Sink.told g.K.Sink.written g.K.Sink.faults c.args.out.now in
-    ran_of_fault to_show (texts c.args.names.now) _ c.in-Err.fault is (count_of_texts c.args.names.now)
-    c.in-Err.ensures.failed c.in-Err.ensures.fault quiet c.refuse.ensures.printed
+pub returns-in-Err-Twice-clause-over : goal.returns-in-Err-Twice-clause-over
+returns-in-Err-Twice-clause-over g c =
+    let segs : c.as_slice.result.now ≡ c.in-Err-Twice.path.segs = rw c.in-Err-Twice.field-0-is at c.as_slice.ensures in
+    ended_saying g.K.Sink c.args.out.now c.args.err.now c.say_twice.new.err (twice_line c.in-Err-Twice.path.segs) 1
+    (refused (c.in-Err-Twice.path.segs, (rw c.in-Err-Twice.field-0-is at c.in-Err-Twice.ensures.fault), refl)) (rw segs at c.say_twice.ensures.line)

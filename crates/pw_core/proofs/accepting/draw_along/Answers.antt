@@ -4,7 +4,7 @@ use Rattle.pw_plan.proofs.Lists.{and_second}
 use Rattle.pw_model.specs.States.{with_change}
 use Rattle.pw_model.specs.Composites.{composite_of}
 use Rattle.pw_model.specs.Operations.{enter, is_drawn}
-use Rattle.pw_core.specs.Drawn.{drawn_among}
+use Rattle.pw_core.specs.inner.Drawn.{drawn_among}
 use Rattle.pw_core.proofs.Climbing.{chain_fits}
 use Rattle.pw_core.proofs.Drawing.{drawn_above, passed, pushed, room_passed, room_pushed}
 use Rattle.pw_core.proofs.accepting.draw_along.Goals as goal

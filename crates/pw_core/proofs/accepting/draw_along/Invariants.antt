@@ -1,7 +1,7 @@
 use Rattle.std.proofs.Common.{◌≡◌, ◌≤◌, ◌+◌, ◌++◌, length, map, drop}
 use Rattle.pw_model.specs.States.{with_change}
 use Rattle.pw_model.specs.Operations.{enter}
-use Rattle.pw_core.specs.Drawn.{drawn_among}
+use Rattle.pw_core.specs.inner.Drawn.{drawn_among}
 use Rattle.pw_core.proofs.accepting.draw_along.Given as goal
 
 abbrev pub invariant-loop-member : goal.invariant-loop-member

@@ -3,7 +3,7 @@ use Rattle.pw_plan.specs.Tree.{line_from}
 use Rattle.pw_model.specs.States.{vote_of, with_change}
 use Rattle.pw_model.specs.Containers.{ancestors}
 use Rattle.pw_model.specs.Answers.{states_along}
-use Rattle.pw_core.specs.Known.{IsKnown}
+use Rattle.pw_core.specs.inner.Known.{IsKnown}
 use Rattle.pw_core.proofs.Climbing.{Climbs}
 use Rattle.pw_core.proofs.chain.climbed.Given as goal
 

@@ -1,5 +1,5 @@
 use Rattle.std.proofs.Common.{arith}
-use Rattle.pw_core.proofs.Fitting.{perf_few, throttle_few}
+use Rattle.pw_model.proofs.Fitting.{perf_few, throttle_few}
 use Rattle.pw_core.proofs.changing.change_of.Goals as goal
 
 pub overflow_cast-result-in-Perf : goal.overflow_cast-result-in-Perf

@@ -18,6 +18,13 @@ line_is entries placed at d path p objects inside is same =
     let object : thing p.object ≡ (get_or entries at d).object = ap (λ (q : Placed). thing q.object) is ∙ (objects.objects at d p inside).0 in
     rw (same, object) refl
 
+pub fill_path-requires-clause-room : goal.fill_path-requires-clause-room
+fill_path-requires-clause-room g c = λ d.
+    let at = c.loop-index.index in
+    let objects = c.placed-placed-items.ensures.objects in
+    let within : at < length c.args.space.now = omega (arith, objects.count) in
+    rw c.loop-index.invariant.0 (c.requires at d within)
+
 pub returns-in_err-put_line : goal.returns-in_err-put_line
 returns-in_err-put_line g c =
     let entries = c.args.space.now in

@@ -5,4 +5,4 @@ use Rattle.pw_show.proofs.show.put_space.Given as goal
 
 abbrev pub invariant-loop-index : goal.invariant-loop-index
 invariant-loop-index g l = (l.path.capacity ≡ l.initial.path.capacity)
-    × PutsText g.K.Sink.told g.K.Sink.written g.K.Sink.faults l.initial.sink l.sink l.initial.page l.page (show_text (take l.index l.space)) true
+    × PutsText g.K.Sink l.initial.sink l.sink l.initial.page l.page (show_text (take l.index l.space)) true

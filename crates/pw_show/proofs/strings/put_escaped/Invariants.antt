@@ -5,4 +5,4 @@ use Rattle.pw_show.specs.Values.{escaped}
 use Rattle.pw_show.proofs.strings.put_escaped.Given as goal
 
 abbrev pub invariant-loop-byte : goal.invariant-loop-byte
-invariant-loop-byte g l = PutsText g.K.Sink.told g.K.Sink.written g.K.Sink.faults l.initial.sink l.sink l.initial.page l.page (flat_map escaped (take l.byte-index l.text)) true
+invariant-loop-byte g l = PutsText g.K.Sink l.initial.sink l.sink l.initial.page l.page (flat_map escaped (take l.byte-index l.text)) true

@@ -4,4 +4,4 @@ use Rattle.pw_text.specs.Puts.{PutsText}
 use Rattle.pw_text.proofs.paths.put_behind_dots.Given as goal
 
 abbrev pub invariant-loop-seg : goal.invariant-loop-seg
-invariant-loop-seg g l = PutsText g.K.Sink.told g.K.Sink.written g.K.Sink.faults l.initial.sink l.sink l.initial.page l.page (flat_map (λ seg. 46 ∷ seg) (take l.seg-index l.segs)) true
+invariant-loop-seg g l = PutsText g.K.Sink l.initial.sink l.sink l.initial.page l.page (flat_map (λ seg. 46 ∷ seg) (take l.seg-index l.segs)) true

@@ -11,4 +11,4 @@ pub returns-clause-done : goal.returns-clause-done
 returns-clause-done c before stands =
     let old = c.args.self.now in
     let place = opened (touched before) (get_or old.tree c.args.scope []) c.args.path.now in
-    after_opening old.tree c.open.new.self old.placed.items old.index before c.in_ok-name.name place stands (c.in_ok-name.ensures.found (touched before) stands.known) c.facts.ensures.closed
+    after_opening old.tree c.open.new.self old.placed.items old.index.items before c.in_ok-name.name place stands (c.in_ok-name.ensures.found (touched before) stands.known) c.facts.ensures.closed

@@ -7,7 +7,8 @@ use Rattle.aml_block.specs.declared.block.Block.{Block}
 use Rattle.acpi_space.specs.Places.{Place}
 use Rattle.acpi_space.specs.Steps.{Step, in_order, steps_in}
 use Rattle.acpi_space.specs.Namespace.{dsdt_width, width_among, block_turn}
-use Rattle.acpi_space.specs.Standing.{StandsIn, IsFaultOf}
+use Rattle.acpi_space.specs.Standing.{IsFaultOf}
+use Rattle.acpi_space.specs.inner.Standing.{StandsIn}
 use Rattle.acpi_space.proofs.Known.{more_turns, turn_fault}
 use Rattle.acpi_space.proofs.space.Space.build.Goals as goal
 

@@ -1,7 +1,7 @@
 use Rattle.std.proofs.Common.{[], take, map}
 use Rattle.acpi_space.specs.Steps.{in_order}
 use Rattle.acpi_space.specs.Namespace.{block_turn}
-use Rattle.acpi_space.specs.Standing.{StandsIn}
+use Rattle.acpi_space.specs.inner.Standing.{StandsIn}
 use Rattle.acpi_space.proofs.space.Space.build.Given as goal
 
 abbrev pub invariant-loop-block : goal.invariant-loop-block

@@ -1,8 +1,6 @@
-use Rattle.std.proofs.Common.{◌≡◌, ◌<◌, ◌≤◌, length, sym, ap, ◌∙◌, arith}
+use Rattle.std.proofs.Common.{◌≡◌, ◌<◌, length, sym, ap, ◌∙◌, arith}
 use Rattle.std.proofs.lemmas.List.{length-map}
-use Rattle.std.proofs.lemmas.List.Elements.{All-get_or}
-use Rattle.acpi_space.specs.Namespace.{Entry}
-use Rattle.acpi_space.specs.Standing.{entry_in}
+use Rattle.acpi_space.specs.inner.Standing.{entry_in}
 use Rattle.acpi_space.proofs.Known.{path_is}
 use Rattle.acpi_space.proofs.space.Space.fill_path.Goals as goal
 
@@ -15,4 +13,4 @@ fill-requires-clause-room c =
     let count : length c.args.self.now ≡ length placed = ap length (sym c.self.view_is) ∙ length-map placed (entry_in places) in
     let inside : c.args.index < length placed = omega (arith, c.requires.within, count) in
     let path = path_is places placed c.args.self.now c.args.index e p c.self.view_is inside c.index-placed.ensures in
-    rw path (All-get_or (λ (e : Entry). length e.path ≤ c.args.path.now.capacity) c.args.self.now c.args.index e c.requires.within c.requires.room)
+    rw path (c.requires.room e)

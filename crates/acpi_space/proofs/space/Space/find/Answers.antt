@@ -1,14 +1,17 @@
-use Rattle.std.proofs.Common.{Contains, sym, subst}
-use Rattle.acpi_space.specs.Trees.{IsAt}
-use Rattle.acpi_space.proofs.Known.{unplaced, free_place}
+use Rattle.std.proofs.Common.{Contains, MatchOption, ap, ◌∙◌}
+use Rattle.acpi_space.specs.Namespace.{places_of}
+use Rattle.acpi_space.specs.Standing.{IsFound}
+use Rattle.acpi_space.specs.inner.Standing.{entries_at}
+use Rattle.acpi_space.proofs.Trees.{subst2}
+use Rattle.acpi_space.proofs.Known.{unplaced}
 use Rattle.acpi_space.proofs.space.Space.find.Goals as goal
 
-pub returns-in-None-get : goal.returns-in-None-get
-returns-in-None-get c =
-    free_place c.self.inside.tree c.self.inside.placed.items c.self.inside.index c.args.self.now c.in-Some.name c.args.path.now.segs c.self.invariant c.facts.ensures.distinct c.self.view_is
-    (subst (IsAt c.self.inside.tree c.in-Some.name) c.as_slice.ensures c.in-Some.ensures) (sym c.in-None-get.ensures.value)
+pub returns-in-Some : goal.returns-in-Some
+returns-in-Some c =
+    subst2 (λ es q. MatchOption c.object_at.result (Contains (places_of es) q → ⊥) (λ p. IsFound es q p.now))
+    (ap (entries_at c.self.inside.tree) c.as_slice-in-Some.ensures.value ∙ c.self.view_is) (c.in-Some.ensures.1 ∙ c.as_slice.ensures) c.object_at.ensures
 
 pub returns-in-None : goal.returns-in-None
 returns-in-None c =
-    unplaced c.self.inside.tree c.self.inside.placed.items c.self.inside.index c.args.self.now c.args.path.now.segs c.self.invariant c.self.view_is
-    (subst (λ s. Contains c.self.inside.tree s → ⊥) c.as_slice.ensures c.in-None.ensures)
+    subst2 (λ es q. Contains (places_of es) q → ⊥) c.self.view_is c.as_slice.ensures
+    (unplaced c.self.inside.tree c.self.inside.placed.items c.self.inside.index.items c.as_slice.result.now c.self.invariant c.in-None.ensures)

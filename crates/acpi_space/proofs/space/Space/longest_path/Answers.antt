@@ -4,7 +4,7 @@ use Rattle.std.specs.Ordering.{ord_max}
 use Rattle.std.proofs.lemmas.Bool.{cases_lt}
 use Rattle.std.proofs.lemmas.List.{length-map, get_or_default}
 use Rattle.acpi_space.specs.Namespace.{Entry}
-use Rattle.acpi_space.specs.Standing.{entry_in}
+use Rattle.acpi_space.specs.inner.Standing.{entry_in}
 use Rattle.acpi_space.proofs.Known.{path_is}
 use Rattle.acpi_space.proofs.space.Space.longest_path.Goals as goal
 

@@ -1,5 +1,5 @@
 use Rattle.std.proofs.Common.{take}
-use Rattle.acpi_space.specs.Trees.{IsAt}
+use Rattle.acpi_space.specs.inner.Trees.{IsAt}
 use Rattle.acpi_space.proofs.tree.Tree.find.Given as goal
 
 abbrev pub invariant-loop-seg : goal.invariant-loop-seg

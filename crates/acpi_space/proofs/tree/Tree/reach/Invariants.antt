@@ -1,5 +1,5 @@
 use Rattle.std.proofs.Common.{◌++◌, [], take, get_or}
-use Rattle.acpi_space.specs.Trees.{Reaches}
+use Rattle.acpi_space.specs.inner.Trees.{Reaches}
 use Rattle.acpi_space.proofs.tree.Tree.reach.Given as goal
 
 abbrev pub invariant-loop-seg : goal.invariant-loop-seg

@@ -1,15 +1,34 @@
-use Rattle.std.proofs.Common.{[], get_or}
-use Rattle.acpi_space.proofs.Trees.{sought_first, sought_nowhere, sought_above}
+use Rattle.std.proofs.Common.{[], get_or, arith}
+use Rattle.acpi_space.proofs.Rising.{sought_first, sought_nowhere, sought_risen, last_on, sought_nearest}
 use Rattle.acpi_space.proofs.tree.Tree.search.Goals as goal
 
-pub loop-number-init : goal.loop-number-init
-loop-number-init c = sought_first c.args.self.now c.args.scope c.args.seg c.requires
+pub returns-in_default : goal.returns-in_default
+returns-in_default c =
+    sought_nowhere c.args.self.now (get_or c.args.self.now c.args.scope []) c.args.seg c.args.scope c.facts.ensures.closed c.facts.ensures.ordered
+    (sought_first c.args.self.now c.args.scope c.args.seg c.requires) c.in_default.ensures
 
-pub loop-number-preserved : goal.loop-number-preserved
-loop-number-preserved c =
-    sought_above c.args.self.now (get_or c.args.self.now c.args.scope []) c.args.seg c.loop-number.here c.in-Some-above.above c.in-Some-above.field-0-1 c.loop-number.invariant c.in-None.ensures
-    c.in-Some-above.ensures.root c.in-Some-above.ensures.less
+pub loop-found-init : goal.loop-found-init
+loop-found-init c = record { sought = sought_first c.args.self.now c.args.scope c.args.seg c.requires; last = c.in-Some.ensures }
 
-pub returns-in-None-above : goal.returns-in-None-above
-returns-in-None-above c =
-    sought_nowhere c.args.self.now (get_or c.args.self.now c.args.scope []) c.args.seg c.loop-number.here c.loop-number.invariant c.in-None.ensures c.in-None-above.ensures.root
+pub returns-in_default-last : goal.returns-in_default-last
+returns-in_default-last c =
+    sought_nowhere c.args.self.now (get_or c.args.self.now c.args.scope []) c.args.seg c.rise-here.result c.facts.ensures.closed c.facts.ensures.ordered
+    (sought_risen c.args.self.now (get_or c.args.self.now c.args.scope []) c.args.seg c.loop-found.here c.rise-here.result c.loop-found.found c.facts.ensures.ordered c.loop-found.invariant.sought c.loop-found.invariant.last
+    c.loop-found-test.true c.rise-here.ensures) c.in_default-last.ensures
+
+pub loop-found-preserved-then-here-found : goal.loop-found-preserved-then-here-found
+loop-found-preserved-then-here-found c = record {
+  sought = sought_risen c.args.self.now (get_or c.args.self.now c.args.scope []) c.args.seg c.loop-found.here c.rise-here.result c.loop-found.found c.facts.ensures.ordered c.loop-found.invariant.sought c.loop-found.invariant.last
+      c.loop-found-test.true c.rise-here.ensures;
+  last = c.in-Some-last.ensures;
+}
+
+pub loop-found-preserved : goal.loop-found-preserved
+loop-found-preserved c = record {
+  sought = sought_risen c.args.self.now (get_or c.args.self.now c.args.scope []) c.args.seg c.loop-found.here c.rise-here.result c.loop-found.found c.facts.ensures.ordered c.loop-found.invariant.sought c.loop-found.invariant.last
+      c.loop-found-test.true c.rise-here.ensures;
+  last = last_on c.args.self.now c.args.seg c.loop-found.here c.rise-here.result c.loop-found.found c.loop-found.invariant.last c.rise-here.ensures.less (omega (arith, c.if-here-found.false));
+}
+
+pub returns : goal.returns
+returns c = sought_nearest c.args.self.now (get_or c.args.self.now c.args.scope []) c.args.seg c.loop-found.here c.loop-found.found c.loop-found.invariant.sought c.loop-found.invariant.last (omega (arith, c.loop-found-test.false))

@@ -1,6 +1,6 @@
 use Rattle.std.proofs.Common.{◌≡◌, ◌++◌, ◌∷◌, [], length}
 use Rattle.std.proofs.lemmas.Result.{IfOk-weaker}
-use Rattle.acpi_space.specs.Trees.{below, Reaches}
+use Rattle.acpi_space.specs.inner.Trees.{below, Reaches}
 use Rattle.acpi_space.proofs.Trees.{reached_added, reached_there}
 use Rattle.acpi_space.proofs.tree.Tree.step.Goals as goal
 

@@ -1,4 +1,4 @@
-use Rattle.pw_core.proofs.Starting.{opening_fits}
+use Rattle.pw_model.proofs.Opening.{opening_fits}
 use Rattle.pw_core.proofs.state.State.open.Goals as goal
 
 pub returns-clause-fits : goal.returns-clause-fits

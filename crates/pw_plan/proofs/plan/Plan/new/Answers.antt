@@ -1,6 +1,9 @@
 use Rattle.std.proofs.Common.{length, sym, ◌∙◌}
+use Rattle.pw_plan.specs.Domains.{AreDomains}
 use Rattle.pw_plan.specs.Planning.{IsPlanOf}
 use Rattle.pw_plan.proofs.Grouping.{are_groups}
+use Rattle.pw_plan.proofs.Listing.{are_domains}
+use Rattle.pw_plan.proofs.Orders.{orderly}
 use Rattle.pw_plan.proofs.Soundness.{is_sound, members_exist}
 use Rattle.pw_plan.proofs.plan.Plan.new.Goals as goal
 
@@ -11,23 +14,34 @@ groups_of-requires-clause-members c =
     let size = rw c.as_slice-2.ensures.value at c.as_slice-2.ensures.len in
     rw (c.as_slice-6.ensures, domains, c.len.ensures, ← size) (members_exist c.args.containers.items c.args.cpus.items within)
 
-planned : (c : goal.In_ok-cpus) → IsPlanOf c.in_ok-containers.containers c.in_ok-cpus.cpus c.in_ok-children.children c.in_ok-domains.domains c.in_ok-groups.groups
+domains_are : (c : goal.After-from_vec-cpus) → AreDomains c.args.cpus.items c.in_ok-domains.domains
+domains_are c =
+    let domains = rw c.as_slice-5.ensures.value at c.in_ok-domains.ensures in
+    rw domains (are_domains c.args.cpus.items c.requires.csd)
+
+planned : (c : goal.After-from_vec-cpus) → IsPlanOf c.from_vec-containers.result c.from_vec-cpus.result c.in_ok-children.children c.in_ok-domains.domains c.in_ok-groups.groups
 planned c =
     let within = rw (c.as_slice.ensures.value, c.as_slice-2.ensures.value) at (sym c.limit_passed.ensures ∙ c.in_default.is) in
     let size = rw c.as_slice-2.ensures.value at c.as_slice-2.ensures.len in
-    rw (c.in_ok-containers.ensures, c.in_ok-cpus.ensures) (record {
+    rw (c.from_vec-containers.ensures, c.from_vec-cpus.ensures) (record {
       fit = c.requires;
       within = within;
       children_are = rw (c.as_slice-3.ensures.value, c.as_slice-4.ensures.value) at c.in_ok-children.ensures;
-      domains_are = rw c.as_slice-5.ensures.value at c.in_ok-domains.ensures;
+      domains_are = domains_are c;
       groups_are = rw (c.as_slice-6.ensures, c.len.ensures, ← size) at c.in_ok-groups.ensures;
     })
 
 pub invariant_of-result : goal.invariant_of-result
 invariant_of-result c = record {
   planned = ∣ planned c ∣₁;
-  sound = is_sound c.in_ok-containers.containers c.in_ok-cpus.cpus c.in_ok-children.children c.in_ok-domains.domains c.in_ok-groups.groups (planned c);
+  orderly = orderly c.from_vec-containers.result c.from_vec-cpus.result c.in_ok-children.children c.in_ok-domains.domains c.in_ok-groups.groups (planned c);
+  sound = is_sound c.from_vec-containers.result c.from_vec-cpus.result c.in_ok-children.children c.in_ok-domains.domains c.in_ok-groups.groups (planned c);
 }
+
+pub returns-clause-domains : goal.returns-clause-domains
+returns-clause-domains c =
+    let domains = rw c.as_slice-5.ensures.value at c.in_ok-domains.ensures in
+    rw domains (are_domains c.args.cpus.items c.requires.csd)
 
 pub returns-clause-joined : goal.returns-clause-joined
 returns-clause-joined c =

@@ -1,0 +1,3 @@
+pub mod Trees
+pub mod Standing
+pub mod Naming

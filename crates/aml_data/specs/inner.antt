@@ -1,0 +1,4 @@
+pub mod Reading
+pub mod ReadingObjects
+pub mod Places
+pub mod Filling

@@ -1,0 +1,4 @@
+-- What only private contracts and proofs use.
+pub mod Changes
+pub mod Drawn
+pub mod Known

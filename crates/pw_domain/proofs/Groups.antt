@@ -1,0 +1,122 @@
+-- C states of a group's members, and those who are drawn along.
+use Rattle.std.proofs.Common.{◌≡◌, ◌<◌, ◌≤◌, ◌+◌, ◌==◌, ◌&&◌, ◌||◌, not, ℕ, suc, zero, Bool, true, false, cond, List, [], ◌∷◌, ◌++◌, map, length, get_or, drop, drop-cons, add-one, append_assoc, length-append, refl, ap, sym, ◌∙◌, arith, set, length-set, ◌⊎◌, ◌≢◌, inl, inr, get_or-set_same, get_or-set_other}
+use Rattle.std.specs.Prelude.{filter}
+use Rattle.std.proofs.lemmas.Bool.{cases_eq}
+use Rattle.std.proofs.lemmas.Bool.Decides.{nat_tests}
+use Rattle.acpi_values.specs.Idle.{rows_of}
+use Rattle.acpi_values.specs.declared.operation.Op.{Op}
+use Rattle.pw_plan.specs.declared.plan.Plan.{Plan}
+use Rattle.pw_plan.specs.Groups.{has_member}
+use Rattle.pw_plan.specs.Places.{cpu_at, group_at}
+use Rattle.acpi_values.specs.declared.idle.IdleKind.TheVariants.{Cst}
+use Rattle.pw_base.specs.Room.{Bounded}
+use Rattle.pw_model.specs.Operations.{own_entry}
+use Rattle.pw_model.proofs.Bounds.{own_entry-le}
+use Rattle.pw_model.proofs.Greatest.{greatest-le}
+use Rattle.pw_parts.specs.Effects.{c_state_by, drawn_by, enters_by, member_place, state_by}
+use Rattle.pw_parts.specs.Holding.{HoldsStates, member_in}
+use Rattle.pw_parts.proofs.Calls.{calls_serve}
+
+-- a member's C state is one of its table
+pub c_state_le : (P : Plan) (g : ℕ) (ss : List ℕ) (i : ℕ) → HoldsStates P g ss → i < length (group_at P g).members
+    → c_state_by P (group_at P g).members ss (get_or (group_at P g).members i 0) ≤ length (rows_of (cpu_at P (get_or (group_at P g).members i 0)).idle)
+c_state_le P g ss i h lt =
+    let ms = (group_at P g).members in
+    let q = get_or ms i 0 in
+    let at : member_place ms q ≡ i = (calls_serve P).grouped_place g i lt in
+    let voted : state_by ms ss q ≡ get_or ss i 0 = ap (λ k. get_or ss k 0) at in
+    let own = h.states i lt in
+    let le = greatest-le (enters_by P ms ss q) (state_by ms ss q) in
+    omega (arith, voted, own, le)
+
+-- # One more member of those that pass a test
+
+module _ (t : ℕ → Bool) (ms : List ℕ) (i : ℕ) (lt : i < length ms) where
+  passing : t (get_or ms i 0) ≡ true → filter t (drop i ms) ≡ get_or ms i 0 ∷ filter t (drop (i + 1) ms)
+  passing e = rw add-one (ap (filter t) (drop-cons ms i 0 lt) ∙ ap (λ b. cond b (get_or ms i 0 ∷ filter t (drop (suc i) ms)) (filter t (drop (suc i) ms))) e)
+
+  failing : t (get_or ms i 0) ≡ false → filter t (drop i ms) ≡ filter t (drop (i + 1) ms)
+  failing e = rw add-one (ap (filter t) (drop-cons ms i 0 lt) ∙ ap (λ b. cond b (get_or ms i 0 ∷ filter t (drop (suc i) ms)) (filter t (drop (suc i) ms))) e)
+
+  pub pushed : (f : ℕ → Op) (acc whole : List Op) (op : Op) → op ≡ f (get_or ms i 0) → t (get_or ms i 0) ≡ true → acc ++ map f (filter t (drop i ms)) ≡ whole → (acc ++ op ∷ []) ++ map f (filter t (drop (i + 1) ms)) ≡ whole
+  pushed f acc whole op is e h = rw (is, append_assoc) (ap (λ qs. acc ++ map f qs) (sym (passing e)) ∙ h)
+
+  pub passed : (f : ℕ → Op) (acc whole : List Op) → t (get_or ms i 0) ≡ false → acc ++ map f (filter t (drop i ms)) ≡ whole → acc ++ map f (filter t (drop (i + 1) ms)) ≡ whole
+  passed f acc whole e h = ap (λ qs. acc ++ map f qs) (sym (failing e)) ∙ h
+
+  pub room_pushed : (acc : List Op) (op : Op) (capacity : ℕ) → t (get_or ms i 0) ≡ true → length acc + length (filter t (drop i ms)) ≤ capacity → length (acc ++ op ∷ []) + length (filter t (drop (i + 1) ms)) ≤ capacity
+  room_pushed acc op capacity e h =
+      let more = length-append acc (op ∷ []) in
+      let count : length (filter t (drop i ms)) ≡ suc (length (filter t (drop (i + 1) ms))) = ap length (passing e) in
+      omega (arith, more, count, h)
+
+  pub room_for : (acc : List Op) (capacity : ℕ) → t (get_or ms i 0) ≡ true → length acc + length (filter t (drop i ms)) ≤ capacity → length acc < capacity
+  room_for acc capacity e h =
+      let count : length (filter t (drop i ms)) ≡ suc (length (filter t (drop (i + 1) ms))) = ap length (passing e) in
+      omega (arith, count, h)
+
+  pub room_passed : (acc : List Op) (capacity : ℕ) → t (get_or ms i 0) ≡ false → length acc + length (filter t (drop i ms)) ≤ capacity → length acc + length (filter t (drop (i + 1) ms)) ≤ capacity
+  room_passed acc capacity e h = let count : length (filter t (drop i ms)) ≡ length (filter t (drop (i + 1) ms)) = ap length (failing e) in omega (arith, count, h)
+
+-- # The others are fewer than all
+
+filter-le : (t : ℕ → Bool) (xs : List ℕ) → length (filter t xs) ≤ length xs
+filter-le t [] = omega arith
+filter-le t (x ∷ xs) = step (t x) (filter-le t xs)
+  where
+    step : (b : Bool) → length (filter t xs) ≤ length xs → length (cond b (x ∷ filter t xs) (filter t xs)) ≤ suc (length xs)
+    step true le = omega arith
+    step false le = omega arith
+
+member_there : (ms : List ℕ) (i : ℕ) → i < length ms → has_member ms (get_or ms i 0) ≡ true
+member_there [] i lt = absurd (omega arith)
+member_there (m ∷ ms) zero lt = let e : (m == m) ≡ true = grind (arith, nat_tests) in rw e refl
+member_there (m ∷ ms) (suc i) lt = step (m == get_or ms i 0) (member_there ms i (omega arith))
+  where
+    step : (b : Bool) → has_member ms (get_or ms i 0) ≡ true → (b || has_member ms (get_or ms i 0)) ≡ true
+    step true e = refl
+    step false e = e
+
+-- who is left out isn't counted
+pub others-lt : (t : ℕ → Bool) (p : ℕ) (ms : List ℕ) → has_member ms p ≡ true → length (filter (λ q. not (q == p) && t q) ms) < length ms
+others-lt t p [] e = cc
+others-lt t p (m ∷ ms) e = step (m == p) e (others-lt t p ms)
+  where
+    kept : (b : Bool) → length (filter (λ q. not (q == p) && t q) ms) < length ms → length (cond b (m ∷ filter (λ q. not (q == p) && t q) ms) (filter (λ q. not (q == p) && t q) ms)) < suc (length ms)
+    kept true lt = omega arith
+    kept false lt = omega arith
+
+    step : (b : Bool) → (b || has_member ms p) ≡ true → (has_member ms p ≡ true → length (filter (λ q. not (q == p) && t q) ms) < length ms)
+        → length (cond (not b && t m) (m ∷ filter (λ q. not (q == p) && t q) ms) (filter (λ q. not (q == p) && t q) ms)) < suc (length ms)
+    step true e later = let le = filter-le (λ q. not (q == p) && t q) ms in omega (arith, le)
+    step false e later = kept (t m) (later e)
+
+-- who stands among them is left out
+pub others_room : (P : Plan) (g : ℕ) (t : ℕ → Bool) (i : ℕ) → i < length (group_at P g).members
+    → length (filter (λ q. not (q == get_or (group_at P g).members i 0) && t q) (group_at P g).members) < length (group_at P g).members
+others_room P g t i lt = others-lt t (get_or (group_at P g).members i 0) (group_at P g).members (member_there (group_at P g).members i lt)
+
+pub states_set : (P : Plan) (g : ℕ) (ss : List ℕ) (k s : ℕ) → HoldsStates P g ss → k < length (group_at P g).members
+    → s ≤ length (rows_of (cpu_at P (member_in (group_at P g).members k)).idle) → HoldsStates P g (set ss k s)
+states_set P g ss k s h lt le = record {
+  members = length-set ss k s ∙ h.members;
+  states = λ j below. at j below (cases_eq j k);
+}
+  where
+    has : length ss ≡ length (group_at P g).members
+    has = h.members
+
+    at : (j : ℕ) → j < length (group_at P g).members → (j ≡ k) ⊎ (j ≢ k) → get_or (set ss k s) j 0 ≤ length (rows_of (cpu_at P (member_in (group_at P g).members j)).idle)
+    at j below (inl e) = rw (e, get_or-set_same ss k s 0 (omega arith)) le
+    at j below (inr ne) = rw (get_or-set_other ss k j s 0 ne) (h.states j below)
+
+-- after the requester's own entry there is room for those who are drawn along
+pub drawn_room : (P : Plan) (g : ℕ) (ss : List ℕ) (k s level : ℕ) (op : Op) (ops after : Bounded Op) (ms : List ℕ) → k < length (group_at P g).members
+    → length ops.elements + length (group_at P g).members ≤ ops.capacity → ms ≡ (group_at P g).members
+    → after ≡ record ops { elements = ops.elements ++ own_entry Cst level op }
+    → length after.elements + length (filter (λ q. not (q == get_or ms k 0) && drawn_by P (group_at P g).members ss (set ss k s) q) (group_at P g).members) ≤ after.capacity
+drawn_room P g ss k s level op ops after ms lt room are e =
+    let few = others_room P g (drawn_by P (group_at P g).members ss (set ss k s)) k lt in
+    let more = length-append ops.elements (own_entry Cst level op) in
+    let own = own_entry-le Cst level op in
+    rw (e, are) (omega (arith, few, more, own, room))

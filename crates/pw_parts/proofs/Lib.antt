@@ -1,0 +1,17 @@
+pub mod Sets
+pub mod Agree
+pub mod Lines
+pub mod Climbs
+pub mod Levels
+pub mod Doing
+pub mod Gathered
+pub mod Voting
+pub mod Central
+pub mod Wires
+pub mod Plans
+pub mod Ways
+pub mod Steps
+pub mod Calls
+pub mod Holding
+pub mod Routes
+pub mod Loops
