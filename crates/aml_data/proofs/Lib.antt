@@ -19,3 +19,4 @@ pub mod WrittenLayers
 pub mod WrittenLengths
 pub mod Causes
 pub mod Room
+pub mod SegOrder

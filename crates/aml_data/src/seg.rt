@@ -1,13 +1,17 @@
 ghost use Rattle.std.specs.Prelude.{◌≡◌, ◌+◌, ◌<◌, ◌≤◌, ◌↔◌, length, IsTrue, IfOk, MatchOption};
+ghost use Rattle.std.specs.Prelude.{Some, refl};
+ghost use Rattle.std.specs.Ordering.{nat_cmp};
+ghost use Rattle.std.specs.Cmp.Lexicographic.{nat_list_cmp_total, slice_cmp, texts_po, texts_ties};
 ghost use Rattle.aml_data.specs.Segment.{is_letter, is_word, IsSegment};
 ghost use Rattle.aml_data.specs.inner.Reading.{Tells, letter_at, segment_at};
 
 use crate::fault::DataFault;
+use std::cmp::Ordering;
 use std::marker::Model;
 
 /// One segment of a name, NameSeg: four characters, the first a capital letter or `_`, each other
 /// one of these or a digit (ACPI 6.5, 20.2.2). Contracts see the four bytes.
-#[derive(Clone, Copy, Debug, PartialEq, Eq, PartialOrd, Ord)]
+#[derive(Clone, Copy, Debug, PartialEq, Eq)]
 pub struct Seg([u8; 4]);
 
 impl Model for Seg {
@@ -27,6 +31,31 @@ impl Model for Seg {
     ghost inverse = { λ bytes. record { 0 = bytes } };
 }
 
+impl PartialOrd for Seg {
+    ghost partial_cmp = { λ x y. Some (slice_cmp nat_cmp x y) };
+
+    ghost laws = { texts_po };
+
+    fn partial_cmp(&self, other: &Seg) -> Option<Ordering> {
+        Some(self.cmp(other))
+    }
+}
+
+// By their bytes in order, which one comparison of numbers tells.
+impl Ord for Seg {
+    ghost cmp = { slice_cmp nat_cmp };
+
+    ghost total = { nat_list_cmp_total };
+
+    ghost matches_partial_cmp = { λ x y. refl };
+
+    ghost matches_eq = { texts_ties };
+
+    fn cmp(&self, other: &Seg) -> Ordering {
+        u32::from_be_bytes(self.0).cmp(&u32::from_be_bytes(other.0))
+    }
+}
+
 impl Seg {
     /// The segment of these four bytes, where they are one.
     pub fn new(bytes: [u8; 4]) -> Option<Seg>
@@ -40,8 +69,8 @@ impl Seg {
         }
     }
 
-    /// The segment of four bytes that are one.
-    pub(crate) fn of_segment(bytes: [u8; 4]) -> Seg
+    /// The segment of four bytes that are one, as the name of an object that the standard gives.
+    pub fn of_segment(bytes: [u8; 4]) -> Seg
         requires { IsSegment bytes }
         ensures { result ≡ bytes }
     {
