@@ -16,3 +16,5 @@ pub mod Orders
 pub mod Ordered
 pub mod OneDomains
 pub mod Listing
+pub mod EntryTables
+pub mod Repeats

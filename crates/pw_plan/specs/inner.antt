@@ -1,3 +1,4 @@
 -- What only proofs use.
 pub mod Once
 pub mod DomainList
+pub mod EntryTables

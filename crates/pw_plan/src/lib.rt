@@ -13,6 +13,7 @@ mod parts;
 mod parts_check;
 mod plan;
 mod request;
+mod tables;
 mod tree;
 
 pub use bounds::covers;

@@ -1,4 +1,6 @@
-ghost use Rattle.std.specs.Prelude.{◌≡◌, ◌↔◌, ◌<◌, ◌≢◌, ℕ, Some, length, true, IsTrue};
+ghost use Rattle.std.specs.Prelude.{◌≡◌, ◌↔◌, ◌<◌, ◌≢◌, ℕ, Some, length, true, false, IsTrue, if◌then◌else◌};
+ghost use Rattle.pw_plan.specs.inner.DomainList.{is_before};
+ghost use Rattle.pw_plan.specs.inner.EntryTables.{name_from};
 ghost use Rattle.std.specs.List.{list_any};
 ghost use Rattle.acpi_values.specs.declared.idle.IdleKind.TheVariants.{Cst};
 ghost use Rattle.pw_plan.specs.Parts.{FitsCsd, ParentsFall, PartsFit, container_in};
@@ -104,19 +106,64 @@ fn is_state(cpu: &CpuParts, entry: CDependency) -> bool
         && (entry.index as usize) < cpu.idle.rows.as_slice().len()
 }
 
+/// What an entry of `_CSD` is about.
+fn name_from(entry: CDependency) -> DomainName
+    ensures { result ≡ name_from entry }
+{
+    DomainName {
+        number: entry.domain,
+        index: entry.index,
+    }
+}
+
+/// Whether a name comes before another.
+fn is_before(one: DomainName, other: DomainName) -> bool
+    ensures { result ≡ is_before one other }
+{
+    one.number < other.number || (one.number == other.number && one.index < other.index)
+}
+
+/// Whether an entry of `_CSD` repeats none before it. None of those comes after `greatest`: an entry
+/// that does is new, and no other need be looked at.
+fn is_new(csd: &[CDependency], number: usize, greatest: DomainName) -> bool
+    requires number { number < length csd.now }
+    requires greatest { (k : ℕ) → k < number
+        → is_before greatest (name_from (entry_in csd.now k)) ≡ false }
+    ensures { IsTrue result ↔ ((j : ℕ) → j < number
+        → is_entry (entry_in csd.now j).domain (entry_in csd.now j).index (entry_in csd.now number) ≡ false) }
+{
+    let entry = entry_in(csd, number);
+    if is_before(greatest, name_from(entry)) {
+        return true;
+    }
+    !is_repeated(entry, &csd[..number])
+}
+
+/// The later of two names.
+fn later(one: DomainName, other: DomainName) -> DomainName
+    ensures { result ≡ (if is_before one other then other else one) }
+{
+    if is_before(one, other) { other } else { one }
+}
+
 /// Whether the entries of `_CSD` are about states that the processor has, and no two about the same.
 fn fits_csd(cpu: &CpuParts) -> bool
     ensures { IsTrue result ↔ FitsCsd cpu.now }
 {
     let csd = cpu.csd.as_slice();
+    let mut greatest = DomainName {
+        number: 0,
+        index: 0,
+    };
     for number in 0..csd.len() {
         let entry = entry_in(csd, number);
         if !is_state(cpu, entry) {
             return false;
         }
-        if is_repeated(entry, &csd[number + 1..]) {
+        if !is_new(csd, number, greatest) {
             return false;
         }
+        greatest = later(greatest, name_from(entry));
     }
     true
 }
