@@ -8,10 +8,10 @@ KeepsSink-then p q = record {
   count = let x = p.count in let y = q.count in omega arith;
 }
 
-pub KeepsFiles-then : {S : Type 0} {told : S → Bool} {holds : S → List ℕ → Option (List ℕ)} {faults : S → ℕ} {a b c : S} → KeepsFiles told holds faults a b
+pub KeepsFiles-then : {S : Type 0} {told : S → Bool} {holds : S → List ℕ → Option (List ℕ)} {faults : S → List ℕ → ℕ} {a b c : S} → KeepsFiles told holds faults a b
     → KeepsFiles told holds faults b c → KeepsFiles told holds faults a c
 KeepsFiles-then p q = record {
   same_told = q.same_told ∙ p.same_told;
   same_content = λ name. q.same_content name ∙ p.same_content name;
-  count = let x = p.count in let y = q.count in omega arith;
+  count = λ name. let x = p.count name in let y = q.count name in omega arith;
 }

@@ -1,4 +1,5 @@
 pub mod Answers
+pub mod Counting
 pub mod Keeping
 pub mod ThinBlocks
 pub mod ThinCrosses

@@ -1,22 +1,23 @@
 -- Files and sinks in memory, as contracts see them.
-use Rattle.std.specs.Prelude.{◌+◌, ◌-◌, ◌==◌, ◌&&◌, ◌||◌, ◌≢◌, ℕ, Bool, true, List, [], ◌∷◌, Option, None, Some, String, Vec}
-use Rattle.std.specs.Prelude.{map, min, length, nat_lt, nat_le, is_none, AllPairs, if◌then◌else◌, string_bytes}
-use Rattle.std.specs.declared.alloc.Global.{Global}
+use Rattle.std.specs.Prelude.{◌+◌, ◌-◌, ◌==◌, ◌&&◌, ◌||◌, ◌≢◌, ℕ, Bool, true, List, [], ◌∷◌, Option, None, Some}
+use Rattle.std.specs.Prelude.{min, length, nat_lt, nat_le, is_none, AllPairs, if◌then◌else◌}
 use Rattle.std.specs.List.{list_any}
 use Rattle.std.specs.Str.{bytes_eq}
 
--- One file: its name and its bytes.
-abbrev pub NamedFile : Type 0
-NamedFile = List ℕ × List ℕ
+-- One file: its name and its bytes, and how many reads of it failed.
+pub record FileHeld : Type 0 where
+  pub name : List ℕ
+  pub bytes : List ℕ
+  pub faults : ℕ
 
--- Files in memory: which calls of read fail, counted from 1; the most bytes of one read; and how many
--- calls and failures there were.
+-- Files in memory: which calls of read fail, counted from 1; the most bytes of one read; how many calls there were; and
+-- how many reads failed because of a name that no file has.
 pub record FilesHeld : Type 0 where
-  pub files : List NamedFile
+  pub files : List FileHeld
   pub fails : List ℕ
   pub piece : ℕ
   pub calls : ℕ
-  pub faults : ℕ
+  pub absent : ℕ
 
 -- A sink in memory: the bytes taken and how many it can take; which calls of write fail, counted from 1;
 -- the most bytes of one write; and how many calls and failures there were.
@@ -37,13 +38,23 @@ abbrev pub is_listed : List ℕ → ℕ → Bool
 is_listed fails call = list_any (λ n. n == call) fails
 
 -- No two files have one name.
-abbrev pub NamesDiffer : List NamedFile → Type 0
-NamesDiffer files = AllPairs (λ a b. a.0 ≢ b.0) files
+abbrev pub NamesDiffer : List FileHeld → Type 0
+NamesDiffer files = AllPairs (λ a b. a.name ≢ b.name) files
 
 -- The content of the file of a name, if there is one.
-abbrev pub content_of : List ℕ → List NamedFile → Option (List ℕ)
+abbrev pub content_of : List ℕ → List FileHeld → Option (List ℕ)
 content_of name [] = None
-content_of name (file ∷ files) = if bytes_eq file.0 name then Some file.1 else content_of name files
+content_of name (file ∷ files) = if bytes_eq file.name name then Some file.bytes else content_of name files
+
+-- How many reads of a name failed: of its file, or where there is none, of all names that no file has.
+abbrev pub count_of : List ℕ → ℕ → List FileHeld → ℕ
+count_of name absent [] = absent
+count_of name absent (file ∷ files) = if bytes_eq file.name name then file.faults else count_of name absent files
+
+-- The files after a read of a name failed: the count of its file alone is one more.
+abbrev pub counted : List ℕ → List FileHeld → List FileHeld
+counted name [] = []
+counted name (file ∷ files) = if bytes_eq file.name name then record file { faults = next_count file.faults } ∷ files else file ∷ counted name files
 
 -- Files in memory tell what they hold.
 abbrev pub tells : FilesHeld → Bool
@@ -53,9 +64,9 @@ tells _ = true
 abbrev pub holds_in : FilesHeld → List ℕ → Option (List ℕ)
 holds_in s name = content_of name s.files
 
--- How many reads failed.
-abbrev pub faults_of : FilesHeld → ℕ
-faults_of s = s.faults
+-- How many reads of a name failed.
+abbrev pub faults_of : FilesHeld → List ℕ → ℕ
+faults_of s name = count_of name s.absent s.files
 
 -- The next read of a file fails: its call is listed, or there is no file of this name.
 abbrev pub read_fails : FilesHeld → List ℕ → Bool
@@ -84,7 +95,3 @@ write_fails s bytes = is_listed s.fails (next_count s.calls) || (nat_lt 0 (lengt
 -- How many bytes the next write takes.
 abbrev pub write_count : SinkHeld → List ℕ → ℕ
 write_count s bytes = min (min s.piece (length bytes)) (s.room - length s.written)
-
--- Names and contents of files as a program holds them.
-abbrev pub files_of : List (String Global × Vec ℕ Global) → List NamedFile
-files_of files = map (λ f. (string_bytes f.0, f.1.items)) files

@@ -5,11 +5,11 @@ use Rattle.std.specs.Prelude.{◌≡◌, ◌<◌, ◌≤◌, ℕ, Bool, List, �
 abbrev pub Rose : ℕ → ℕ → Type 0
 Rose old new = new < 18446744073709551615 → old < new
 
--- What no call of files changes: whether they tell, and what each name holds; and a count never falls.
-pub record KeepsFiles {S : Type 0} (told : S → Bool) (holds : S → List ℕ → Option (List ℕ)) (faults : S → ℕ) (old new : S) : Type 0 where
+-- What no call of files changes: whether they tell, and what each name holds; and no name's count falls.
+pub record KeepsFiles {S : Type 0} (told : S → Bool) (holds : S → List ℕ → Option (List ℕ)) (faults : S → List ℕ → ℕ) (old new : S) : Type 0 where
   pub same_told : told new ≡ told old
   pub same_content : (name : List ℕ) → holds new name ≡ holds old name
-  pub count : faults old ≤ faults new
+  pub count : (name : List ℕ) → faults old name ≤ faults new name
 
 -- What no call of a sink changes: whether it tells; and a count never falls.
 pub record KeepsSink {S : Type 0} (told : S → Bool) (faults : S → ℕ) (old new : S) : Type 0 where

@@ -5,11 +5,11 @@ use Rattle.pw_base.specs.declared.files.Files.{Ghosts as Files}
 use Rattle.pw_base.specs.declared.sink.Sink.{Ghosts as Sink}
 use Rattle.pw_base.specs.Outside.{Rose, GrewByPart}
 
--- files at one moment: whether they tell, what each name holds, and how often they failed
+-- files at one moment: whether they tell, what each name holds, and how often reads of it failed
 pub record FilesSeen : Type 0 where
   pub told : Bool
   pub holds : List ℕ → Option (List ℕ)
-  pub faults : ℕ
+  pub faults : List ℕ → ℕ
 
 -- a sink at one moment: whether it tells, what it took, and how often it failed
 pub record SinkSeen : Type 0 where

@@ -9,7 +9,7 @@ pub trait Files {
 
     ghost holds: { Self → List ℕ → Option (List ℕ) };
 
-    ghost faults: { Self → ℕ };
+    ghost faults: { Self → List ℕ → ℕ };
 
     /// Reads bytes of a file from a place on, as many as come, at most as many as `buf` has.
     /// `Ok(0)` for a `buf` with room is the end. A file that isn't there is a failure.
@@ -19,5 +19,6 @@ pub trait Files {
         // What a told file gives is what its name holds.
         ensures content { IfOk result (λ n. told self.old ≡ true →
             IsSomeAnd (holds self.old name.now) (λ content. IsRead content at n buf.new)) }
-        ensures failed { OnErr result (Rose (faults self.old) (faults self.new)) };
+        // A failure is counted at the name that was read.
+        ensures failed { OnErr result (Rose (faults self.old name.now) (faults self.new name.now)) };
 }

@@ -21,7 +21,7 @@ pub use failure::{Failed, Memory};
 pub use files::Files;
 pub use gate::{Gate, OpenGate};
 pub use list::List;
-pub use memory_files::MemoryFiles;
+pub use memory_files::{MemoryFile, MemoryFiles};
 pub use memory_sink::MemorySink;
 pub use room::Room;
 pub use sink::{Sink, put_all};

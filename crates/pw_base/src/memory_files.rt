@@ -1,53 +1,88 @@
-ghost use Rattle.std.specs.Prelude.{◌≡◌, ◌≤◌, true, length, take, drop, is_ok, is_err};
-ghost use Rattle.std.specs.Prelude.{IfOk, OnErr, IsSomeAnd, if◌then◌else◌};
+ghost use Rattle.std.specs.Prelude.{◌≡◌, ◌≢◌, ◌<◌, ◌≤◌, ◌||◌, ◌^◌, ℕ, List, true, length, take, drop, is_ok, is_err, is_some};
+ghost use Rattle.std.specs.Prelude.{IfOk, OnErr, IsSome, IsSomeAnd, if◌then◌else◌};
+ghost use Rattle.std.specs.String.{string_bytes};
 ghost use Rattle.std.specs.Option.{option_copied};
 ghost use Rattle.pw_base.specs.Outside.{Rose, KeepsFiles, IsRead};
-ghost use Rattle.pw_base.specs.InMemory.{NamesDiffer, content_of, files_of, is_listed, next_count};
+ghost use Rattle.pw_base.specs.InMemory.{NamesDiffer, content_of, count_of, counted, is_listed, next_count};
 ghost use Rattle.pw_base.specs.InMemory.{faults_of, holds_in, read_count, read_fails, tells};
 
 use crate::failure::Failed;
 use crate::files::Files;
 use std::marker::Model;
 
+/// One file in memory, and how many reads of it failed.
+#[derive(Drop)]
+pub struct MemoryFile {
+    name: String,
+    bytes: Vec<u8>,
+    faults: u64,
+}
+
+impl Model for MemoryFile {
+    ghost use Rattle.std.specs.Prelude.{◌<◌, ◌^◌};
+    ghost use Rattle.std.specs.String.{string_bytes};
+    ghost use Rattle.pw_base.specs.InMemory.{FileHeld};
+
+    ghost Value = { FileHeld };
+
+    ghost view = { λ f. record { name = string_bytes f.name; bytes = f.bytes.items; faults = f.faults } };
+
+    ghost invariant = { λ f. f.faults < 2 ^ 64 };
+}
+
+impl MemoryFile {
+    /// A file of this name and these bytes, of which no read failed yet.
+    pub fn new(name: String, bytes: Vec<u8>) -> MemoryFile
+        ensures { result ≡ record { name = string_bytes name; bytes = bytes.items; faults = 0 } }
+    {
+        MemoryFile {
+            name,
+            bytes,
+            faults: 0,
+        }
+    }
+}
+
 /// Files in memory that tell all that they hold. A read gives at most `piece` bytes, and fails at the
-/// calls that the caller listed, counted from 1, and where there is no file of the name.
+/// calls that the caller listed, counted from 1, and where there is no file of the name. Failures are
+/// counted for each file, and together for names that no file has.
 #[derive(Drop)]
 pub struct MemoryFiles {
-    files: Vec<(String, Vec<u8>)>,
+    files: Vec<MemoryFile>,
     fails: Vec<u32>,
     piece: u32,
     calls: u64,
-    faults: u64,
+    absent: u64,
 }
 
 impl Model for MemoryFiles {
     ghost use Rattle.std.specs.Prelude.{◌≤◌};
-    ghost use Rattle.pw_base.specs.InMemory.{FilesHeld, files_of};
+    ghost use Rattle.pw_base.specs.InMemory.{FilesHeld};
 
     ghost Value = { FilesHeld };
 
     ghost view = { λ m. record {
-      files = files_of m.files.items;
+      files = m.files.items;
       fails = m.fails.items;
       piece = m.piece;
       calls = m.calls;
-      faults = m.faults;
+      absent = m.absent;
     } };
 
     ghost invariant = { λ m. 1 ≤ m.piece };
 }
 
 impl MemoryFiles {
-    /// Files of these names and contents, of which no call was made yet.
-    pub fn new(files: Vec<(String, Vec<u8>)>, fails: Vec<u32>, piece: u32) -> MemoryFiles
-        requires names { NamesDiffer (files_of files.items) }
+    /// These files, of which no call was made yet.
+    pub fn new(files: Vec<MemoryFile>, fails: Vec<u32>, piece: u32) -> MemoryFiles
+        requires names { NamesDiffer files.items }
         requires piece { 1 ≤ piece }
         ensures { result ≡ record {
-          files = files_of files.items;
+          files = files.items;
           fails = fails.items;
           piece = piece;
           calls = 0;
-          faults = 0;
+          absent = 0;
         } }
     {
         MemoryFiles {
@@ -55,7 +90,7 @@ impl MemoryFiles {
             fails,
             piece,
             calls: 0,
-            faults: 0,
+            absent: 0,
         }
     }
 }
@@ -72,14 +107,19 @@ impl Files for MemoryFiles {
         ensures within { IfOk result (λ n. n ≤ length buf.old) }
         ensures content { IfOk result (λ n. tells self.old ≡ true →
             IsSomeAnd (holds_in self.old name.now) (λ content. IsRead content at n buf.new)) }
-        ensures failed { OnErr result (Rose (faults_of self.old) (faults_of self.new)) }
+        ensures failed { OnErr result (Rose (faults_of self.old name.now) (faults_of self.new name.now)) }
         ensures exact_failure { is_err result ≡ read_fails self.old name.now }
         ensures exact_count { IfOk result (λ n. IsSomeAnd (holds_in self.old name.now)
             (λ content. n ≡ read_count self.old.piece content at buf.old)) }
         ensures state { self.new ≡ record self.old {
+          files = if is_ok result then self.old.files else counted name.now self.old.files;
           calls = next_count self.old.calls;
-          faults = if is_ok result then self.old.faults else next_count self.old.faults;
+          absent = if is_ok result || is_some (holds_in self.old name.now) then self.old.absent
+              else next_count self.old.absent;
         } }
+        // The count of no other file changes.
+        ensures others { (other : List ℕ) → other ≢ name.now → IsSome (holds_in self.old other) →
+            faults_of self.new other ≡ faults_of self.old other }
     {
         self.calls = self.calls.saturating_add(1);
         let found = if is_listed(self.fails.as_slice(), self.calls) {
@@ -90,22 +130,39 @@ impl Files for MemoryFiles {
         match found {
             Some(content) => Ok(copy_from(content, at, self.piece, buf)),
             None => {
-                self.faults = self.faults.saturating_add(1);
+                if !count_fault(self.files.as_mut_slice(), name) {
+                    self.absent = self.absent.saturating_add(1);
+                }
                 Err(Failed)
             }
         }
     }
 }
 
-fn find_content<'a>(files: &'a [(String, Vec<u8>)], name: &str) -> Option<&'a [u8]>
-    ensures { option_copied result ≡ content_of name.now (files_of files.now) }
+fn find_content<'a>(files: &'a [MemoryFile], name: &str) -> Option<&'a [u8]>
+    ensures { option_copied result ≡ content_of name.now files.now }
 {
     for file in files {
-        if file.0.as_str() == name {
-            return Some(file.1.as_slice());
+        if file.name.as_str() == name {
+            return Some(file.bytes.as_slice());
         }
     }
     None
+}
+
+/// Counts a failure at the file of a name, and says whether there is one.
+fn count_fault(files: &mut [MemoryFile], name: &str) -> bool
+    ensures counted { files.new ≡ counted name.now files.old }
+    ensures found { result ≡ is_some (content_of name.now files.old) }
+    ensures bound { result ≡ true → count_of name.now 0 files.old < 2 ^ 64 }
+{
+    for file in files {
+        if file.name.as_str() == name {
+            file.faults = file.faults.saturating_add(1);
+            return true;
+        }
+    }
+    false
 }
 
 /// Whether a call's number is listed.

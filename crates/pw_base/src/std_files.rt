@@ -17,7 +17,8 @@ struct Opened<F> {
 
 /// The files of the system. It tells nothing of what they hold. It keeps the file that it opened last,
 /// so that one that is read from its start to its end is opened once and need not seek, as a pipe
-/// can't. A read at place 0 opens the file anew. Contracts see its count of failures.
+/// can't. A read at place 0 opens the file anew. Contracts see its count of failures, which is one for all
+/// names: to count by name would take memory, which may be what a read failed for.
 #[derive(Drop)]
 pub struct StdFiles<R: rt::Files> {
     system: R,
@@ -53,7 +54,7 @@ impl<R: rt::Files> Files for StdFiles<R> {
 
     ghost holds = { λ _ _. None };
 
-    ghost faults = { λ count. count };
+    ghost faults = { λ count _. count };
 
     fn read(&mut self, name: &str, at: u64, buf: &mut [u8]) -> Result<usize, Failed> {
         let last = self.opened.take();

@@ -1,4 +1,4 @@
-use Rattle.std.proofs.Common.{◌≡◌, ◌-◌, ◌≤◌, ◌+◌, length}
+use Rattle.std.proofs.Common.{◌≡◌, ◌-◌, ◌≤◌}
 use lib.ListN.{take}
 use Rattle.std.specs.Prelude.{vec_capacity}
 use Rattle.core.specs.Mem.Slots.{slots_items, slots_len, slots_filled, SamePlaces}
