@@ -66,7 +66,7 @@ fn read_more<F: Files>(
     ensures within { IfOk result (λ n. filled + n ≤ length buffer.old) }
     ensures content { IfOk result (λ n. IsHeldAnd (F.told files.old) (F.holds files.old name.now) (λ content.
         Continues content filled n buffer.old buffer.new)) }
-    ensures failed { OnErr result (Rose (F.faults files.old) (F.faults files.new)) }
+    ensures failed { OnErr result (Rose (F.faults files.old name.now) (F.faults files.new name.now)) }
 {
     let read = files.read(name, filled as u64, &mut buffer[filled..]);
     read
@@ -87,9 +87,9 @@ pub fn read_all<F: Files>(
     // What is told is the beginning of what the name holds.
     ensures content { IfOk result (λ v. IsHeldAnd (F.told files.old) (F.holds files.old name.now) (λ content.
         v.items ≡ take limit content)) }
-    // It is a read fault only where the files had one.
+    // It is a read fault only where a read of this name failed.
     ensures failed { IfErr result (λ f. f ≡ FileFault.ReadFault →
-        Rose (F.faults files.old) (F.faults files.new)) }
+        Rose (F.faults files.old name.now) (F.faults files.new name.now)) }
 {
     let mut buffer = Vec::new(alloc);
     let mut filled = 0;

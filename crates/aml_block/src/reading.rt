@@ -19,9 +19,9 @@ use std::alloc::Global;
 /// The block that a file holds. At most 4,194,305 bytes are read: one more than a block may have.
 pub fn read<F: Files>(alloc: Global, files: &mut F, name: &str) -> Result<Block, BlockFault>
     ensures keeps { KeepsFiles F.told F.holds F.faults files.old files.new }
-    // It is a read fault only where the files had one.
+    // It is a read fault only where a read of this name failed.
     ensures failed { IfErr result (λ f. f ≡ BlockFault.ReadFault →
-        Rose (F.faults files.old) (F.faults files.new)) }
+        Rose (F.faults files.old name.now) (F.faults files.new name.now)) }
     // What is read is spelled by what the name holds.
     ensures found { IfOk result (λ b.
         IsHeldAnd (F.told files.old) (F.holds files.old name.now) (BlockSpells b)) }

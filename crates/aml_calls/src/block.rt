@@ -32,7 +32,7 @@ impl Files for Pieces {
 
     ghost holds = { λ _ _. None };
 
-    ghost faults = { λ s. s.faults };
+    ghost faults = { λ s _. s.faults };
 
     fn read(&mut self, _name: &str, at: u64, buf: &mut [u8]) -> Result<usize, Failed> {
         self.calls = self.calls.saturating_add(1);

@@ -4,7 +4,7 @@ use Rattle.aml_block.proofs.Held.{held_found, held_fault, held_only, held_refuse
 use Rattle.aml_block.proofs.reading.read.Goals as goal
 
 pub returns-clause-failed : goal.returns-clause-failed
-returns-clause-failed g c = never_read c.parse.result (Rose (g.F.Files.faults c.args.files.now) (g.F.Files.faults c.read_all.new.files)) c.parse.ensures.no_file
+returns-clause-failed g c = never_read c.parse.result (Rose (g.F.Files.faults c.args.files.now c.args.name.now) (g.F.Files.faults c.read_all.new.files c.args.name.now)) c.parse.ensures.no_file
 
 pub returns-clause-found : goal.returns-clause-found
 returns-clause-found g c =
