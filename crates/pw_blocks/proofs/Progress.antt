@@ -7,6 +7,7 @@ use Rattle.std.specs.declared.alloc.Global.{Global}
 use Rattle.std.proofs.lemmas.List.{append-nil, length-append, drop_more, take_at}
 use Rattle.std.proofs.lemmas.List.Elements.{All-append}
 use Rattle.std.proofs.Math.ListN.{drop_of_length-le}
+use Rattle.std.proofs.Math.Seq.{get_or-append_seam}
 use Rattle.pw_base.specs.Outside.{KeepsFiles, Rose}
 use Rattle.aml_block.specs.declared.block.Block.{Block}
 use Rattle.aml_block.specs.declared.fault.BlockFault.{BlockFault}
@@ -15,7 +16,7 @@ use Rattle.aml_block.specs.Written.{IsWritableBlock}
 use Rattle.pw_blocks.specs.declared.fault.BlocksFault.{BlocksFault}
 use Rattle.pw_blocks.specs.declared.fault.BlocksFault.TheVariants.{Large}
 use Rattle.pw_blocks.specs.Causes.{numbered}
-use Rattle.pw_blocks.specs.Held.{IsBlock, HasFault, AreBlocks, no_block, one_block, IsFirstFault, in_this, too_large, behind_this, HoldBlocks, FailFirst, HoldBefore, IsCauseOf, IsOwn, RoseIfUnread}
+use Rattle.pw_blocks.specs.Held.{IsBlock, HasFault, AreBlocks, no_block, one_block, IsFirstFault, in_this, too_large, behind_this, HoldBlocks, FailFirst, HoldBefore, IsCauseOf, name_at, RoseIfUnread}
 
 -- These blocks were read, of so many bytes, and these names are left: what stands under these stands behind those.
 pub record SoFar (holds : List ℕ → Option (List ℕ)) (Told : Type 0) (names rest : List (List ℕ)) (done : List Block) (total : ℕ) : Type 0 where
@@ -87,23 +88,28 @@ is_fault k name (header why) so here has = λ t. so.fault t _ (rw here (in_this 
 is_fault k name (data_fault why) so here has = λ t. so.fault t _ (rw here (in_this (has (λ e. cc) (λ e. cc) t)))
 is_fault k name (BadTerm at opcode) so here has = λ t. so.fault t _ (rw here (in_this (has (λ e. cc) (λ e. cc) t)))
 
--- it is a read fault only where the block's is
-pub is_unread : (k : ℕ) (f : BlockFault) (old new : ℕ) → (f ≡ unread → Rose old new) → RoseIfUnread (numbered k f) old new
-is_unread k unread old new rose = rose refl
-is_unread k no_memory old new rose = tt
-is_unread k (header why) old new rose = tt
-is_unread k (data_fault why) old new rose = tt
-is_unread k (BadTerm at opcode) old new rose = tt
-
-pub is_own : (k : ℕ) (f : BlockFault) → IsOwn (numbered k f)
-is_own k unread = tt
-is_own k no_memory = tt
-is_own k (header why) = tt
-is_own k (data_fault why) = tt
-is_own k (BadTerm at opcode) = tt
+-- it is a read fault only where a read of the next file failed
+pub is_unread : {holds : List ℕ → Option (List ℕ)} {Told : Type 0} {names rest : List (List ℕ)} {done : List Block} {total : ℕ} (k : ℕ) (name : List ℕ) (f : BlockFault)
+    (old mid new : List ℕ → ℕ) → SoFar holds Told names (name ∷ rest) done total → k ≡ length done → old name ≤ mid name
+    → (f ≡ unread → Rose (mid name) (new name)) → RoseIfUnread names (numbered (k + 1) f) old new
+is_unread {names = names} {rest = rest} k name unread old mid new so here kept rose =
+    let whole = ap length so.parts ∙ length-append so.front (name ∷ rest) in
+    let count = so.count in
+    let place : (k + 1) - 1 ≡ length so.front = omega arith in
+    let this : name_at names (k + 1) ≡ name = ap (λ l. get_or l ((k + 1) - 1) []) so.parts ∙ ap (λ i. get_or (so.front ++ name ∷ rest) i []) place
+    ∙ get_or-append_seam so.front name rest [] in
+    record {
+      some = omega arith;
+      within = omega (arith, whole);
+      rose = rw this (λ below. (let more = rose refl below in omega (arith, kept, more)));
+    }
+is_unread k name no_memory old mid new so here kept rose = tt
+is_unread k name (header why) old mid new so here kept rose = tt
+is_unread k name (data_fault why) old mid new so here kept rose = tt
+is_unread k name (BadTerm at opcode) old mid new so here kept rose = tt
 
 -- what one read says, where the files hold what they held before
-pub held_before : {S : Type 0} (told : S → Bool) (holds : S → List ℕ → Option (List ℕ)) (faults : S → ℕ) (a b : S) (name : List ℕ) (P : Option (List ℕ) → Type 0)
+pub held_before : {S : Type 0} (told : S → Bool) (holds : S → List ℕ → Option (List ℕ)) (faults : S → List ℕ → ℕ) (a b : S) (name : List ℕ) (P : Option (List ℕ) → Type 0)
     → KeepsFiles told holds faults a b → (told b ≡ true → P (holds b name)) → told a ≡ true → P (holds a name)
 held_before told holds faults a b name P keeps known = λ t. subst P (keeps.same_content name) (known (keeps.same_told ∙ t))
 

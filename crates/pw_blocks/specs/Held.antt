@@ -61,10 +61,14 @@ pub record HoldBefore (holds : List ℕ → Option (List ℕ)) (names : List (Li
   pub blocks : List Block
   pub held : HoldBlocks holds (take (number - 1) names) blocks
 
+-- the name of this number, from 1
+abbrev pub name_at : List (List ℕ) → ℕ → List ℕ
+name_at names number = get_or names (number - 1) []
+
 -- Nothing is held under the name of this number, and the files before it hold blocks.
 pub record IsAbsent (holds : List ℕ → Option (List ℕ)) (names : List (List ℕ)) (number : ℕ) : Type 0 where
   pub before : HoldBefore holds names number
-  pub absent : holds (get_or names (number - 1) []) ≡ None
+  pub absent : holds (name_at names number) ≡ None
 
 -- what is held consists of bytes
 abbrev pub HoldBytes : (List ℕ → Option (List ℕ)) → Type 0
@@ -78,10 +82,16 @@ IsCauseOf holds names Large = FailFirst holds names Large
 IsCauseOf holds names (ReadFault number) = HoldBefore holds names number
 IsCauseOf holds names Memory = Unit {0}
 
--- a file couldn't be read only where the count of faults rose
-abbrev pub RoseIfUnread : BlocksFault → ℕ → ℕ → Type 0
-RoseIfUnread (ReadFault number) old new = Rose old new
-RoseIfUnread fault old new = Unit {0}
+-- The file of this number, from 1, is one of them, and it is one of which a read failed: the count of its name rose.
+pub record IsUnread (names : List (List ℕ)) (number : ℕ) (old new : List ℕ → ℕ) : Type 0 where
+  pub some : 1 ≤ number
+  pub within : number ≤ length names
+  pub rose : Rose (old (name_at names number)) (new (name_at names number))
+
+-- a file couldn't be read only where a read of this very file failed
+abbrev pub RoseIfUnread : List (List ℕ) → BlocksFault → (List ℕ → ℕ) → (List ℕ → ℕ) → Type 0
+RoseIfUnread names (ReadFault number) old new = IsUnread names number old new
+RoseIfUnread names fault old new = Unit {0}
 
 -- a block is refused for what its bytes are
 abbrev pub IsOfBytes : BlockFault → Type 0

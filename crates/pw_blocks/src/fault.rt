@@ -13,8 +13,8 @@ pub enum BlocksFault {
     Block { number: usize, fault: BlockFault },
     /// The blocks that were read so far have more than 16,777,216 bytes.
     Large,
-    /// The file of this number, counted from 1, couldn't be read. The files before it hold blocks of at
-    /// most 16,777,216 bytes.
+    /// A read of the file of this number, counted from 1, failed. The files before it hold blocks of at most
+    /// 16,777,216 bytes.
     ReadFault { number: usize },
     /// Want of memory.
     Memory,

@@ -20,11 +20,11 @@ fn read_counted<F: Files>(
 ) -> Result<(Block, usize), BlockFault>
     ensures keeps { KeepsFiles F.told F.holds F.faults files.old files.new }
     ensures failed { IfErr result (λ f. f ≡ BlockFault.ReadFault →
-        Rose (F.faults files.old) (F.faults files.new)) }
+        Rose (F.faults files.old name.now) (F.faults files.new name.now)) }
     ensures found { IfOk result (λ b. F.told files.old ≡ true →
         IsBlock (F.holds files.old name.now) b.0 b.1) }
     ensures writable { IfOk result (λ b. IsWritableBlock b.0) }
-    ensures small { IfOk result (λ b. b.1 ≤ 4194305) }
+    ensures small { IfOk result (λ b. b.1 ≤ LARGEST + 1) }
     ensures fault { IfErr result (λ f. f ≢ BlockFault.Memory → f ≢ BlockFault.ReadFault →
         F.told files.old ≡ true → HasFault (F.holds files.old name.now) f) }
 {
@@ -41,8 +41,9 @@ pub fn read_blocks<F: Files>(
     names: &[String],
 ) -> Result<Vec<Block>, BlocksFault>
     ensures keeps { KeepsFiles F.told F.holds F.faults files.old files.new }
-    // It is a read fault only where the files had one.
-    ensures failed { IfErr result (λ f. RoseIfUnread f (F.faults files.old) (F.faults files.new)) }
+    // It is a read fault only where a read of the very file failed of which it has the number.
+    ensures failed { IfErr result (λ f.
+        RoseIfUnread (map string_bytes names.now) f (F.faults files.old) (F.faults files.new)) }
     // What is read is what the files hold under the names.
     ensures found { IfOk result (λ blocks. F.told files.old ≡ true →
         HoldBlocks (F.holds files.old) (map string_bytes names.now) blocks.items) }
