@@ -1,20 +1,22 @@
 -- What must come, want of memory aside.
-use Rattle.std.proofs.Common.{◌≡◌, ℕ, true, List, [], length, codes, Option, inl, inr, ◌⊎◌, refl, sym, ap, subst, ◌∙◌, arith}
+use Rattle.std.proofs.Common.{◌≡◌, ℕ, ◌-◌, true, List, [], length, codes, Option, inl, inr, ◌⊎◌, refl, sym, ap, subst, ◌∙◌, arith}
+use Rattle.std.proofs.lemmas.List.Elements.{Contains-get_or}
 use Rattle.pw_base.specs.Outside.{Rose}
-use Rattle.pw_base.specs.Seen.{Grew, GrewByLine}
+use Rattle.pw_base.specs.Seen.{FilesSeen, Grew, GrewByLine}
 use Rattle.aml_block.specs.declared.block.Block.{Block}
 use Rattle.acpi_space.specs.Namespace.{entries_in, places_of}
 use Rattle.acpi_space.proofs.Seen.{first_repeat_repeats}
 use Rattle.pw_blocks.specs.declared.fault.BlocksFault.TheVariants.{Block as in_block, Large, ReadFault, Memory}
+use Rattle.pw_blocks.specs.Held.{IsUnread, name_at}
 use Rattle.pw_blocks.proofs.OneReading.{same_blocks, same_first_fault, blocks_not_fault}
 use Rattle.pw_words.specs.Words.{AskFor, IsCommand, Task}
 use Rattle.pw_words.specs.Words.Task.{to_show, to_rewrite}
 use Rattle.pw_words.proofs.Tasks.{one_asked}
 use Rattle.pw_cli.specs.Lines.{blocks_line, twice_line}
-use Rattle.pw_cli.specs.Seen.{Outputs, Seen}
+use Rattle.pw_cli.specs.Seen.{Seen, NoneFailed}
 use Rattle.pw_cli.specs.Tasks.{IsTextOf, IsRefusalOf, IsPrintedAs, IsRefusedBy}
 use Rattle.pw_cli.specs.Tasks.IsRefusedBy.{unspelled, unusable}
-use Rattle.pw_cli.specs.Runs.{EndsOver, EndsOn, EndsBy, Ended, EndedSo, Ran, IsComplete}
+use Rattle.pw_cli.specs.Runs.{EndsOn, EndsBy, EndedSo, Ran, IsComplete}
 use Rattle.pw_cli.specs.Runs.EndsOver.{printed, refused, unwritten, without_memory}
 use Rattle.pw_cli.specs.Runs.EndsOn.{over_blocks, at_fault}
 use Rattle.pw_cli.specs.Runs.EndsBy.{misworded, commanded}
@@ -62,7 +64,7 @@ one_line {task} {names} {a} {b} {holds} (unusable us held p) (unusable vs holdin
 data ComesTo (task : Task) (names : List (List ℕ)) (before after : Seen) (status : ℕ) (text line : List ℕ) : Type 0 where
   to_text : status ≡ 0 → line ≡ [] → IsPrintedAs task names text before.files.holds → ComesTo task names before after status text line
   to_line : status ≡ 1 → text ≡ [] → IsRefusedBy task names line before.files.holds → ComesTo task names before after status text line
-  to_unread : status ≡ 3 → Rose before.files.faults after.files.faults → ComesTo task names before after status text line
+  to_unread : (number : ℕ) → status ≡ 3 → IsUnread names number before.files.faults after.files.faults → ComesTo task names before after status text line
   to_unwritten : (whole : List ℕ) → status ≡ 4 → Rose before.outputs.out.faults after.outputs.out.faults
       → IsPrintedAs task names whole before.files.holds → ComesTo task names before after status text line
   to_nothing : status ≡ 6 → ComesTo task names before after status text line
@@ -75,8 +77,15 @@ comes_to tells (over_blocks blocks held (unwritten whole n made rose)) = to_unwr
 comes_to tells (over_blocks blocks held without_memory) = to_nothing refl
 comes_to tells (at_fault (in_block number fault) own rose cause) = to_line refl refl (unspelled (in_block number fault) (cause tells))
 comes_to tells (at_fault Large own rose cause) = to_line refl refl (unspelled Large (cause tells))
-comes_to tells (at_fault (ReadFault number) own rose cause) = to_unread refl rose
+comes_to tells (at_fault (ReadFault number) own rose cause) = to_unread number refl rose
 comes_to tells (at_fault Memory own rose cause) = to_nothing refl
+
+-- a read of one of the names failed
+some_failed : (names : List (List ℕ)) (number : ℕ) (before after : FilesSeen) → IsUnread names number before.faults after.faults → NoneFailed names before after → ⊥
+some_failed names number before after unread none =
+    let some = unread.some in
+    let within = unread.within in
+    none (name_at names number) (Contains-get_or names (number - 1) [] (omega (arith, some, within))) unread.rose
 
 -- # What the words ask for
 
@@ -112,7 +121,7 @@ worded (commanded task names are ends) two is = not_two ends two
 -- # Completeness
 
 module _ {task : Task} {names : List (List ℕ)} {before after : Seen} {status : ℕ} {text line : List ℕ} where
-  prints_so : (whole : List ℕ) → IsPrintedAs task names whole before.files.holds → (Rose before.files.faults after.files.faults → ⊥)
+  prints_so : (whole : List ℕ) → IsPrintedAs task names whole before.files.holds → NoneFailed names before.files after.files
       → (Rose before.outputs.out.faults after.outputs.out.faults → ⊥) → ComesTo task names before after status text line
       → Grew before.outputs.out after.outputs.out text → GrewByLine before.outputs.err after.outputs.err line
       → EndedSo before.outputs after.outputs status 0 whole [] ⊎ (status ≡ 6)
@@ -122,11 +131,11 @@ module _ {task : Task} {names : List (List ℕ)} {before after : Seen} {status :
     on_err = subst (λ (l : List ℕ). GrewByLine before.outputs.err after.outputs.err l) silent on_err;
   })
   prints_so whole shown no_read no_write (to_line is none by) on_out on_err = absurd (not_both shown by)
-  prints_so whole shown no_read no_write (to_unread is rose) on_out on_err = absurd (no_read rose)
+  prints_so whole shown no_read no_write (to_unread number is unread) on_out on_err = absurd (some_failed names number before.files after.files unread no_read)
   prints_so whole shown no_read no_write (to_unwritten other is rose made) on_out on_err = absurd (no_write rose)
   prints_so whole shown no_read no_write (to_nothing is) on_out on_err = inr is
 
-  refuses_so : (said : List ℕ) → IsRefusedBy task names said before.files.holds → (Rose before.files.faults after.files.faults → ⊥)
+  refuses_so : (said : List ℕ) → IsRefusedBy task names said before.files.holds → NoneFailed names before.files after.files
       → ComesTo task names before after status text line
       → Grew before.outputs.out after.outputs.out text → GrewByLine before.outputs.err after.outputs.err line
       → EndedSo before.outputs after.outputs status 1 [] said ⊎ (status ≡ 6)
@@ -136,22 +145,22 @@ module _ {task : Task} {names : List (List ℕ)} {before after : Seen} {status :
     on_out = subst (λ (t : List ℕ). Grew before.outputs.out after.outputs.out t) none on_out;
     on_err = subst (λ (l : List ℕ). GrewByLine before.outputs.err after.outputs.err l) (one_line how by) on_err;
   })
-  refuses_so said by no_read (to_unread is rose) on_out on_err = absurd (no_read rose)
+  refuses_so said by no_read (to_unread number is unread) on_out on_err = absurd (some_failed names number before.files after.files unread no_read)
   refuses_so said by no_read (to_unwritten other is rose made) on_out on_err = absurd (not_both made by)
   refuses_so said by no_read (to_nothing is) on_out on_err = inr is
 
-  unprinted_so : ((whole : List ℕ) → IsPrintedAs task names whole before.files.holds → ⊥) → (Rose before.files.faults after.files.faults → ⊥)
+  unprinted_so : ((whole : List ℕ) → IsPrintedAs task names whole before.files.holds → ⊥) → NoneFailed names before.files after.files
       → ComesTo task names before after status text line → (status ≡ 1) ⊎ (status ≡ 6)
   unprinted_so no_text no_read (to_text is silent made) = absurd (no_text text made)
   unprinted_so no_text no_read (to_line is none how) = inl is
-  unprinted_so no_text no_read (to_unread is rose) = absurd (no_read rose)
+  unprinted_so no_text no_read (to_unread number is unread) = absurd (some_failed names number before.files after.files unread no_read)
   unprinted_so no_text no_read (to_unwritten other is rose made) = absurd (no_text other made)
   unprinted_so no_text no_read (to_nothing is) = inr is
 
   unprintable_so : (whole : List ℕ) → status ≡ 1 → IsPrintedAs task names whole before.files.holds → ComesTo task names before after status text line → ⊥
   unprintable_so whole one shown (to_text is silent made) = absurd (omega (arith, one, is))
   unprintable_so whole one shown (to_line is none how) = not_both shown how
-  unprintable_so whole one shown (to_unread is rose) = absurd (omega (arith, one, is))
+  unprintable_so whole one shown (to_unread number is unread) = absurd (omega (arith, one, is))
   unprintable_so whole one shown (to_unwritten other is rose made) = absurd (omega (arith, one, is))
   unprintable_so whole one shown (to_nothing is) = absurd (omega (arith, one, is))
 

@@ -1,6 +1,6 @@
 -- A list has at most one first repeat.
-use Rattle.std.proofs.Common.{◌≡◌, List, [], ◌∷◌, ◌++◌, ◌⊎◌, inl, inr, refl, sym, ap, subst, ◌∙◌}
-use Rattle.acpi_space.specs.Distinct.{IsDistinct, IsFirstRepeat}
+use Rattle.std.proofs.Common.{◌≡◌, List, [], ◌∷◌, ◌++◌, sym, ap, ◌∙◌}
+use Rattle.acpi_space.specs.Distinct.{IsFirstRepeat}
 use Rattle.acpi_space.proofs.Seen.{first_repeat_repeats}
 
 -- where two lists with an element behind each begin one list: the lists and elements are the same, or one list goes on with

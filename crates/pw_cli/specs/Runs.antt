@@ -9,7 +9,7 @@ use Rattle.pw_blocks.specs.declared.fault.BlocksFault.TheVariants.{Block as in_b
 use Rattle.pw_blocks.specs.Held.{HoldBlocks, IsCauseOf, IsOwn, RoseIfUnread}
 use Rattle.pw_words.specs.Words.{AskFor, IsCommand, Task}
 use Rattle.pw_cli.specs.Lines.{blocks_line}
-use Rattle.pw_cli.specs.Seen.{Outputs, Seen}
+use Rattle.pw_cli.specs.Seen.{Outputs, Seen, NoneFailed}
 use Rattle.pw_cli.specs.Tasks.{IsTextOf, IsRefusalOf, IsPrintedAs, IsRefusedBy}
 
 -- # The ways in which a run ends: its status, what the output grew by, and the line on the error output
@@ -39,8 +39,8 @@ pub data EndsOn (task : Task) (names : List (List ℕ)) (before after : Seen) : 
   over_blocks : {status : ℕ} {text line : List ℕ} (blocks : List Block) → OfFiles before.files (λ holds. HoldBlocks holds names blocks)
       → EndsOver task blocks before.outputs after.outputs status text line → EndsOn task names before after status text line
   -- None were read, for this fault: it is what is first at fault in the files, where they tell, and a file is unread only
-  -- where their count rose. Before a file that is unread the files hold blocks.
-  at_fault : (fault : BlocksFault) → IsOwn fault → RoseIfUnread fault before.files.faults after.files.faults
+  -- where a read of this very file failed. Before a file that is unread the files hold blocks.
+  at_fault : (fault : BlocksFault) → IsOwn fault → RoseIfUnread names fault before.files.faults after.files.faults
       → OfFiles before.files (λ holds. IsCauseOf holds names fault)
       → EndsOn task names before after (fault_status fault) [] (blocks_line (length names) fault)
 
@@ -77,17 +77,17 @@ pub record IsComplete (words : List (List ℕ)) (before after : Seen) (status : 
   -- words that are no command are refused, and no others
   pub misworded : (IsCommand words → ⊥) → EndedSo before.outputs after.outputs status 2 [] (codes "words: refused\n")
   pub worded : status ≡ 2 → IsCommand words → ⊥
-  -- what the task prints of told files is printed, if no count of files and output rose
+  -- what the task prints of told files is printed, if no read of the command's files failed, and no write of the output
   pub prints : {task : Task} {names : List (List ℕ)} {text : List ℕ} → AskFor words task names → before.files.told ≡ true
-      → IsPrintedAs task names text before.files.holds → (Rose before.files.faults after.files.faults → ⊥)
+      → IsPrintedAs task names text before.files.holds → NoneFailed names before.files after.files
       → (Rose before.outputs.out.faults after.outputs.out.faults → ⊥) → EndedSo before.outputs after.outputs status 0 text [] ⊎ (status ≡ 6)
-  -- what it refuses is refused by its line, if no count of files rose
+  -- what it refuses is refused by its line, if no read of the command's files failed
   pub refuses : {task : Task} {names : List (List ℕ)} {line : List ℕ} → AskFor words task names → before.files.told ≡ true
-      → IsRefusedBy task names line before.files.holds → (Rose before.files.faults after.files.faults → ⊥)
+      → IsRefusedBy task names line before.files.holds → NoneFailed names before.files after.files
       → EndedSo before.outputs after.outputs status 1 [] line ⊎ (status ≡ 6)
   -- status 1 comes exactly where the files hold no blocks that the task prints
   pub unprinted : {task : Task} {names : List (List ℕ)} → AskFor words task names → before.files.told ≡ true
-      → ((text : List ℕ) → IsPrintedAs task names text before.files.holds → ⊥) → (Rose before.files.faults after.files.faults → ⊥)
+      → ((text : List ℕ) → IsPrintedAs task names text before.files.holds → ⊥) → NoneFailed names before.files after.files
       → (status ≡ 1) ⊎ (status ≡ 6)
   pub unprintable : {task : Task} {names : List (List ℕ)} {text : List ℕ} → AskFor words task names → before.files.told ≡ true
       → status ≡ 1 → IsPrintedAs task names text before.files.holds → ⊥

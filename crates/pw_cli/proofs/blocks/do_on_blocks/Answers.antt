@@ -23,6 +23,7 @@ returns-clause-ended g c =
     let names = c.blocks-names.result.now in
     let fault = c.in-Err.fault in
     let cause = rw c.blocks-names.ensures at c.in-Err.ensures.fault in
+    let unread = rw c.blocks-names.ensures at c.in-Err.ensures.failed in
     let many : length names ≡ length (asked_names c.args.command) = sym (length-map names string_bytes) ∙ ap length c.blocks-names.ensures in
     ended_saying g.K.Sink c.args.out.now c.args.err.now c.refuse.new.err (blocks_line (length (asked_names c.args.command)) fault) c.refuse.result
-    (rw c.refuse.ensures.status (at_fault fault c.in-Err.ensures.own c.in-Err.ensures.failed cause)) (rw many at c.refuse.ensures.line)
+    (rw c.refuse.ensures.status (at_fault fault c.in-Err.ensures.own unread cause)) (rw many at c.refuse.ensures.line)

@@ -1,4 +1,4 @@
-use Rattle.std.proofs.Common.{codes, []}
+use Rattle.std.proofs.Common.{codes}
 use Rattle.pw_words.specs.Command.{asked_names, asked_task}
 use Rattle.pw_cli.specs.Runs.EndsBy.{misworded, commanded}
 use Rattle.pw_cli.proofs.Ending.{ended_as, ended_saying}
