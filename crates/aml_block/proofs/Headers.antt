@@ -9,6 +9,7 @@ use Rattle.aml_block.specs.declared.block.Signature.TheVariants.{Dsdt, Ssdt}
 use Rattle.aml_block.specs.declared.block.Header.{Header}
 use Rattle.aml_block.specs.declared.fault.HeaderFault.{HeaderFault}
 use Rattle.aml_block.specs.declared.fault.HeaderFault.TheVariants.{Large, Short, Signature as no_signature, Length, Sum}
+use Rattle.aml_block.specs.declared.header.TheConstants.{LARGEST, HEADER_SIZE}
 use Rattle.aml_block.specs.Header.{signature_text, field, number_field, IsHeader, HasSize, HasSignature, HasLength, HasSum}
 use Rattle.aml_block.specs.Faults.{HeaderFails}
 use Rattle.aml_block.specs.inner.Reading.{signature_at, fields_at, signed_at, header_at}
@@ -76,15 +77,15 @@ signed_told bytes (Ok s) size told =
 pub header_told : (bytes : List ℕ) → HeaderTold bytes (header_at bytes)
 unfolding header_at
 header_told bytes =
-    by_test (HeaderTold bytes) (nat_lt 4194304 (length bytes)) _ _ (λ t. ltb-true 4194304 (length bytes) t)
-    (λ n. by_test (HeaderTold bytes) (nat_lt (length bytes) 36) _ _ (λ t. ltb-true (length bytes) 36 t)
-    (λ m. signed_told bytes (signature_at (field 0 4 bytes)) (ltb-false (length bytes) 36 m, ltb-false 4194304 (length bytes) n) (signature_told (field 0 4 bytes))))
+    by_test (HeaderTold bytes) (nat_lt LARGEST (length bytes)) _ _ (λ t. ltb-true LARGEST (length bytes) t)
+    (λ n. by_test (HeaderTold bytes) (nat_lt (length bytes) HEADER_SIZE) _ _ (λ t. ltb-true (length bytes) HEADER_SIZE t)
+    (λ m. signed_told bytes (signature_at (field 0 4 bytes)) (ltb-false (length bytes) HEADER_SIZE m, ltb-false LARGEST (length bytes) n) (signature_told (field 0 4 bytes))))
 
 sized : (bytes : List ℕ) → HasSize bytes → header_at bytes ≡ signed_at bytes (signature_at (field 0 4 bytes))
 unfolding header_at
 sized bytes size =
-    let e1 : nat_lt 4194304 (length bytes) ≡ false = grind (arith, nat_tests) in
-    let e2 : nat_lt (length bytes) 36 ≡ false = grind (arith, nat_tests) in
+    let e1 : nat_lt LARGEST (length bytes) ≡ false = grind (arith, nat_tests) in
+    let e2 : nat_lt (length bytes) HEADER_SIZE ≡ false = grind (arith, nat_tests) in
     rw (e1, e2) refl
 
 signed : (bytes : List ℕ) → HasSize bytes → (s : Signature) → field 0 4 bytes ≡ signature_text s → header_at bytes ≡ signed_at bytes (Ok s)
@@ -117,10 +118,10 @@ wrong_sum bytes s long n =
 
 pub header_refused : (bytes : List ℕ) (why : HeaderFault) → HeaderFails bytes why → header_at bytes ≡ Err why
 unfolding header_at
-header_refused bytes Large f = let e : nat_lt 4194304 (length bytes) ≡ true = lt-ltb _ _ f in rw e refl
+header_refused bytes Large f = let e : nat_lt LARGEST (length bytes) ≡ true = lt-ltb _ _ f in rw e refl
 header_refused bytes Short f =
-    let e1 : nat_lt 4194304 (length bytes) ≡ false = grind (arith, nat_tests) in
-    let e2 : nat_lt (length bytes) 36 ≡ true = lt-ltb _ _ f in
+    let e1 : nat_lt LARGEST (length bytes) ≡ false = grind (arith, nat_tests) in
+    let e2 : nat_lt (length bytes) HEADER_SIZE ≡ true = lt-ltb _ _ f in
     rw (e1, e2) refl
 header_refused bytes no_signature f = sized bytes f.0 ∙ ap (signed_at bytes) (signature_refused (field 0 4 bytes) (λ d. f.1 (inl d)) (λ s. f.1 (inr s)))
 header_refused bytes Length f =

@@ -7,6 +7,7 @@ use Rattle.std.proofs.lemmas.Nat.{from_le_bytes-to_le_bytes_4}
 use Rattle.aml_block.specs.declared.block.Header.{Header}
 use Rattle.aml_block.specs.declared.block.Signature.{Signature}
 use Rattle.aml_block.specs.declared.block.Signature.TheVariants.{Dsdt, Ssdt}
+use Rattle.aml_block.specs.declared.header.TheConstants.{LARGEST, HEADER_SIZE}
 use Rattle.aml_block.specs.Header.{signature_text, number_field, IsHeader, HasSize, HasLength, HasSum}
 use Rattle.aml_block.specs.Written.{checksum_for, written_behind, written_header, IsInRange}
 
@@ -123,7 +124,7 @@ pub chosen_sum : (s : ℕ) → (s + checksum_for s) % 256 ≡ 0
 chosen_sum s = omega arith
 
 -- the written form has the header that it is to have
-pub header_written : (h : Header) (body : List ℕ) → IsInRange h → 36 + length body ≤ 4194304
+pub header_written : (h : Header) (body : List ℕ) → IsInRange h → HEADER_SIZE + length body ≤ LARGEST
     → HasSize (written_behind h body) × IsHeader h (written_behind h body) × HasLength (written_behind h body) × HasSum (written_behind h body)
     × (drop 36 (written_behind h body) ≡ body)
 header_written h body r small =

@@ -13,6 +13,7 @@ use Rattle.aml_block.specs.declared.block.Block.{Block}
 use Rattle.aml_block.specs.declared.fault.BlockFault.{BlockFault}
 use Rattle.aml_block.specs.declared.fault.BlockFault.TheVariants.{Header as header, Data as data_fault, BadTerm, ReadFault as unread, Memory as no_memory}
 use Rattle.aml_block.specs.Written.{IsWritableBlock}
+use Rattle.pw_blocks.specs.declared.reading.TheConstants.{LARGEST_SUM}
 use Rattle.pw_blocks.specs.declared.fault.BlocksFault.{BlocksFault}
 use Rattle.pw_blocks.specs.declared.fault.BlocksFault.TheVariants.{Large}
 use Rattle.pw_blocks.specs.Causes.{numbered}
@@ -23,7 +24,7 @@ pub record SoFar (holds : List ℕ → Option (List ℕ)) (Told : Type 0) (names
   pub front : List (List ℕ)
   pub parts : names ≡ front ++ rest
   pub count : length front ≡ length done
-  pub small : total ≤ 16777216
+  pub small : total ≤ LARGEST_SUM
   pub writable : All IsWritableBlock done
   pub found : Told → (others : List (List ℕ)) (more : List Block) → AreBlocks holds total others more → HoldBlocks holds (front ++ others) (done ++ more)
   pub fault : Told → (f : BlocksFault) → IsFirstFault holds (length done + 1) total rest f → FailFirst holds names f
@@ -37,7 +38,7 @@ only block zero d can below = can
 only block (suc k) d can below = absurd (omega (arith, below))
 
 pub one_more : {holds : List ℕ → Option (List ℕ)} {Told : Type 0} {names rest : List (List ℕ)} {done : List Block} {total size : ℕ} (name : List ℕ) (block : Block)
-    → SoFar holds Told names (name ∷ rest) done total → (Told → IsBlock (holds name) block size) → IsWritableBlock block → total + size ≤ 16777216
+    → SoFar holds Told names (name ∷ rest) done total → (Told → IsBlock (holds name) block size) → IsWritableBlock block → total + size ≤ LARGEST_SUM
     → SoFar holds Told names rest (done ++ block ∷ []) (total + size)
 one_more {holds} {Told} {names} {rest} {done} {total} {size} name block so is can few = record {
   front = so.front ++ name ∷ [];
@@ -61,7 +62,7 @@ all_done {holds} {names = names} {done = done} {total = total} words i so end = 
 
 -- there are too many bytes
 pub is_large : {holds : List ℕ → Option (List ℕ)} {Told : Type 0} {names rest : List (List ℕ)} {done : List Block} {total size : ℕ} (name : List ℕ) (block : Block)
-    → SoFar holds Told names (name ∷ rest) done total → (Told → IsBlock (holds name) block size) → 16777216 < total + size → Told → FailFirst holds names Large
+    → SoFar holds Told names (name ∷ rest) done total → (Told → IsBlock (holds name) block size) → LARGEST_SUM < total + size → Told → FailFirst holds names Large
 is_large name block so is many = λ t. so.fault t Large (too_large (is t) many)
 
 -- the files before the next one hold the blocks that were read

@@ -6,6 +6,7 @@ use Rattle.aml_block.specs.declared.fault.BlockFault.{BlockFault}
 use Rattle.aml_block.specs.Spelling.{BlockSpells}
 use Rattle.aml_block.specs.Faults.{BlockFails}
 use Rattle.aml_block.proofs.Blocks.{spelled_or_fault}
+use Rattle.pw_blocks.specs.declared.reading.TheConstants.{LARGEST_SUM}
 use Rattle.pw_blocks.specs.declared.fault.BlocksFault.{BlocksFault}
 use Rattle.pw_blocks.specs.declared.fault.BlocksFault.TheVariants.{Block as in_block, Large}
 use Rattle.pw_blocks.proofs.OneReading.{one_is_block, not_at_fault}
@@ -25,7 +26,7 @@ data Reading (holds : List ℕ → Option (List ℕ)) (number before : ℕ) (nam
 
 -- behind one more block
 behind : {holds : List ℕ → Option (List ℕ)} {number before size : ℕ} {name : List ℕ} {names : List (List ℕ)} {block : Block} → IsBlock (holds name) block size
-    → before + size ≤ 16777216 → Reading holds (number + 1) (before + size) names → Reading holds number before (name ∷ names)
+    → before + size ≤ LARGEST_SUM → Reading holds (number + 1) (before + size) names → Reading holds number before (name ∷ names)
 behind {block = block} is few (are_blocks blocks more) = are_blocks (block ∷ blocks) (one_block is few more)
 behind is few (at_fault f more) = at_fault f (behind_this is few more)
 behind {block = block} is few (missing k m) = missing (suc k) (record {
@@ -36,18 +37,18 @@ behind {block = block} is few (missing k m) = missing (suc k) (record {
 })
 
 read_on : (holds : List ℕ → Option (List ℕ)) (number before : ℕ) (name : List ℕ) (names : List (List ℕ)) (bytes : List ℕ) → holds name ≡ Some bytes
-    → ((b : Block) × BlockSpells b bytes) ⊎ ((f : BlockFault) × BlockFails bytes f) → ((size : ℕ) → before + size ≤ 16777216 → Reading holds (number + 1) (before + size) names)
+    → ((b : Block) × BlockSpells b bytes) ⊎ ((f : BlockFault) × BlockFails bytes f) → ((size : ℕ) → before + size ≤ LARGEST_SUM → Reading holds (number + 1) (before + size) names)
     → Reading holds number before (name ∷ names)
 read_on holds number before name names bytes is (inr (f, fails)) next = at_fault (in_block number f) (in_this (record { bytes = bytes; is = is; fails = fails }))
 read_on holds number before name names bytes is (inl (b, spells)) next =
     let held : IsBlock (holds name) b (length bytes) = record { bytes = bytes; is = is; spelled = spells; counted = refl } in
-    elim (cases_lt 16777216 (before + length bytes)) [
+    elim (cases_lt LARGEST_SUM (before + length bytes)) [
       | inl many ↦ at_fault Large (too_large held many)
       | inr few ↦ behind held (omega (arith, few)) (next (length bytes) (omega (arith, few)))
     ]
 
 by_content : (holds : List ℕ → Option (List ℕ)) (number before : ℕ) (name : List ℕ) (names : List (List ℕ)) (o : Option (List ℕ)) → HoldBytes holds → holds name ≡ o
-    → ((size : ℕ) → before + size ≤ 16777216 → Reading holds (number + 1) (before + size) names) → Reading holds number before (name ∷ names)
+    → ((size : ℕ) → before + size ≤ LARGEST_SUM → Reading holds (number + 1) (before + size) names) → Reading holds number before (name ∷ names)
 by_content holds number before name names None bytes is next = missing 0 (record { within = omega arith; absent = is; blocks = []; held = no_block })
 by_content holds number before name names (Some content) bytes is next = read_on holds number before name names content is (spelled_or_fault content (bytes name content is)) next
 

@@ -3,6 +3,7 @@ use Rattle.std.proofs.Common.{◌≡◌, ◌≤◌, ℕ, ◌+◌, List, [], ◌�
 use Rattle.std.specs.List.{sum_by}
 use Rattle.std.proofs.lemmas.List.Sums.{sum_by-cons}
 use Rattle.aml_block.specs.declared.block.Block.{Block}
+use Rattle.pw_blocks.specs.declared.reading.TheConstants.{LARGEST_SUM}
 use Rattle.pw_blocks.specs.Held.{AreBlocks, no_block, one_block, SpellEach, AreHeld}
 
 -- the same behind so many bytes
@@ -10,9 +11,9 @@ record AreHeldBehind (holds : List ℕ → Option (List ℕ)) (before : ℕ) (na
   contents : List (List ℕ)
   held : map holds names ≡ map (λ c. Some c) contents
   spelled : SpellEach blocks contents
-  few : before + sum_by length contents ≤ 16777216
+  few : before + sum_by length contents ≤ LARGEST_SUM
 
-together : (holds : List ℕ → Option (List ℕ)) (before : ℕ) (names : List (List ℕ)) (blocks : List Block) → before ≤ 16777216
+together : (holds : List ℕ → Option (List ℕ)) (before : ℕ) (names : List (List ℕ)) (blocks : List Block) → before ≤ LARGEST_SUM
     → AreBlocks holds before names blocks → AreHeldBehind holds before names blocks
 together holds before _ _ small no_block = record { contents = []; held = refl; spelled = tt; few = omega (arith, small) }
 together holds before (name ∷ names) (block ∷ blocks) small (one_block {size = size} p few more) =
@@ -28,7 +29,7 @@ together holds before (name ∷ names) (block ∷ blocks) small (one_block {size
     }
 
 apart : (holds : List ℕ → Option (List ℕ)) (before : ℕ) (names : List (List ℕ)) (blocks : List Block) (contents : List (List ℕ))
-    → map holds names ≡ map (λ c. Some c) contents → SpellEach blocks contents → before + sum_by length contents ≤ 16777216 → AreBlocks holds before names blocks
+    → map holds names ≡ map (λ c. Some c) contents → SpellEach blocks contents → before + sum_by length contents ≤ LARGEST_SUM → AreBlocks holds before names blocks
 apart holds before [] [] [] held spelled few = no_block
 apart holds before (name ∷ names) (block ∷ blocks) (bytes ∷ contents) held spelled few =
     let all = sum_by-cons length bytes contents in
