@@ -54,7 +54,8 @@ count_of name absent (file ∷ files) = if bytes_eq file.name name then file.fau
 -- The files after a read of a name failed: the count of its file alone is one more.
 abbrev pub counted : List ℕ → List FileHeld → List FileHeld
 counted name [] = []
-counted name (file ∷ files) = if bytes_eq file.name name then record file { faults = next_count file.faults } ∷ files else file ∷ counted name files
+counted name (file ∷ files) =
+    if bytes_eq file.name name then record file { faults = next_count file.faults } ∷ files else file ∷ counted name files
 
 -- Files in memory tell what they hold.
 abbrev pub tells : FilesHeld → Bool

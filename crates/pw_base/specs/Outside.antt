@@ -6,7 +6,8 @@ abbrev pub Rose : ℕ → ℕ → Type 0
 Rose old new = new < 18446744073709551615 → old < new
 
 -- What no call of files changes: whether they tell, and what each name holds; and no name's count falls.
-pub record KeepsFiles {S : Type 0} (told : S → Bool) (holds : S → List ℕ → Option (List ℕ)) (faults : S → List ℕ → ℕ) (old new : S) : Type 0 where
+pub record KeepsFiles {S : Type 0} (told : S → Bool) (holds : S → List ℕ → Option (List ℕ)) (faults : S → List ℕ → ℕ) (old new : S)
+    : Type 0 where
   pub same_told : told new ≡ told old
   pub same_content : (name : List ℕ) → holds new name ≡ holds old name
   pub count : (name : List ℕ) → faults old name ≤ faults new name

@@ -35,4 +35,5 @@ Grew old new text = old.told ≡ true → new.written ≡ old.written ++ text
 
 -- where the sink tells, it grew by a line, or by a beginning of it where its count rose
 abbrev pub GrewByLine : SinkSeen → SinkSeen → List ℕ → Type 0
-GrewByLine old new line = old.told ≡ true → (new.written ≡ old.written ++ line) ⊎ (Rose old.faults new.faults × GrewByPart old.written new.written line)
+GrewByLine old new line =
+    old.told ≡ true → (new.written ≡ old.written ++ line) ⊎ (Rose old.faults new.faults × GrewByPart old.written new.written line)

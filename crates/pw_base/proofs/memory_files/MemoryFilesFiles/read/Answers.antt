@@ -1,7 +1,7 @@
-use Rattle.std.proofs.Common.{◌∙◌, subst, rules}
+use Rattle.std.proofs.Common.{◌≡◌, ◌∙◌, subst, rules}
 use Rattle.std.specs.Vec.{with_items}
 use Rattle.std.proofs.lemmas.List.{with_items_is}
-use Rattle.pw_base.specs.InMemory.{FilesHeld}
+use Rattle.pw_base.specs.InMemory.{FilesHeld, counted}
 use Rattle.pw_base.specs.contracts.memory_files.MemoryFiles.{the_view}
 use Rattle.pw_base.proofs.Counting.{IsFailed, failed_there, failed_nowhere}
 use Rattle.pw_base.proofs.memory_files.MemoryFilesFiles.read.Goals as goal
@@ -19,8 +19,10 @@ nowhere c =
       calls = c.saturating_add-self-inside.result;
       absent = c.saturating_add-self-inside-then-not-count_fault.result;
     }) in
+    let files : after.files ≡ counted c.args.name.now before.files =
+    with_items_is c.self.inside.files c.count_fault.new.files (search rules) ∙ (search rules) in
     subst (λ (s : FilesHeld). IsFailed c.args.name.now s after) c.self.view_is
-    (failed_nowhere c.args.name.now before after (with_items_is c.self.inside.files c.count_fault.new.files (search rules) ∙ (search rules)) c.saturating_add-self-inside-then-not-count_fault.ensures (search rules) (search rules))
+    (failed_nowhere c.args.name.now before after files c.saturating_add-self-inside-then-not-count_fault.ensures (search rules) (search rules))
 
 pub returns-then-not-count_fault-clause-keeps : goal.returns-then-not-count_fault-clause-keeps
 returns-then-not-count_fault-clause-keeps c = (nowhere c).keeps
@@ -42,8 +44,10 @@ there c =
       files = with_items c.self.inside.files c.count_fault.new.files;
       calls = c.saturating_add-self-inside.result;
     }) in
+    let files : after.files ≡ counted c.args.name.now before.files =
+    with_items_is c.self.inside.files c.count_fault.new.files (search rules) ∙ (search rules) in
     subst (λ (s : FilesHeld). IsFailed c.args.name.now s after) c.self.view_is
-    (failed_there c.args.name.now before after (with_items_is c.self.inside.files c.count_fault.new.files (search rules) ∙ (search rules)) (search rules) (search rules) (search rules))
+    (failed_there c.args.name.now before after files (search rules) (search rules) (search rules))
 
 pub returns-else-not-count_fault-clause-keeps : goal.returns-else-not-count_fault-clause-keeps
 returns-else-not-count_fault-clause-keeps c = (there c).keeps
