@@ -2,7 +2,7 @@
 
 ghost use Rattle.std.specs.Prelude.{◌≤◌};
 
-use pw_base::{MemoryFiles, MemorySink};
+use pw_base::{MemoryFile, MemoryFiles, MemorySink};
 use pw_cli::run;
 use std::alloc::Global;
 use std::test::Fail;
@@ -76,7 +76,8 @@ pub(crate) fn file_of(
     requires { 1 ≤ piece }
 {
     let mut held = Vec::new(alloc);
-    held.push((String::from_str(alloc, "one.aml")?, bytes.to_vec(alloc)?))?;
+    let name = String::from_str(alloc, "one.aml")?;
+    held.push(MemoryFile::new(name, bytes.to_vec(alloc)?))?;
     Ok(MemoryFiles::new(held, fails.to_vec(alloc)?, piece))
 }
 
