@@ -42,31 +42,46 @@ fn prefix_of(bytes: &[u8]) -> (bool, u32, &[u8])
     }
 }
 
+/// One segment, and the bytes after it.
+fn single_of(
+    alloc: Global,
+    bytes: &[u8],
+    end: usize,
+) -> Result<(CompactList<Seg>, &[u8]), DataFault>
+    requires { length bytes.now ≤ end }
+    ensures value { Gives (λ x. (x.0, x.1.now)) result (several_at 1 end bytes.now) }
+    ensures shorter { IfOk result (λ x. length x.1.now < length bytes.now) }
+{
+    let (segment, rest) = segment_of(bytes, end)?;
+    let segs = CompactList::from_slice(alloc, &[Seg::of_segment(segment)])?;
+    Ok((segs, rest))
+}
+
 /// So many segments, and the bytes after them.
 fn several_of(
     alloc: Global,
     bytes: &[u8],
     end: usize,
     count: u8,
-) -> Result<(Vec<Seg>, &[u8]), DataFault>
+) -> Result<(CompactList<Seg>, &[u8]), DataFault>
     requires { length bytes.now ≤ end }
-    ensures value { Gives (λ x. (x.0.items, x.1.now)) result (several_at count end bytes.now) }
+    ensures value { Gives (λ x. (x.0, x.1.now)) result (several_at count end bytes.now) }
     ensures shorter { IfOk result (λ x. length x.1.now + count ≤ length bytes.now) }
 {
-    let mut segs = Vec::new(alloc);
+    let mut segs = Vec::with_capacity(alloc, usize::from(count))?;
     let mut rest = bytes;
     for _ in 0..count {
         let (segment, after) = segment_of(rest, end)?;
         segs.push(Seg::of_segment(segment))?;
         rest = after;
     }
-    Ok((segs, rest))
+    Ok((CompactList::from_vec(alloc, segs)?, rest))
 }
 
 /// A count that isn't 0, so many segments, and the bytes after them.
-fn many_of(alloc: Global, bytes: &[u8], end: usize) -> Result<(Vec<Seg>, &[u8]), DataFault>
+fn many_of(alloc: Global, bytes: &[u8], end: usize) -> Result<(CompactList<Seg>, &[u8]), DataFault>
     requires { length bytes.now ≤ end }
-    ensures value { Gives (λ x. (x.0.items, x.1.now)) result (many_at end bytes.now) }
+    ensures value { Gives (λ x. (x.0, x.1.now)) result (many_at end bytes.now) }
     ensures shorter { IfOk result (λ x. length x.1.now < length bytes.now) }
 {
     match bytes {
@@ -80,17 +95,21 @@ fn many_of(alloc: Global, bytes: &[u8], end: usize) -> Result<(Vec<Seg>, &[u8]),
 
 /// The segments of a name, and the bytes after them.
 #[tactic(auto, unfolding(crate::specs::inner::Reading::segments_at))]
-fn segments_of(alloc: Global, bytes: &[u8], end: usize) -> Result<(Vec<Seg>, &[u8]), DataFault>
+fn segments_of(
+    alloc: Global,
+    bytes: &[u8],
+    end: usize,
+) -> Result<(CompactList<Seg>, &[u8]), DataFault>
     requires { length bytes.now ≤ end }
-    ensures value { Gives (λ x. (x.0.items, x.1.now)) result (segments_at end bytes.now) }
+    ensures value { Gives (λ x. (x.0, x.1.now)) result (segments_at end bytes.now) }
     ensures shorter { IfOk result (λ x. length x.1.now < length bytes.now) }
 {
     match bytes {
         [] => Err(DataFault::Short { at: end }),
-        [NULL_NAME, rest @ ..] => Ok((Vec::new(alloc), rest)),
+        [NULL_NAME, rest @ ..] => Ok((CompactList::from_slice(alloc, &[])?, rest)),
         [DUAL_NAME_PREFIX, rest @ ..] => several_of(alloc, rest, end, 2),
         [MULTI_NAME_PREFIX, rest @ ..] => many_of(alloc, rest, end),
-        [_, ..] => several_of(alloc, bytes, end, 1),
+        [_, ..] => single_of(alloc, bytes, end),
     }
 }
 
@@ -105,6 +124,5 @@ pub fn name_of(alloc: Global, bytes: &[u8], end: usize) -> Result<(Path, &[u8]),
 {
     let (root, ups, rest) = prefix_of(bytes);
     let (segs, after) = segments_of(alloc, rest, end)?;
-    let segs = CompactList::from_vec(alloc, segs)?;
     Ok((Path { root, ups, segs }, after))
 }

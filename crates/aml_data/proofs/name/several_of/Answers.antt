@@ -6,7 +6,7 @@ use Rattle.aml_data.proofs.name.several_of.Goals as goal
 
 pub returns-in_err-segment-clause-value : goal.returns-in_err-segment-clause-value
 returns-in_err-segment-clause-value c =
-    let p = err_from_is_err_and c.from_residual.result c.from_residual.ensures.1 in
+    let p = err_from_is_err_and c.from_residual-in_err-segment.result c.from_residual-in_err-segment.ensures.1 in
     let all = several_at c.args.count c.args.end c.args.bytes.now in
     let ends = segments_end c.loop.segs.items c.args.end c.args.count c.loop.counter c.loop.rest.now c.in_err-segment.field-0.0 all in
     rw (p.1, p.2) (λ _. ends c.loop-test.true c.in_err-segment.ensures.value c.loop.invariant.so_far)
