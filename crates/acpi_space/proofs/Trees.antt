@@ -13,7 +13,7 @@ use Rattle.std.proofs.lemmas.List.Elements.{Contains-get_or, Contains-append_cas
 use Rattle.acpi_space.specs.declared.tree.Name.{Name}
 use Rattle.acpi_space.specs.Distinct.{IsDistinct}
 use Rattle.acpi_space.specs.Places.{Place, up}
-use Rattle.acpi_space.specs.inner.Trees.{Key, key_cmp, key_of, below, places_from, places_in, IsTree, IsAt, back_of, no_name, IsBeginning, IsClosed, IsNext, Reaches}
+use Rattle.acpi_space.specs.inner.Trees.{Key, key_cmp, key_of, below, places_from, places_in, IsTree, IsAt, back_of, no_name, IsBeginning, IsClosed, IsNext, IsSame, Reaches}
 use Rattle.acpi_space.proofs.Seen.{IsDistinct-push}
 
 pub subst2 : {A B : Type 0} (P : A → B → Type 0) {a a' : A} {b b' : B} → a ≡ a' → b ≡ b' → P a b → P a' b'
@@ -253,15 +253,27 @@ above_answer ns map at n places tree v inside some is =
     ap (λ k. get_or (places_in ns) k []) back ∙ named ns (at - 1) n within up ∙ ap (λ (m : Name). below (places_in ns) m.above m.seg) (sym is) in
     (subst (λ t. get_or t at [] ≡ below t n.above n.seg) v stands, omega arith)
 
-pub same_map : (ns ms : List Name) (map map' : BTreeMap Key ℕ) → IsTree ns map → ms ≡ ns → map'.entries ≡ map.entries → IsTree ms map'
-same_map ns ms map map' tree same e = rw same (record {
+-- a map that tells the same of each key tells the same tree
+pub same_answers : (ns ms : List Name) (map map' : BTreeMap Key ℕ) → IsTree ns map → ms ≡ ns → IsSame map map' → IsTree ms map'
+same_answers ns ms map map' tree same e = rw same (record {
   above = tree.above;
   depth = tree.depth;
   back = tree.back;
   distinct = tree.distinct;
-  all = λ i d l. ap (λ es. lookup (is_at (key_cmp (key_of (get_or ns i d)))) es) e ∙ tree.all i d l;
-  only = λ q k told. tree.only q k (sym (ap (λ es. lookup (is_at (key_cmp q)) es) e) ∙ told);
+  all = λ i d l. e (key_of (get_or ns i d)) ∙ tree.all i d l;
+  only = λ q k told. tree.only q k (sym (e q) ∙ told);
 })
+
+pub same_map : (ns ms : List Name) (map map' : BTreeMap Key ℕ) → IsTree ns map → ms ≡ ns → map'.entries ≡ map.entries → IsTree ms map'
+same_map ns ms map map' tree same e = same_answers ns ms map map' tree same (λ q. ap (λ es. lookup (is_at (key_cmp q)) es) e)
+
+-- a map that is told a number, and then again what it knew, tells the same of each key
+pub told_again : (map mid map' : BTreeMap Key ℕ) (key : Key) (number known : ℕ) → get key_cmp map key ≡ Some known → Updates key_cmp map mid key (Some number)
+    → Updates key_cmp mid map' key (Some known) → IsSame map map'
+told_again map mid map' key number known was first second q = elim (choice (is_at (key_cmp key) q)) [
+  | inl same ↦ second.0 q ∙ rw same (sym was ∙ ap (λ (k : Key). get key_cmp map k) (equal_keys key q same))
+  | inr other ↦ second.0 q ∙ rw other (first.0 q ∙ rw other refl)
+]
 
 pub added_view : (ns ms : List Name) (n : Name) (places : List Place) → places_in ns ≡ places → ms ≡ ns ++ n ∷ [] → places_in ms ≡ places ++ below places n.above n.seg ∷ []
 added_view ns ms n places v e = ap places_in e ∙ pushed ([] ∷ []) ns n ∙ ap (λ t. t ++ below t n.above n.seg ∷ []) v

@@ -69,7 +69,7 @@ impl<'a> Building<'a> {
         ensures done { Does self.old result self.new
             (λ _. gives width (get_or self.old.tree start [] ++ segs.now) (thing object.entry) ∷ []) }
     {
-        let name = self.tree.reach(start, segs)?;
+        let name = self.tree.settle(start, segs)?;
         self.tree.facts();
         if number_at(self.index.as_slice(), name).is_some() {
             let path = self.tree.path(alloc, name)?;

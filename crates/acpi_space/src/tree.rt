@@ -2,11 +2,11 @@
 
 ghost use Rattle.std.specs.Prelude.{◌≡◌, ◌⊎◌, ◌≤◌, ◌<◌, ◌+◌, ◌-◌, ◌^◌, ℕ, [], ◌∷◌, ◌++◌, List as list};
 ghost use Rattle.std.specs.Prelude.{length, take, get_or, if◌then◌else◌};
-ghost use Rattle.std.specs.Prelude.{Contains, MatchOption, IfOk, IfSome, OnOk};
+ghost use Rattle.std.specs.Prelude.{Contains, MatchOption, IfOk, IfSome, OnErr, OnOk};
 ghost use Rattle.acpi_space.specs.Places.{Place as place, opened, place_of, up};
 ghost use Rattle.acpi_space.specs.declared.tree.Name.{Name as name_type};
 ghost use Rattle.acpi_space.specs.inner.Trees.{back_of, below, places_in, IsAt, IsClosed, IsGrown, IsNext, IsOrdered};
-ghost use Rattle.acpi_space.specs.inner.Trees.{HasNoneFrom, IsLast, IsNearest, IsNowhere, IsRisen, Knows, Reaches};
+ghost use Rattle.acpi_space.specs.inner.Trees.{HasNoneFrom, IsLast, IsNearest, IsNowhere, IsRisen, IsTold, Knows, Reaches};
 ghost use Rattle.acpi_space.specs.Distinct.{IsDistinct};
 
 use aml_data::{FullPath, Path, Seg};
@@ -90,18 +90,21 @@ impl Tree {
         depth_in(self.names.as_slice(), at)
     }
 
-    /// Adds a place that isn't one of the tree.
-    fn add(&mut self, at: usize, seg: Seg) -> Result<usize, Memory>
-        requires within { at < length self.old }
-        requires fresh { Contains self.old (below self.old at seg) → ⊥ }
-        ensures { IfOk result (λ k. (k ≡ length self.old)
-            × (self.new ≡ self.old ++ below self.old at seg ∷ [])) }
+    /// The place of a segment below a place, mostly one that isn't there yet: the map is looked up but once
+    /// for it.
+    fn enter(&mut self, at: usize, seg: Seg) -> Result<usize, Memory>
+        requires { at < length self.old }
+        ensures { IfOk result (λ k. Reaches self.old self.new k (below self.old at seg)) }
     {
         let name = next_name(self.names.as_slice(), at, seg);
         self.names.push(name)?;
         let number = self.names.len();
-        match self.numbers.insert((seg, at), number) {
-            Ok(_) => Ok(number),
+        match tell(&mut self.numbers, seg, at, number) {
+            Ok(None) => Ok(number),
+            Ok(Some(known)) => {
+                let _ = self.names.pop();
+                Ok(known)
+            }
             Err(_) => {
                 let _ = self.names.pop();
                 Err(Memory)
@@ -116,7 +119,7 @@ impl Tree {
     {
         match self.child(at, seg) {
             Some(number) => Ok(number),
-            None => self.add(at, seg),
+            None => self.enter(at, seg),
         }
     }
 
@@ -130,6 +133,20 @@ impl Tree {
             here = self.step(here, *seg)?;
         }
         Ok(here)
+    }
+
+    /// The same, where the last segment mostly leads to a place that isn't there yet.
+    pub(crate) fn settle(&mut self, at: usize, segs: &[Seg]) -> Result<usize, Memory>
+        requires { at < length self.old }
+        ensures { IfOk result (λ k. Reaches self.old self.new k (get_or self.old at [] ++ segs.now)) }
+    {
+        match segs.split_last() {
+            None => Ok(at),
+            Some((last, before)) => {
+                let above = self.reach(at, before)?;
+                self.enter(above, *last)
+            }
+        }
     }
 
     /// The place so many steps up from a place; above the root it is the root.
@@ -311,6 +328,26 @@ impl Tree {
     {
         let _ = &self.names;
     }
+}
+
+/// Tells a map a number where it knows none, and else answers the one that it knows.
+fn tell(
+    map: &mut BTreeMap<(Seg, usize), usize>,
+    seg: Seg,
+    at: usize,
+    number: usize,
+) -> Result<Option<usize>, Memory>
+    ensures told { IfOk result (IsTold map.old map.new (seg, at) number) }
+    ensures err { OnErr result (map.new.entries ≡ map.old.entries) }
+{
+    let known = map.insert((seg, at), number)?;
+    if let Some(before) = known {
+        match map.insert((seg, at), before) {
+            Ok(_) => {}
+            Err(_) => unreachable!(),
+        }
+    }
+    Ok(known)
 }
 
 /// How many segments a place has.

@@ -1,9 +1,9 @@
 -- Places as a tree of names: place 0 is the root, and each name is one more place, below one that stands before it.
-use Rattle.std.specs.Prelude.{◌≡◌, ◌⊎◌, ◌≤◌, ◌<◌, ℕ, zero, suc, ◌+◌, true, List, [], ◌∷◌, ◌++◌, length, take, get_or, Contains, Some}
+use Rattle.std.specs.Prelude.{◌≡◌, ◌⊎◌, ◌≤◌, ◌<◌, ℕ, zero, suc, ◌+◌, true, List, [], ◌∷◌, ◌++◌, length, take, get_or, Contains, Option, None, Some}
 use Rattle.std.specs.Ordering.{nat_cmp, ordering_then}
 use Rattle.std.specs.declared.cmp.Ordering.{Ordering}
 use Rattle.std.specs.Cmp.Lexicographic.{slice_cmp}
-use Rattle.std.specs.BTreeMap.{BTreeMap, get}
+use Rattle.std.specs.BTreeMap.{BTreeMap, get, Updates}
 use Rattle.acpi_space.specs.declared.tree.Name.{Name}
 use Rattle.acpi_space.specs.Places.{Place, is_known}
 use Rattle.acpi_space.specs.Distinct.{IsDistinct}
@@ -55,6 +55,15 @@ pub record IsTree (names : List Name) (map : BTreeMap Key ℕ) : Type 0 where
 pub record IsNext (names : List Name) (n : Name) : Type 0 where
   pub depth : n.depth ≡ length (get_or (places_in names) n.above []) + 1
   pub back : (n.back ≡ 0) ⊎ ((n.above ≡ length names) × (n.back ≤ back_of names (length names) + 1))
+
+-- two maps tell the same of each key
+abbrev pub IsSame : BTreeMap Key ℕ → BTreeMap Key ℕ → Type 0
+IsSame old new = (q : Key) → get key_cmp new q ≡ get key_cmp old q
+
+-- a map that is told a number knows it, where it knew none, and else what it knew: that is the answer
+abbrev pub IsTold : BTreeMap Key ℕ → BTreeMap Key ℕ → Key → ℕ → Option ℕ → Type 0
+IsTold old new key number None = (get key_cmp old key ≡ None) × Updates key_cmp old new key (Some number)
+IsTold old new key number (Some known) = (get key_cmp old key ≡ Some known) × IsSame old new
 
 -- the place of this number is this one
 abbrev pub IsAt : List Place → ℕ → Place → Type 0

@@ -16,7 +16,7 @@ returns-then-is_some-clause-done c before stands =
     let told = some_there (told_at old.index.items name) (ap is_some (ap (λ l. told_at l name) (sym c.as_slice.ensures.value) ∙ sym c.number_at.ensures) ∙ sym c.is_some.ensures ∙ c.if-is_some.true) in
     let segs : c.in_ok-path.path.segs ≡ place = c.in_ok-path.ensures ∙ c.in_ok-name.ensures.here.1 in
     subst (IsFirstRepeat (places_of (entries_of (before ++ gives c.args.width place (thing c.args.object) ∷ [])))) (sym segs)
-    (given_twice old.tree c.reach.new.self old.placed.items old.index.items before name told.0 place c.args.width (thing c.args.object) stands c.in_ok-name.ensures c.facts.ensures.closed told.1)
+    (given_twice old.tree c.settle.new.self old.placed.items old.index.items before name told.0 place c.args.width (thing c.args.object) stands c.in_ok-name.ensures c.facts.ensures.closed told.1)
 
 pub returns-clause-done : goal.returns-clause-done
 returns-clause-done c before stands =
@@ -27,5 +27,5 @@ returns-clause-done c before stands =
     let count = c.len-index.ensures ∙ old.placed.ok.0 in
     let noted = subst (λ n. IsNoted old.index.items c.note.new.index.items name n) count c.in_ok-note.ensures in
     rw (c.in_ok-push.ensures.items, count)
-    (after_placing old.tree c.reach.new.self old.placed.items old.index.items c.note.new.index.items before name place c.args.width c.args.object stands c.in_ok-name.ensures c.facts.ensures.closed
+    (after_placing old.tree c.settle.new.self old.placed.items old.index.items c.note.new.index.items before name place c.args.width c.args.object stands c.in_ok-name.ensures c.facts.ensures.closed
     c.facts.ensures.distinct free noted)
