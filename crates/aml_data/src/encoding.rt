@@ -13,6 +13,7 @@ use crate::limits::{DEEPEST, LONGEST_CONTENT, TOO_LONG};
 use crate::opcode::{
     BUFFER_OP, EXT_OP_PREFIX, ONES_OP, PACKAGE_OP, REVISION_OP, STRING_PREFIX, VAR_PACKAGE_OP,
 };
+use crate::writing::encode_constant;
 use pw_base::Memory;
 use std::alloc::Global;
 
@@ -124,11 +125,14 @@ fn fill_elements(elements: &[Data], depth: u32, room: &mut [u8], end: usize) -> 
 
 /// Appends the written form of a data object: of every part the shortest spelling (ACPI 6.5, 20.2).
 /// After want of memory the vector is as it was.
-pub fn encode(_alloc: Global, value: &Data, out: &mut Vec<u8>) -> Result<(), Memory>
+pub fn encode(alloc: Global, value: &Data, out: &mut Vec<u8>) -> Result<(), Memory>
     requires { IsWritable value.now }
     ensures ok { OnOk result (out.new.items ≡ out.old.items ++ written value.now) }
     ensures err { OnErr result (out.new.items ≡ out.old.items) }
 {
+    if let Data::Int(number) = value {
+        return encode_constant(alloc, *number, out);
+    }
     let end = out.len() + written_len(value) as usize;
     out.resize(end, 0)?;
     fill_object(value, DEEPEST, out.as_mut_slice(), end);
