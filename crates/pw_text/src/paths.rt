@@ -1,4 +1,4 @@
-ghost use Rattle.std.specs.Prelude.{◌≡◌, ◌∷◌, is_ok};
+ghost use Rattle.std.specs.Prelude.{◌≡◌, ◌∷◌, ◌++◌, is_ok};
 ghost use Rattle.std.specs.List.{flat_map};
 ghost use Rattle.pw_text.specs.Puts.{PutsText};
 ghost use Rattle.pw_text.specs.Text.{place_text, path_prefix, path_text, segments_text};
@@ -12,10 +12,11 @@ pub fn put_place<K: Sink>(page: &mut Page, sink: &mut K, segs: &[Seg]) -> Result
     ensures { PutsText K.Sink sink.old sink.new page.old page.new
         (place_text segs.now) (is_ok result) }
 {
-    match segs.split_first() {
-        None => page.put(sink, b"\\"),
-        Some((first, rest)) => {
-            put_behind(page, sink, b'\\', *first)?;
+    match segs {
+        [] => page.put(sink, b"\\"),
+        [first] => put_behind(page, sink, b'\\', *first),
+        [first, second, rest @ ..] => {
+            put_two(page, sink, *first, *second)?;
             put_behind_dots(page, sink, rest)
         }
     }
@@ -72,4 +73,14 @@ fn put_behind<K: Sink>(page: &mut Page, sink: &mut K, lead: u8, seg: Seg) -> Res
 {
     let [a, b, c, d] = seg.bytes();
     page.put(sink, &[lead, a, b, c, d])
+}
+
+/// Puts the first two segments of a place.
+fn put_two<K: Sink>(page: &mut Page, sink: &mut K, first: Seg, second: Seg) -> Result<(), Failed>
+    ensures { PutsText K.Sink sink.old sink.new page.old page.new
+        (92 ∷ first ++ 46 ∷ second) (is_ok result) }
+{
+    let [a, b, c, d] = first.bytes();
+    let [e, f, g, h] = second.bytes();
+    page.put(sink, &[b'\\', a, b, c, d, b'.', e, f, g, h])
 }
