@@ -13,7 +13,7 @@ use Rattle.std.proofs.lemmas.List.Elements.{Contains-get_or, Contains-append_cas
 use Rattle.acpi_space.specs.declared.tree.Name.{Name}
 use Rattle.acpi_space.specs.Distinct.{IsDistinct}
 use Rattle.acpi_space.specs.Places.{Place, up}
-use Rattle.acpi_space.specs.inner.Trees.{Key, key_cmp, key_of, below, places_from, places_in, IsTree, IsAt, back_of, no_name, IsBeginning, IsClosed, IsNext, IsSame, Reaches}
+use Rattle.acpi_space.specs.inner.Trees.{Key, key, key_cmp, key_of, below, places_from, places_in, IsTree, IsAt, back_of, no_name, IsBeginning, IsClosed, IsNext, IsSame, Reaches}
 use Rattle.acpi_space.proofs.Seen.{IsDistinct-push}
 
 pub subst2 : {A B : Type 0} (P : A → B → Type 0) {a a' : A} {b b' : B} → a ≡ a' → b ≡ b' → P a b → P a' b'
@@ -105,9 +105,9 @@ is_equal Equal e = refl
 is_equal Greater e = absurd (false≢true e)
 
 pub equal_keys : (a b : Key) → is_at (key_cmp a) b ≡ true → a ≡ b
-equal_keys (s, x) (t, y) e =
+equal_keys a b e =
     let both = then_equal _ _ (is_equal _ e) in
-    rw (slice_cmp-IsAntisymmetric nat_cmp-IsAntisymmetric s t both.0, nat_cmp-IsAntisymmetric x y both.1) refl
+    sym (ap2 key (slice_cmp-IsAntisymmetric nat_cmp-IsAntisymmetric b.0.0 a.0.0 both.0) (nat_cmp-IsAntisymmetric b.0.1 a.0.1 both.1))
 
 pub choice : (b : Bool) → (b ≡ true) ⊎ (b ≡ false)
 choice true = inl refl
@@ -123,12 +123,12 @@ same_some e = cc
 
 -- the place that the map tells
 pub child_there : (ns : List Name) (map : BTreeMap Key ℕ) (at : ℕ) (s : List ℕ) (k : ℕ) → IsTree ns map
-    → get key_cmp map (s, at) ≡ Some k → IsAt (places_in ns) k (below (places_in ns) at s)
+    → get key_cmp map (key s at) ≡ Some k → IsAt (places_in ns) k (below (places_in ns) at s)
 child_there ns map at s k tree e =
-    let (i, is, within, keyed) = tree.only (s, at) k e in
+    let (i, is, within, keyed) = tree.only (key s at) k e in
     let size = length_in ns in
     let stands = named ns i no_name within (tree.above i no_name within) in
-    (omega (arith, size, is, within), ap (λ j. get_or (places_in ns) j []) is ∙ stands ∙ ap (λ (q : Key). below (places_in ns) q.1 q.0) (keyed no_name))
+    (omega (arith, size, is, within), ap (λ j. get_or (places_in ns) j []) is ∙ stands ∙ ap (λ (q : Key). below (places_in ns) q.0.1 q.0.0) (keyed no_name))
 
 -- a place is the root, or stands below one
 pub root_or_below : (ns : List Name) (map : BTreeMap Key ℕ) (k : ℕ) → IsTree ns map → k < length (places_in ns)
@@ -165,13 +165,13 @@ closed ns map tree q s among =
 
 -- a place of the tree is told by the map
 pub child_told : (ns : List Name) (map : BTreeMap Key ℕ) (at : ℕ) (s : List ℕ) → IsTree ns map → at < length (places_in ns)
-    → get key_cmp map (s, at) ≡ None → Contains (places_in ns) (below (places_in ns) at s) → ⊥
+    → get key_cmp map (key s at) ≡ None → Contains (places_in ns) (below (places_in ns) at s) → ⊥
 child_told ns map at s tree inside none among =
     let (i, within, up_inside, is, seg) = above_there ns map (get_or (places_in ns) at []) s tree among in
     let same = same_index (places_in ns) (get_or ns i no_name).above at [] tree.distinct up_inside inside is in
     let told = tree.all i no_name within in
-    let key : key_of (get_or ns i no_name) ≡ (s, at) = rw (seg, same) refl in
-    some_none (ap (get key_cmp map) (sym key) ∙ told) none
+    let keyed : key_of (get_or ns i no_name) ≡ key s at = rw (seg, same) refl in
+    some_none (ap (get key_cmp map) (sym keyed) ∙ told) none
 
 -- names before a new one tell the same
 back_stays : (ns : List Name) (n : Name) (i : ℕ) → i ≤ length ns → back_of (ns ++ n ∷ []) i ≡ back_of ns i
@@ -187,13 +187,13 @@ new_place ns n k e = ap (λ ps. get_or ps k []) (pushed ([] ∷ []) ns n) ∙ ge
 -- one more place
 pub added : (ns : List Name) (map map' : BTreeMap Key ℕ) (n : Name) → IsTree ns map → n.above < length (places_in ns) → IsNext ns n
     → (Contains (places_in ns) (below (places_in ns) n.above n.seg) → ⊥)
-    → Updates key_cmp map map' (n.seg, n.above) (Some (length ns + 1)) → IsTree (ns ++ n ∷ []) map'
+    → Updates key_cmp map map' (key n.seg n.above) (Some (length ns + 1)) → IsTree (ns ++ n ∷ []) map'
 added ns map map' n tree inside next fresh updates =
     let size = length_in ns in
     let more = length_push ns n in
-    let key : Key = (n.seg, n.above) in
+    let new_key : Key = key n.seg n.above in
     let P = below (places_in ns) n.above n.seg in
-    let new : (k : ℕ) → get key_cmp map key ≡ Some k → ⊥ = λ k e. (let there = child_there ns map n.above n.seg k tree e in
+    let new : (k : ℕ) → get key_cmp map new_key ≡ Some k → ⊥ = λ k e. (let there = child_there ns map n.above n.seg k tree e in
     fresh (subst (Contains (places_in ns)) there.1 (Contains-get_or (places_in ns) k [] there.0))) in
     record {
       above = λ i d l. elim (cases_lt i (length ns)) [
@@ -214,18 +214,18 @@ added ns map map' n tree inside next fresh updates =
       all = λ i d l. elim (cases_lt i (length ns)) [
         | inl old ↦
             let told = tree.all i d old in
-            let other : is_at (key_cmp key) (key_of (get_or ns i d)) ≡ false = (elim (choice (is_at (key_cmp key) (key_of (get_or ns i d)))) [
-              | inl hit ↦ absurd (new (i + 1) (ap (get key_cmp map) (equal_keys key _ hit) ∙ told))
+            let other : is_at (key_cmp new_key) (key_of (get_or ns i d)) ≡ false = (elim (choice (is_at (key_cmp new_key) (key_of (get_or ns i d)))) [
+              | inl hit ↦ absurd (new (i + 1) (ap (get key_cmp map) (equal_keys new_key _ hit) ∙ told))
               | inr miss ↦ miss
             ]) in
             rw (get_or_append_left ns (n ∷ []) d i old) (updates.2 (key_of (get_or ns i d)) other ∙ told)
         | inr end ↦ let e : length ns ≡ i = omega arith in rw (get_or_push ns n d i e, ← e) updates.1
       ];
-      only = λ q k e. elim (choice (is_at (key_cmp key) q)) [
+      only = λ q k e. elim (choice (is_at (key_cmp new_key) q)) [
         | inl hit ↦
             let is : Some (length ns + 1) ≡ Some k = sym (updates.0 q ∙ (rw hit refl)) ∙ e in
             let number = same_some is in
-            (length ns, sym number, omega arith, λ d. rw (get_or_push ns n d (length ns) refl) (equal_keys key q hit))
+            (length ns, sym number, omega arith, λ d. rw (get_or_push ns n d (length ns) refl) (equal_keys new_key q hit))
         | inr miss ↦
             let (i, is, within, keyed) = tree.only q k (sym (updates.0 q ∙ (rw miss refl)) ∙ e) in
             (i, is, omega arith, λ d. rw (get_or_append_left ns (n ∷ []) d i within) (keyed d))
@@ -235,7 +235,7 @@ added ns map map' n tree inside next fresh updates =
 -- ---- what the calls of a tree answer
 
 pub child_answer : (ns : List Name) (map : BTreeMap Key ℕ) (at : ℕ) (s : List ℕ) (places : List Place) → IsTree ns map → places_in ns ≡ places → at < length places
-    → (r : Option ℕ) → r ≡ get key_cmp map (s, at) → MatchOption r (Contains places (below places at s) → ⊥) (λ k. IsAt places k (below places at s))
+    → (r : Option ℕ) → r ≡ get key_cmp map (key s at) → MatchOption r (Contains places (below places at s) → ⊥) (λ k. IsAt places k (below places at s))
 child_answer ns map at s places tree v inside None e = subst (λ t. Contains t (below t at s) → ⊥) v (child_told ns map at s tree (subst (λ t. at < length t) (sym v) inside) (sym e))
 child_answer ns map at s places tree v inside (Some k) e = subst (λ t. IsAt t k (below t at s)) v (child_there ns map at s k tree (sym e))
 
@@ -268,10 +268,10 @@ pub same_map : (ns ms : List Name) (map map' : BTreeMap Key ℕ) → IsTree ns m
 same_map ns ms map map' tree same e = same_answers ns ms map map' tree same (λ q. ap (λ es. lookup (is_at (key_cmp q)) es) e)
 
 -- a map that is told a number, and then again what it knew, tells the same of each key
-pub told_again : (map mid map' : BTreeMap Key ℕ) (key : Key) (number known : ℕ) → get key_cmp map key ≡ Some known → Updates key_cmp map mid key (Some number)
-    → Updates key_cmp mid map' key (Some known) → IsSame map map'
-told_again map mid map' key number known was first second q = elim (choice (is_at (key_cmp key) q)) [
-  | inl same ↦ second.0 q ∙ rw same (sym was ∙ ap (λ (k : Key). get key_cmp map k) (equal_keys key q same))
+pub told_again : (map mid map' : BTreeMap Key ℕ) (k : Key) (number known : ℕ) → get key_cmp map k ≡ Some known → Updates key_cmp map mid k (Some number)
+    → Updates key_cmp mid map' k (Some known) → IsSame map map'
+told_again map mid map' k number known was first second q = elim (choice (is_at (key_cmp k) q)) [
+  | inl same ↦ second.0 q ∙ rw same (sym was ∙ ap (λ (j : Key). get key_cmp map j) (equal_keys k q same))
   | inr other ↦ second.0 q ∙ rw other (first.0 q ∙ rw other refl)
 ]
 
@@ -280,10 +280,10 @@ added_view ns ms n places v e = ap places_in e ∙ pushed ([] ∷ []) ns n ∙ a
 
 pub added_tree : (ns ms : List Name) (map map' : BTreeMap Key ℕ) (n : Name) (places : List Place) (number : ℕ) → IsTree ns map → places_in ns ≡ places → n.above < length places → IsNext ns n
     → (Contains places (below places n.above n.seg) → ⊥) → ms ≡ ns ++ n ∷ [] → number ≡ length ns + 1
-    → Updates key_cmp map map' (n.seg, n.above) (Some number) → IsTree ms map'
+    → Updates key_cmp map map' (key n.seg n.above) (Some number) → IsTree ms map'
 added_tree ns ms map map' n places number tree v inside next fresh e count updates =
     rw e (added ns map map' n tree (subst (λ t. n.above < length t) (sym v) inside) next (subst (λ t. Contains t (below t n.above n.seg) → ⊥) (sym v) fresh)
-    (subst (λ k. Updates key_cmp map map' (n.seg, n.above) (Some k)) count updates))
+    (subst (λ k. Updates key_cmp map map' (key n.seg n.above) (Some k)) count updates))
 
 pub reached_added : (old new : List Place) (k : ℕ) (place : Place) → (k ≡ length old) × (new ≡ old ++ place ∷ []) → Reaches old new k place
 reached_added old new k place e = record {
@@ -349,9 +349,9 @@ not_below places segs at i s closed here l is none among =
 
 -- the map tells a place of the tree
 pub told_child : (ns : List Name) (map : BTreeMap Key ℕ) (at : ℕ) (s : List ℕ) → IsTree ns map → at < length (places_in ns) → Contains (places_in ns) (below (places_in ns) at s)
-    → (k : ℕ) × (get key_cmp map (s, at) ≡ Some k)
+    → (k : ℕ) × (get key_cmp map (key s at) ≡ Some k)
 told_child ns map at s tree inside among =
     let (i, within, up_inside, is, seg) = above_there ns map (get_or (places_in ns) at []) s tree among in
     let same = same_index (places_in ns) (get_or ns i no_name).above at [] tree.distinct up_inside inside is in
-    let key : key_of (get_or ns i no_name) ≡ (s, at) = rw (seg, same) refl in
-    (i + 1, ap (get key_cmp map) (sym key) ∙ tree.all i no_name within)
+    let keyed : key_of (get_or ns i no_name) ≡ key s at = rw (seg, same) refl in
+    (i + 1, ap (get key_cmp map) (sym keyed) ∙ tree.all i no_name within)

@@ -6,12 +6,13 @@ ghost use Rattle.std.specs.Prelude.{Contains, MatchOption, IfOk, IfSome, OnErr, 
 ghost use Rattle.acpi_space.specs.Places.{Place as place, opened, place_of, up};
 ghost use Rattle.acpi_space.specs.declared.tree.Name.{Name as name_type};
 ghost use Rattle.acpi_space.specs.inner.Trees.{back_of, below, places_in, IsAt, IsClosed, IsGrown, IsNext, IsOrdered};
-ghost use Rattle.acpi_space.specs.inner.Trees.{HasNoneFrom, IsLast, IsNearest, IsNowhere, IsRisen, IsTold, Knows, Reaches};
+ghost use Rattle.acpi_space.specs.inner.Trees.{HasNoneFrom, IsLast, IsNearest, IsNowhere, IsRisen, IsTold, key, Knows, Reaches};
 ghost use Rattle.acpi_space.specs.Distinct.{IsDistinct};
 
 use aml_data::{FullPath, Path, Seg};
 use pw_base::{List, Memory, Room};
 use std::alloc::Global;
+use std::cmp::Reverse;
 use std::collections::BTreeMap;
 use std::marker::Model;
 
@@ -29,7 +30,9 @@ pub(crate) struct Name {
 #[derive(Drop)]
 pub(crate) struct Tree {
     names: Vec<Name>,
-    numbers: BTreeMap<(Seg, usize), usize>,
+    /// From a segment and the place above it to a number. The greatest stand first, since most names rise and
+    /// the map looks through a node from its first key on.
+    numbers: BTreeMap<Reverse<(Seg, usize)>, usize>,
 }
 
 impl Model for Tree {
@@ -64,7 +67,7 @@ impl Tree {
         ensures { MatchOption result (Contains self.now (below self.now at seg) → ⊥)
             (λ k. IsAt self.now k (below self.now at seg)) }
     {
-        self.numbers.get(&(seg, at)).copied()
+        self.numbers.get(&Reverse((seg, at))).copied()
     }
 
     /// The place above a place, and the segment below that; the root has none.
@@ -193,9 +196,10 @@ impl Tree {
         requires { most < length self.now }
         ensures { MatchOption result (HasNoneFrom self.now seg 0 most) (IsLast self.now seg most) }
     {
-        let mut known = self.numbers.range((seg, 0)..=(seg, most));
-        match known.next_back() {
-            Some((key, number)) => Some((key.1, *number)),
+        let between = Reverse((seg, most))..=Reverse((seg, 0));
+        let mut known = self.numbers.range(between);
+        match known.next() {
+            Some((key, number)) => Some((key.0.1, *number)),
             None => None,
         }
     }
@@ -332,17 +336,17 @@ impl Tree {
 
 /// Tells a map a number where it knows none, and else answers the one that it knows.
 fn tell(
-    map: &mut BTreeMap<(Seg, usize), usize>,
+    map: &mut BTreeMap<Reverse<(Seg, usize)>, usize>,
     seg: Seg,
     at: usize,
     number: usize,
 ) -> Result<Option<usize>, Memory>
-    ensures told { IfOk result (IsTold map.old map.new (seg, at) number) }
+    ensures told { IfOk result (IsTold map.old map.new (key seg at) number) }
     ensures err { OnErr result (map.new.entries ≡ map.old.entries) }
 {
-    let known = map.insert((seg, at), number)?;
+    let known = map.insert(Reverse((seg, at)), number)?;
     if let Some(before) = known {
-        match map.insert((seg, at), before) {
+        match map.insert(Reverse((seg, at)), before) {
             Ok(_) => {}
             Err(_) => unreachable!(),
         }

@@ -2,21 +2,25 @@
 use Rattle.std.specs.Prelude.{◌≡◌, ◌⊎◌, ◌≤◌, ◌<◌, ℕ, zero, suc, ◌+◌, true, List, [], ◌∷◌, ◌++◌, length, take, get_or, Contains, Option, None, Some}
 use Rattle.std.specs.Ordering.{nat_cmp, ordering_then}
 use Rattle.std.specs.declared.cmp.Ordering.{Ordering}
+use Rattle.std.specs.declared.cmp.Reverse.{Reverse}
 use Rattle.std.specs.Cmp.Lexicographic.{slice_cmp}
 use Rattle.std.specs.BTreeMap.{BTreeMap, get, Updates}
 use Rattle.acpi_space.specs.declared.tree.Name.{Name}
 use Rattle.acpi_space.specs.Places.{Place, is_known}
 use Rattle.acpi_space.specs.Distinct.{IsDistinct}
 
--- a segment, and the number of the place that it stands below
+-- a segment, and the number of the place that it stands below; the greatest comes first
 abbrev pub Key : Type 0
-Key = List ℕ × ℕ
+Key = Reverse (List ℕ × ℕ)
 
 abbrev pub key_cmp : Key → Key → Ordering
-key_cmp a b = ordering_then (slice_cmp nat_cmp a.0 b.0) (nat_cmp a.1 b.1)
+key_cmp a b = ordering_then (slice_cmp nat_cmp b.0.0 a.0.0) (nat_cmp b.0.1 a.0.1)
+
+abbrev pub key : List ℕ → ℕ → Key
+key seg above = record { 0 = (seg, above) }
 
 abbrev pub key_of : Name → Key
-key_of name = (name.seg, name.above)
+key_of name = key name.seg name.above
 
 pub no_name : Name
 no_name = record { above = 0; depth = 0; seg = []; back = 0 }

@@ -4,7 +4,7 @@ use Rattle.std.specs.BTreeMap.{Updates}
 use Rattle.std.specs.Vec.{vec_len}
 use Rattle.std.proofs.lemmas.List.{take_at}
 use Rattle.acpi_space.specs.declared.tree.Name.{Name}
-use Rattle.acpi_space.specs.inner.Trees.{IsNext, IsTold, Reaches, below, key_cmp, places_in}
+use Rattle.acpi_space.specs.inner.Trees.{IsNext, IsTold, Reaches, below, key, key_cmp, places_in}
 use Rattle.acpi_space.proofs.Trees.{added_tree, added_view, ap2, child_answer, length_in, reached_added, reached_there, same_answers, same_map, subst2}
 use Rattle.acpi_space.proofs.Rising.{short}
 use Rattle.acpi_space.proofs.tree.Tree.enter.Goals as goal
@@ -22,14 +22,14 @@ invariant_of-self-in-Ok-None c =
     let number = c.len-number.ensures in
     let above = c.next_name-name.ensures.above in
     let seg = c.next_name-name.ensures.seg in
-    let told = subst (IsTold c.self.inside.numbers c.tell.new.map (c.args.seg, c.args.at) c.len-number.result) c.in-Ok-None.field-0-is c.in-Ok-None.ensures.told in
+    let told = subst (IsTold c.self.inside.numbers c.tell.new.map (key c.args.seg c.args.at) c.len-number.result) c.in-Ok-None.field-0-is c.in-Ok-None.ensures.told in
     let inside = c.requires in
     added_tree ns c.push.new.self.items c.self.inside.numbers c.tell.new.map n c.args.self.now c.len-number.result c.self.invariant c.self.view_is (omega (arith, above, inside))
     (subst (λ names. IsNext names n) c.as_slice.ensures.value c.next_name-name.ensures.next)
     (subst2 (λ a s. Contains c.args.self.now (below c.args.self.now a s) → ⊥) (sym above) (sym seg)
     (child_answer ns c.self.inside.numbers c.args.at c.args.seg c.args.self.now c.self.invariant c.self.view_is inside None (sym told.0)))
     c.in_ok-push.ensures.items (omega (arith, count, pushed, number))
-    (subst2 (λ s a. Updates key_cmp c.self.inside.numbers c.tell.new.map (s, a) (Some c.len-number.result)) (sym seg) (sym above) told.1)
+    (subst2 (λ s a. Updates key_cmp c.self.inside.numbers c.tell.new.map (key s a) (Some c.len-number.result)) (sym seg) (sym above) told.1)
 
 pub invariant_of-self-in-Ok-Some : goal.invariant_of-self-in-Ok-Some
 invariant_of-self-in-Ok-Some c =
@@ -38,7 +38,7 @@ invariant_of-self-in-Ok-Some c =
     let pushed = c.in_ok-push.ensures.len in
     same_answers ns c.pop.new.self.items c.self.inside.numbers c.tell.new.map c.self.invariant
     (popped ns c.push.new.self.items c.pop.new.self.items c.next_name-name.result (vec_len c.push.new.self - 1) (omega (arith, count, pushed)) c.in_ok-push.ensures.items c.pop.ensures.rest)
-    (subst (IsTold c.self.inside.numbers c.tell.new.map (c.args.seg, c.args.at) c.len-number.result) c.in-Ok-Some.field-0-is c.in-Ok-Some.ensures.told).1
+    (subst (IsTold c.self.inside.numbers c.tell.new.map (key c.args.seg c.args.at) c.len-number.result) c.in-Ok-Some.field-0-is c.in-Ok-Some.ensures.told).1
 
 pub invariant_of-self-in-Err : goal.invariant_of-self-in-Err
 invariant_of-self-in-Err c =
@@ -73,7 +73,7 @@ returns-in-Ok-Some c =
     let pushed = c.in_ok-push.ensures.len in
     let left = popped ns c.push.new.self.items c.pop.new.self.items c.next_name-name.result (vec_len c.push.new.self - 1) (omega (arith, count, pushed)) c.in_ok-push.ensures.items c.pop.ensures.rest in
     subst (λ places. Reaches now places c.in-Ok-Some.known place) (sym (ap places_in left ∙ c.self.view_is))
-    (reached_there now c.in-Ok-Some.known place (child_answer ns c.self.inside.numbers c.args.at c.args.seg now c.self.invariant c.self.view_is c.requires (Some c.in-Ok-Some.known) (sym (subst (IsTold c.self.inside.numbers c.tell.new.map (c.args.seg, c.args.at) c.len-number.result) c.in-Ok-Some.field-0-is c.in-Ok-Some.ensures.told).0)))
+    (reached_there now c.in-Ok-Some.known place (child_answer ns c.self.inside.numbers c.args.at c.args.seg now c.self.invariant c.self.view_is c.requires (Some c.in-Ok-Some.known) (sym (subst (IsTold c.self.inside.numbers c.tell.new.map (key c.args.seg c.args.at) c.len-number.result) c.in-Ok-Some.field-0-is c.in-Ok-Some.ensures.told).0)))
 
 pub next_name-name-requires-clause-within : goal.next_name-name-requires-clause-within
 next_name-name-requires-clause-within c =
