@@ -20,11 +20,11 @@ use Rattle.pw_model.proofs.Maps.{each_passes, fold_min-each, fold_min-least, wea
 
 -- # C states
 
-all_pass : {X : Type 0} (t : X → Bool) (xs : List X) → AllByRecursion (λ x. t x ≡ true) xs → list_all t xs ≡ true
+pub all_pass : {X : Type 0} (t : X → Bool) (xs : List X) → AllByRecursion (λ x. t x ≡ true) xs → list_all t xs ≡ true
 all_pass t [] a = refl
 all_pass t (x ∷ xs) a = and_both (t x) (list_all t xs) a.0 (all_pass t xs a.1)
 
-idle_kind : (k : DomainKind) → is_idle k ≡ same_kind k Idle
+pub idle_kind : (k : DomainKind) → is_idle k ≡ same_kind k Idle
 idle_kind Perf = refl
 idle_kind Throttle = refl
 idle_kind Idle = refl
@@ -76,7 +76,7 @@ max-least : {X : Type 0} (f : X → ℕ) (t least : ℕ) (xs : List X) → least
 max-least f t least [] le a = le
 max-least f t least (x ∷ xs) le a = max-least f t (max least (f x)) xs (let b = a.0 in omega (arith, b)) a.1
 
-of_member : (Q : ℕ → Type 0) (ms : List ℕ) (q : ℕ) → AllByRecursion Q ms → has_member ms q ≡ true → Q q
+pub of_member : (Q : ℕ → Type 0) (ms : List ℕ) (q : ℕ) → AllByRecursion Q ms → has_member ms q ≡ true → Q q
 of_member Q [] q a e = cc
 of_member Q (m ∷ ms) q a e = step (m == q) refl e (of_member Q ms q a.1)
   where

@@ -1,5 +1,5 @@
 -- The register law, from the start over every request of a history.
-use Rattle.std.proofs.Common.{◌≡◌, ◌≢◌, ◌<◌, ◌==◌, ℕ, Bool, true, false, cond, List, [], ◌∷◌, ◌++◌, map, length, Option, Some, None, refl, ap, sym, arith, append_assoc, append-nil}
+use Rattle.std.proofs.Common.{◌≡◌, ◌≢◌, ◌==◌, ℕ, Bool, true, false, cond, List, [], ◌∷◌, ◌++◌, map, Option, Some, None, refl, ap, sym, arith, append_assoc, append-nil}
 use Rattle.std.specs.List.{AllByRecursion}
 use Rattle.std.proofs.lemmas.Bool.Decides.{nat_tests}
 use Rattle.acpi_values.specs.declared.idle.IdleKind.{IdleKind}
@@ -15,7 +15,7 @@ use Rattle.pw_plan.specs.declared.request.Request.TheVariants.{Idle, Wake, Perf,
 use Rattle.pw_plan.specs.Groups.{is_software}
 use Rattle.pw_plan.specs.Parts.{scale_of}
 use Rattle.pw_plan.specs.Places.{cpu_at, domain_at}
-use Rattle.pw_plan.specs.Requests.{Has, cpu_of}
+use Rattle.pw_plan.specs.Requests.{Has}
 use Rattle.pw_plan.proofs.Lists.{each_append}
 use Rattle.pw_model.specs.declared.entry.HistoryEntry.{HistoryEntry}
 use Rattle.pw_model.specs.declared.reply.Reply.{Reply}
@@ -33,6 +33,7 @@ use Rattle.pw_model.specs.Laws.{HasOwnRegisters, IsSetOnAll, standing_value}
 use Rattle.pw_model.proofs.LastSets.{Untouched, last_append, mapped}
 use Rattle.pw_model.proofs.Registers.{Stands, domain_stands, moved, opening_stands}
 use Rattle.pw_model.proofs.Standings.{standing-spared}
+use Rattle.pw_model.proofs.Staying.{request_has}
 
 first_none : (a b : Option Reply) → (a or_else b) ≡ None → a ≡ None
 first_none None b e = refl
@@ -79,20 +80,8 @@ module _ (P : Plan) (d p : ℕ) (on : IsSetOnAll P d p) (own : HasOwnRegisters P
       step (Some reply) e = rw append-nil last
       step None e = accepted_stands S q ops has (first_none (fixed_refusal P q) (state_refusal S q) e) last
 
-  has_request : (e : HistoryEntry) → IsEntry P e → Has P (request_of e)
-  has_request e is = by (e.code == 1) (e.code == 2) (e.code == 3) (e.code == 4) (e.code == 5)
-    where
-      by : (a b c d f : Bool) → cpu_of (cond a (Idle e.cpu e.argument e.tolerance) (cond b (Wake e.cpu) (cond c (Perf e.cpu e.argument) (cond d (Throttle e.cpu e.argument)
-          (cond f (PerfLimit e.cpu e.argument) (ThrottleLimit e.cpu e.argument)))))) < length P.cpus
-      by true b c d f = is.cpu
-      by false true c d f = is.cpu
-      by false false true d f = is.cpu
-      by false false false true f = is.cpu
-      by false false false false true = is.cpu
-      by false false false false false = is.cpu
-
   entry_stands : (S : State) (e : HistoryEntry) (ops : List Op) → IsEntry P e → e.fault ≡ 0 → Stands P d p on own S ops → Stands P d p on own (after_entry P S e) (ops ++ entry_ops P S e)
-  entry_stands S e ops is fault last = let f : (e.fault == 0) ≡ true = grind (arith, nat_tests) in rw f (request_stands S (request_of e) ops (has_request e is) last)
+  entry_stands S e ops is fault last = let f : (e.fault == 0) ≡ true = grind (arith, nat_tests) in rw f (request_stands S (request_of e) ops (request_has P e is.states) last)
 
   entries_stand : (es : List HistoryEntry) (S : State) (ops : List Op) → AllByRecursion (IsEntry P) es → AllByRecursion (λ e. e.fault ≡ 0) es → Stands P d p on own S ops
       → Stands P d p on own (replay_from P S es) (ops ++ ops_from P S es)

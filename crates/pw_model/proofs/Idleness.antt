@@ -81,6 +81,7 @@ module _ (P : Plan) (S : State) (n i : ℕ) where
       let all = all_allow P (children_at P n) (child_votes P S n) i (row_at (container_at P n).idle i).latency in
       record {
         some_child = some;
+        from = omega arith;
         within = le;
         enabled = and_first row all e;
         allowed = all_from lt (children_at P n) (and_second row all e);

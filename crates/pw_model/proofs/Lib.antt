@@ -11,3 +11,10 @@ pub mod Histories
 pub mod Gathering
 pub mod Opening
 pub mod Fitting
+pub mod Staying
+pub mod Fixed
+pub mod Accepting
+pub mod Composing
+pub mod Drawn
+pub mod Rows
+pub mod Joining

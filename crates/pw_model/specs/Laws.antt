@@ -29,9 +29,10 @@ pub record Allows (P : Plan) (S : State) (n i : ℕ) (c : Child) : Type 0 where
   pub enables : i ≤ (row_at (table_of P c) (child_vote P S c).state).parent
   pub bears : (row_at (container_at P n).idle i).latency ≤ (child_vote P S c).tolerance
 
--- Container n may be in state i: it has a child, the state is enabled, and every child allows it.
+-- Container n may be in state i: it has a child, the state is one of its table and enabled, and every child allows it.
 pub record MayIdle (P : Plan) (S : State) (n i : ℕ) : Type 0 where
   pub some_child : 0 < length (children_at P n)
+  pub from : 1 ≤ i
   pub within : i ≤ length (rows_of (container_at P n).idle)
   pub enabled : (row_at (container_at P n).idle i).enabled ≡ true
   pub allowed : AllByRecursion (Allows P S n i) (children_at P n)

@@ -7,3 +7,5 @@ pub mod Composites
 pub mod Operations
 pub mod History
 pub mod Laws
+pub mod Acceptance
+pub mod Entering

@@ -86,7 +86,11 @@ abbrev pub IsIndex : Option Scale → ℕ → Type 0
 IsIndex None i = i ≡ 0
 IsIndex (Some scale) i = i < length scale.controls
 
--- There is an entry for each processor in each list, and each is of the processor's tables.
+-- who runs bears any latency
+abbrev pub IsProper : Vote → Type 0
+IsProper v = v.state ≡ 0 → v.tolerance ≡ any_latency
+
+-- There is an entry for each processor in each list, each is of the processor's tables, and who runs bears any latency.
 pub record IsState (P : Plan) (S : State) : Type 0 where
   pub votes : length S.votes ≡ length P.cpus
   pub perf_asks : length S.perf_asks ≡ length P.cpus
@@ -94,5 +98,6 @@ pub record IsState (P : Plan) (S : State) : Type 0 where
   pub throttle_asks : length S.throttle_asks ≡ length P.cpus
   pub throttle_limits : length S.throttle_limits ≡ length P.cpus
   pub vote : (p : ℕ) → p < length P.cpus → (vote_of S p).state ≤ length (rows_of (cpu_at P p).idle)
+  pub proper : (p : ℕ) → p < length P.cpus → IsProper (vote_of S p)
   pub ask : (kind : DomainKind) (p : ℕ) → p < length P.cpus → IsIndex (scale_of kind (cpu_at P p)) (ask_of kind S p)
   pub limit : (kind : DomainKind) (p : ℕ) → p < length P.cpus → IsIndex (scale_of kind (cpu_at P p)) (limit_of kind S p)

@@ -3,15 +3,28 @@
 //! the plain types that they speak of.
 #![tactic(auto)]
 
+mod acceptance;
+mod entering;
 mod entry;
+mod history;
 mod laws;
 mod reply;
+mod starting;
 mod state;
 
+pub use acceptance::{fixed_refusals_come_always, requests_are_accepted_where_they_may};
+pub use entering::{
+    idle_domains_are_about_rows, others_enter_who_come_along, outermost_registers_are_entered,
+};
 pub use entry::HistoryEntry;
+pub use history::{
+    entries_state_requests, histories_join, histories_stay_states, histories_stop_at_faults,
+    legal_histories_grow,
+};
 pub use laws::{
     bounds_hold, c_states_are_greatest, container_states_are_greatest, domains_stand_within_limits,
     refusals_change_nothing, registers_stand, wakes_operate_nothing,
 };
 pub use reply::Reply;
+pub use starting::starts_are_those_of_the_tables;
 pub use state::{Change, State, Vote};
