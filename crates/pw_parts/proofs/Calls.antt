@@ -6,18 +6,17 @@ use Rattle.std.proofs.Common.{◌≡◌, ◌<◌, ◌≤◌, ◌-◌, ◌==◌, 
 use Rattle.std.specs.List.{AllByRecursion}
 use Rattle.std.proofs.lemmas.Bool.{cases_lt}
 use Rattle.std.proofs.lemmas.Bool.Decides.{nat_tests}
-use Rattle.std.proofs.lemmas.List.{get_or-map, get_or_past, length-map}
+use Rattle.std.proofs.lemmas.List.{get_or_past}
 use Rattle.std.proofs.lemmas.List.Elements.{recursion_from_All}
 use Rattle.acpi_values.specs.declared.idle.IdleKind.{IdleKind}
 use Rattle.acpi_values.specs.declared.idle.IdleKind.TheVariants.{Lpi, Cst, Absent}
 use Rattle.pw_plan.specs.declared.domain.Child.{Child}
 use Rattle.pw_plan.specs.declared.domain.DomainKind.{DomainKind}
-use Rattle.pw_plan.specs.declared.parts.CpuParts.{CpuParts}
 use Rattle.pw_model.specs.Operations.{own_entry, set_at, set_on}
 use Rattle.pw_plan.specs.declared.domain.Child.TheVariants.{Cpu, Container}
 use Rattle.pw_plan.specs.declared.plan.Plan.{Plan}
 use Rattle.pw_plan.specs.Groups.{has_member, no_domain}
-use Rattle.pw_plan.specs.Parts.{no_cpu, scale_of}
+use Rattle.pw_plan.specs.Parts.{scale_of}
 use Rattle.pw_plan.specs.Places.{children_at, cpu_at, domain_at, domain_of, group_at, group_of}
 use Rattle.pw_model.specs.declared.state.Vote.{Vote}
 use Rattle.pw_model.specs.States.{ask_of, limit_of, opening, opening_limit, running}
@@ -31,7 +30,7 @@ use Rattle.pw_parts.specs.Calls.{CallsServe, group_ops, level_ops, OpensRight, w
 use Rattle.pw_parts.specs.Effects.{c_state_by, drawn_ops, enter_c, level_effect, member_place, ops_after, standing_in, states_in, states_with}
 use Rattle.pw_plan.specs.Orderly.{is_same}
 use Rattle.pw_parts.specs.Records.{Part, Record, container, domain, group, votes, levels, states, state_of_vote}
-use Rattle.pw_model.proofs.Opening.{opening_ask, opening_own}
+use Rattle.pw_model.proofs.Opening.{opening_ask, opening_own, opening_runs}
 use Rattle.pw_parts.proofs.Gathered.{group_member}
 use Rattle.pw_parts.proofs.Levels.{HasDomain, has_domain}
 use Rattle.pw_parts.proofs.Plans.{wired}
@@ -55,16 +54,9 @@ all_running Lpi v e = e
 all_running Cst v e = refl
 all_running Absent v e = refl
 
-pub opening_vote : (P : Plan) (p : ℕ) → get_or (opening P).votes p running ≡ running
-unfolding opening
-opening_vote P p = elim (cases_lt p (length P.cpus)) [
-  | inl lt ↦ get_or-map (λ (c : CpuParts). running) P.cpus p no_cpu running lt
-  | inr le ↦ get_or_past (map (λ (c : CpuParts). running) P.cpus) p running (let n = length-map P.cpus (λ (c : CpuParts). running) in omega (arith, n, le))
-]
-
 module _ (P : Plan) where
   seen_running : (p : ℕ) → child_vote P (opening P) (Cpu p) ≡ running
-  seen_running p = all_running (cpu_at P p).idle.kind (get_or (opening P).votes p running) (opening_vote P p)
+  seen_running p = all_running (cpu_at P p).idle.kind (get_or (opening P).votes p running) (opening_runs P p)
 
   -- who allows a state idles
   idle_child : (n s : ℕ) (cs : List Child) → 0 < length cs → AllByRecursion (Allows P (opening P) n s) cs → AllByRecursion (IsChild P n) cs
@@ -116,7 +108,7 @@ module _ (P : Plan) where
       let own = λ (p : ℕ). opening_limit (scale_of kind (cpu_at P p)) in
       ap (λ xs. levels xs (map (limit_of kind (opening P)) ms)) (map_agree (λ q. q < length P.cpus) (ask_of kind (opening P)) own (opening_ask P kind) ms (members_exist d))
       ∙ ap (λ xs. levels (map own ms) xs) (map_agree (λ q. q < length P.cpus) (limit_of kind (opening P)) own (opening_own P kind) ms (members_exist d))
-  opens_right (group g) = ap (λ ss. states ss) (map_same (state_of_vote (opening P)) (λ p. 0) (λ p. ap (λ (v : Vote). v.state) (opening_vote P p)) (group_at P g).members)
+  opens_right (group g) = ap (λ ss. states ss) (map_same (state_of_vote (opening P)) (λ p. 0) (λ p. ap (λ (v : Vote). v.state) (opening_runs P p)) (group_at P g).members)
 
 -- # The calls make the effects
 

@@ -1,6 +1,6 @@
 -- What asks and limits do to the parts of domains.
-use Rattle.std.proofs.Common.{◌≡◌, ◌≢◌, ◌<◌, ◌≤◌, ◌==◌, ◌||◌, ℕ, max, Bool, true, false, cond, List, [], ◌∷◌, map, length, get_or, set, refl, sym, ◌∙◌, ap, arith, inl, inr, eqb-true, eq-eqb}
-use Rattle.std.specs.List.{position_or_len, AllByRecursion}
+use Rattle.std.proofs.Common.{◌≡◌, ◌≢◌, ◌<◌, ◌≤◌, ◌==◌, ◌||◌, ℕ, max, Bool, true, false, cond, List, [], ◌∷◌, map, length, get_or, set, refl, sym, ◌∙◌, ap, inl, inr, eqb-true, eq-eqb}
+use Rattle.std.specs.List.{AllByRecursion}
 use Rattle.std.proofs.lemmas.List.{get_or-set_same, get_or-set_other, get_or_past}
 use Rattle.std.proofs.lemmas.Bool.{cases_lt, eqb-false}
 use Rattle.pw_plan.specs.declared.domain.DomainKind.{DomainKind}

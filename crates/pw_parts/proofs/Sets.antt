@@ -1,5 +1,5 @@
 -- Lists with one element changed.
-use Rattle.std.proofs.Common.{◌≡◌, ◌<◌, ◌||◌, suc, Bool, true, false, List, [], ◌∷◌, map, length, set, refl, ap, sym, ◌∙◌, arith}
+use Rattle.std.proofs.Common.{◌≡◌, Bool, true, false, List, [], ◌∷◌, map, set, refl, ap, sym, ◌∙◌}
 use Rattle.std.specs.List.{list_any, position_or_len, AllByRecursion}
 use Rattle.pw_plan.proofs.Lists.{or_first, or_second}
 use Rattle.pw_plan.specs.inner.Once.{Once}

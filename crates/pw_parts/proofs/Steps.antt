@@ -6,37 +6,24 @@ use Rattle.pw_parts.proofs.Ways.{has_way}
 use Rattle.pw_parts.specs.Numbers.{IsIn}
 use Rattle.pw_parts.specs.Locality.{AllTold, KeepsRecords, Tells, put}
 use Rattle.pw_parts.specs.Records.{IsRecord, Part, container, domain, group, is_record, reach}
-use Rattle.std.proofs.Common.{◌≡◌, ◌<◌, ◌==◌, ℕ, suc, zero, Bool, true, false, cond, List, [], ◌∷◌, ◌++◌, map, length, take, get_or, Option, Some, None, refl, sym, ◌∙◌, ap, subst, arith, eqb-true, eq-eqb, nat_lt}
-use Rattle.std.specs.Prelude.{is_some}
+use Rattle.std.proofs.Common.{◌≡◌, ◌==◌, ℕ, suc, zero, Bool, true, false, cond, List, [], ◌∷◌, length, take, refl, sym, ◌∙◌, ap, subst, eqb-true, eq-eqb}
 use Rattle.std.specs.List.{AllByRecursion}
-use Rattle.std.proofs.lemmas.Bool.Decides.{nat_tests}
-use Rattle.std.proofs.lemmas.List.{get_or-map, length-map}
-use Rattle.pw_plan.specs.declared.domain.DomainKind.{DomainKind}
-use Rattle.pw_plan.specs.declared.domain.DomainKind.TheVariants as kinds
-use Rattle.pw_plan.specs.declared.parts.CpuParts.{CpuParts}
-use Rattle.pw_plan.specs.declared.parts.Scale.{Scale}
 use Rattle.pw_plan.specs.declared.plan.Plan.{Plan}
 use Rattle.pw_plan.specs.declared.request.Request.{Request}
-use Rattle.pw_plan.specs.declared.request.Request.TheVariants.{Idle, Wake, Perf, Throttle, PerfLimit, ThrottleLimit}
-use Rattle.pw_plan.specs.Parts.{count_of, no_cpu, scale_of}
-use Rattle.pw_plan.specs.Places.{cpu_at}
-use Rattle.pw_plan.specs.Requests.{Has, cpu_of}
+use Rattle.pw_plan.specs.Requests.{Has}
 use Rattle.pw_model.specs.declared.entry.HistoryEntry.{HistoryEntry}
-use Rattle.pw_model.specs.declared.reply.Reply.{Reply}
-use Rattle.pw_model.specs.declared.reply.Reply.TheVariants.{AboveLimit}
 use Rattle.pw_model.specs.declared.state.State.{State}
-use Rattle.pw_model.specs.States.{IsIndex, IsState, ask_of, limit_of, opening, running}
-use Rattle.pw_model.specs.Answers.{after, changed, if_accepted}
-use Rattle.pw_model.specs.History.{IsEntry, after_entry, replay, replay_from, request_of}
-use Rattle.pw_model.specs.Refusals.{refusal, refuse_if, state_refusal, ◌or_else◌}
+use Rattle.pw_model.specs.States.{IsState}
+use Rattle.pw_model.specs.Answers.{after}
+use Rattle.pw_model.specs.History.{StatesRequest, replay, request_of}
 use Rattle.pw_parts.specs.Effects.{Effect, effect}
 use Rattle.pw_parts.specs.inner.Wired.{IsWired}
-use Rattle.pw_parts.specs.Locality.{AllTold, Apart, HasStates, KeepsRecords, put, IsDone, IsTold, SameParts, Stays, StaysInHistory}
+use Rattle.pw_parts.specs.Locality.{AllTold, Apart, KeepsRecords, put, IsDone, IsTold, SameParts, Stays, StaysInHistory}
 use Rattle.pw_parts.specs.Records.{Record, footprint, part_of}
 use Rattle.pw_parts.proofs.Agree.{SameOn, effect_prefix, effect_same}
 use Rattle.pw_parts.proofs.Central.{does, is_local}
-use Rattle.pw_model.proofs.Fitting.{changed_fits}
-use Rattle.pw_model.proofs.Opening.{opening_fits}
+use Rattle.pw_model.proofs.Joining.{replay-append}
+use Rattle.pw_model.proofs.Staying.{after_fits, replay_fits, request_has}
 use Rattle.pw_parts.proofs.Ways.{has_way}
 
 -- # By what is held of records
@@ -115,65 +102,26 @@ stays P q other wired has also fits = record {
     same S s [] out = tt
     same S s (r ∷ rs) out = (sym ((is_local P other wired also).rest S r s out.0), same S s rs out.1)
 
--- # States
-
-pub after_fits : (P : Plan) (S : State) (q : Request) → IsState P S → Has P q → IsState P (after P S q)
-unfolding after
-after_fits P S q s has = by (refusal P S q) refl
-  where
-    by : (r : Option Reply) → refusal P S q ≡ r → IsState P (if_accepted r (λ reply. S) (changed P S q))
-    by None e = changed_fits P S q s has e
-    by (Some reply) e = s
-
-pub request_cpu : (e : HistoryEntry) → cpu_of (request_of e) ≡ e.cpu
-request_cpu e = by (e.code == 1) (e.code == 2) (e.code == 3) (e.code == 4) (e.code == 5)
-  where
-    by : (a b c d f : Bool) → cpu_of (cond a (Idle e.cpu e.argument e.tolerance) (cond b (Wake e.cpu) (cond c (Perf e.cpu e.argument) (cond d (Throttle e.cpu e.argument)
-        (cond f (PerfLimit e.cpu e.argument) (ThrottleLimit e.cpu e.argument)))))) ≡ e.cpu
-    by true b c d f = refl
-    by false true c d f = refl
-    by false false true d f = refl
-    by false false false true f = refl
-    by false false false false true = refl
-    by false false false false false = refl
-
-replay_from_fits : (P : Plan) (S : State) (es : List HistoryEntry) → IsState P S → AllByRecursion (IsEntry P) es → IsState P (replay_from P S es)
-replay_from_fits P S [] s a = s
-replay_from_fits P S (e ∷ es) s a = replay_from_fits P (after_entry P S e) es (step (e.fault == 0)) a.1
-  where
-    step : (b : Bool) → IsState P (cond b (after P S (request_of e)) S)
-    step true = let i = request_cpu e in let lt = a.0.cpu in after_fits P S (request_of e) s (omega (arith, i, lt))
-    step false = s
-
-replay-more : (P : Plan) (S : State) (es : List HistoryEntry) (e : HistoryEntry) → replay_from P S (es ++ e ∷ []) ≡ after_entry P (replay_from P S es) e
-replay-more P S [] e = refl
-replay-more P S (d ∷ es) e = replay-more P (after_entry P S d) es e
+-- # Histories
 
 same_all : (P : Plan) (S : State) (rs : List Record) → SameParts P S S rs
 same_all P S [] = tt
 same_all P S (r ∷ rs) = (refl, same_all P S rs)
 
 pub stays_in_history : (P : Plan) (q : Request) → IsWired P → Has P q → StaysInHistory P q
-unfolding replay
 stays_in_history P q wired has = record {
-  parts = λ es e rs a i out. subst (λ (T : State). SameParts P (replay P es) T rs) (sym (replay-more P (opening P) es e)) (parts e i (e.fault == 0) (replay P es) (fits es a) rs out);
-  way = λ es e j a i out. subst (λ (T : State). take (suc j) (footprint P (replay P es) q) ≡ take (suc j) (footprint P T q)) (sym (replay-more P (opening P) es e)) (way e i (e.fault == 0) (replay P es) (fits es a) j out);
+  parts = λ es e rs a i out. subst (λ (T : State). SameParts P (replay P es) T rs) (sym (replay-append P es (e ∷ []))) (parts e i (e.fault == 0) (replay P es) (replay_fits P es a) rs out);
+  way = λ es e j a i out. subst (λ (T : State). take (suc j) (footprint P (replay P es) q) ≡ take (suc j) (footprint P T q)) (sym (replay-append P es (e ∷ []))) (way e i (e.fault == 0) (replay P es) (replay_fits P es a) j out);
 }
   where
-    fits : (es : List HistoryEntry) → AllByRecursion (IsEntry P) es → IsState P (replay P es)
-    fits es a = replay_from_fits P (opening P) es (opening_fits P) a
+    other : (e : HistoryEntry) → StatesRequest P e → Stays P q (request_of e)
+    other e i = stays P q (request_of e) wired has (request_has P e i) (λ S s. after_fits P S (request_of e) s (request_has P e i))
 
-    asks : (e : HistoryEntry) → IsEntry P e → Has P (request_of e)
-    asks e i = let c = request_cpu e in let lt = i.cpu in omega (arith, c, lt)
-
-    other : (e : HistoryEntry) → IsEntry P e → Stays P q (request_of e)
-    other e i = stays P q (request_of e) wired has (asks e i) (λ S s. after_fits P S (request_of e) s (asks e i))
-
-    parts : (e : HistoryEntry) → IsEntry P e → (b : Bool) (S : State) → IsState P S → (rs : List Record) → Apart rs (footprint P S (request_of e)) → SameParts P S (cond b (after P S (request_of e)) S) rs
+    parts : (e : HistoryEntry) → StatesRequest P e → (b : Bool) (S : State) → IsState P S → (rs : List Record) → Apart rs (footprint P S (request_of e)) → SameParts P S (cond b (after P S (request_of e)) S) rs
     parts e i true S s rs out = (other e i).parts S rs s out
     parts e i false S s rs out = same_all P S rs
 
-    way : (e : HistoryEntry) → IsEntry P e → (b : Bool) (S : State) → IsState P S → (j : ℕ) → Apart (take j (footprint P S q)) (footprint P S (request_of e))
+    way : (e : HistoryEntry) → StatesRequest P e → (b : Bool) (S : State) → IsState P S → (j : ℕ) → Apart (take j (footprint P S q)) (footprint P S (request_of e))
         → take (suc j) (footprint P S q) ≡ take (suc j) (footprint P (cond b (after P S (request_of e)) S) q)
     way e i true S s j out = (other e i).way S j s out
     way e i false S s j out = refl
@@ -187,76 +135,3 @@ whole_from_take (x ∷ xs) (y ∷ ys) e =
     let first : x ≡ y = cc in
     let rest : xs ≡ ys = whole_from_take xs ys (cc) in
     cc
-
--- # A state in which each limit is the fastest
-
-unlimited : Plan → State
-unlimited P = record {
-  votes = map (λ c. running) P.cpus;
-  perf_asks = map (λ c. 0) P.cpus;
-  perf_limits = map (λ c. 0) P.cpus;
-  throttle_asks = map (λ c. 0) P.cpus;
-  throttle_limits = map (λ c. 0) P.cpus;
-}
-
-module _ (P : Plan) where
-  zero_at : (p : ℕ) → p < length P.cpus → ◌≡◌ {A = ℕ} (get_or (map (λ (c : CpuParts). 0) P.cpus) p 0) 0
-  zero_at p lt = get_or-map (λ (c : CpuParts). 0) P.cpus p no_cpu 0 lt
-
-  running_at : (p : ℕ) → p < length P.cpus → get_or (map (λ (c : CpuParts). running) P.cpus) p running ≡ running
-  running_at p lt = get_or-map (λ (c : CpuParts). running) P.cpus p no_cpu running lt
-
-  fastest : (kind : DomainKind) (p : ℕ) → IsIndex (scale_of kind (cpu_at P p)) 0
-  fastest kind p = by (scale_of kind (cpu_at P p)) (P.sound.small.some_states kind p)
-    where
-      by : (scale : Option Scale) → (is_some scale ≡ true → 0 < count_of scale) → IsIndex scale 0
-      by None positive = refl
-      by (Some scale) positive = positive refl
-
-  no_ask : (kind : DomainKind) (p : ℕ) → p < length P.cpus → ask_of kind (unlimited P) p ≡ 0
-  unfolding unlimited
-  no_ask kinds.Perf p lt = zero_at p lt
-  no_ask kinds.Throttle p lt = zero_at p lt
-  no_ask kinds.Idle p lt = refl
-
-  no_limit : (kind : DomainKind) (p : ℕ) → p < length P.cpus → limit_of kind (unlimited P) p ≡ 0
-  unfolding unlimited
-  no_limit kinds.Perf p lt = zero_at p lt
-  no_limit kinds.Throttle p lt = zero_at p lt
-  no_limit kinds.Idle p lt = refl
-
-  unlimited_fits : IsState P (unlimited P)
-  unfolding unlimited
-  unlimited_fits = record {
-    votes = length-map P.cpus (λ (c : CpuParts). running);
-    perf_asks = length-map P.cpus (λ (c : CpuParts). 0);
-    perf_limits = length-map P.cpus (λ (c : CpuParts). 0);
-    throttle_asks = length-map P.cpus (λ (c : CpuParts). 0);
-    throttle_limits = length-map P.cpus (λ (c : CpuParts). 0);
-    vote = λ p lt. rw (running_at p lt) (omega arith);
-    ask = λ kind p lt. rw (no_ask kind p lt) (fastest kind p);
-    limit = λ kind p lt. rw (no_limit kind p lt) (fastest kind p);
-  }
-
-  not_below : (i : ℕ) → nat_lt i 0 ≡ false
-  not_below i = grind (arith, nat_tests)
-
-  none_above : (kind : DomainKind) (p i : ℕ) → p < length P.cpus → refuse_if (nat_lt i (limit_of kind (unlimited P) p)) (AboveLimit (limit_of kind (unlimited P) p)) ≡ None
-  none_above kind p i lt = ap (λ l. refuse_if (nat_lt i l) (AboveLimit l)) (no_limit kind p lt) ∙ ap (λ b. refuse_if b (AboveLimit 0)) (not_below i)
-
-  no_refusal : (q : Request) → Has P q → state_refusal (unlimited P) q ≡ None
-  no_refusal (Idle p s t) has = refl
-  no_refusal (Wake p) has = refl
-  no_refusal (Perf p i) has = none_above kinds.Perf p i has
-  no_refusal (Throttle p i) has = none_above kinds.Throttle p i has
-  no_refusal (PerfLimit p n) has = refl
-  no_refusal (ThrottleLimit p n) has = refl
-
-  pub has_states : HasStates P
-  unfolding replay
-  has_states = record {
-    opens = opening_fits P;
-    steps = λ S q s has. after_fits P S q s has;
-    replays = λ es a. replay_from_fits P (opening P) es (opening_fits P) a;
-    accepts = λ q has e. (unlimited P, unlimited_fits, ap (λ r. r or_else state_refusal (unlimited P) q) e ∙ no_refusal q has);
-  }

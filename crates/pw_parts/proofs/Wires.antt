@@ -1,5 +1,5 @@
 -- What the laws use of a plan, from what it tells.
-use Rattle.std.proofs.Common.{◌≡◌, ◌<◌, ◌==◌, ℕ, suc, true, false, List, [], ◌∷◌, length, get_or, refl, sym, ap, arith, inl, inr, eqb-true, eq-eqb}
+use Rattle.std.proofs.Common.{◌≡◌, ◌<◌, ◌==◌, ℕ, suc, true, false, List, [], ◌∷◌, length, get_or, refl, arith, inl, inr}
 use Rattle.std.specs.List.{list_any}
 use Rattle.std.proofs.lemmas.Bool.{cases_lt}
 use Rattle.std.proofs.lemmas.List.{get_or_past}
@@ -7,7 +7,7 @@ use Rattle.std.proofs.lemmas.List.Elements.{recursion_from_All}
 use Rattle.acpi_values.specs.declared.idle.IdleKind.{IdleKind}
 use Rattle.acpi_values.specs.declared.idle.IdleKind.TheVariants.{Cst, Lpi, Absent}
 use Rattle.pw_plan.specs.declared.domain.Child.{Child}
-use Rattle.pw_plan.specs.declared.domain.Child.TheVariants.{Cpu, Container}
+use Rattle.pw_plan.specs.declared.domain.Child.TheVariants.{Cpu}
 use Rattle.pw_plan.specs.declared.domain.Domain.{Domain}
 use Rattle.pw_plan.specs.declared.plan.Plan.{Plan}
 use Rattle.pw_plan.specs.Groups.{has_member, is_link, no_domain}

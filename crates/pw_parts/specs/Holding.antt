@@ -5,14 +5,9 @@ use Rattle.pw_plan.specs.declared.domain.Child.TheVariants.{Cpu}
 use Rattle.pw_plan.specs.declared.plan.Plan.{Plan}
 use Rattle.pw_plan.specs.Parts.{scale_of}
 use Rattle.pw_plan.specs.Places.{children_at, cpu_at, domain_at, group_at, table_of}
-use Rattle.pw_model.specs.declared.state.State.{State}
 use Rattle.pw_model.specs.declared.state.Vote.{Vote}
-use Rattle.pw_model.specs.States.{IsIndex, IsState, any_latency, running, vote_of}
+use Rattle.pw_model.specs.States.{IsIndex, IsProper, running}
 use Rattle.pw_parts.specs.Records.{Part, Record, container, domain, group, levels, states, votes}
-
--- who runs bears any latency
-abbrev pub IsProper : Vote → Type 0
-IsProper v = v.state ≡ 0 → v.tolerance ≡ any_latency
 
 -- the table of the child at place k, and the processor of the member there
 abbrev pub table_at : Plan → ℕ → ℕ → ℕ
@@ -49,8 +44,3 @@ Holds P (domain d) (votes vs) = ⊥
 Holds P (domain d) (states ss) = ⊥
 Holds P (group g) (votes vs) = ⊥
 Holds P (group g) (levels asks limits) = ⊥
-
--- A state of the plan in which who runs bears any latency.
-pub record IsProperState (P : Plan) (S : State) : Type 0 where
-  pub is : IsState P S
-  pub proper : (p : ℕ) → p < length P.cpus → IsProper (vote_of S p)

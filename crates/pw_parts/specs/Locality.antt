@@ -1,18 +1,15 @@
 -- A request depends on the records that it takes alone, and changes no other.
 use Rattle.std.specs.Prelude.{if◌then◌else◌}
-use Rattle.std.specs.Prelude.{◌≡◌, ◌≤◌, ◌↔◌, ◌++◌, ℕ, suc, List, [], ◌∷◌, length, take, if◌then◌else◌, None, Contains}
+use Rattle.std.specs.Prelude.{◌≡◌, ◌≤◌, ◌↔◌, ◌++◌, ℕ, suc, List, [], ◌∷◌, length, take, if◌then◌else◌, Contains}
 use Rattle.std.specs.List.{AllByRecursion}
 use Rattle.pw_plan.specs.declared.plan.Plan.{Plan}
 use Rattle.pw_plan.specs.declared.request.Request.{Request}
 use Rattle.pw_model.specs.declared.state.State.{State}
-use Rattle.pw_plan.specs.Requests.{Has}
 use Rattle.pw_model.specs.declared.entry.HistoryEntry.{HistoryEntry}
-use Rattle.pw_model.specs.States.{IsState, opening}
-use Rattle.pw_model.specs.History.{IsEntry, replay, request_of}
-use Rattle.pw_model.specs.Refusals.{fixed_refusal, refusal}
+use Rattle.pw_model.specs.States.{IsState}
+use Rattle.pw_model.specs.History.{StatesRequest, replay, request_of}
 use Rattle.pw_model.specs.Answers.{after, answer}
 use Rattle.pw_model.specs.Operations.{ops_of}
-use Rattle.pw_parts.specs.Holding.{Holds, IsProperState}
 use Rattle.pw_parts.specs.Records.{IsRecord, Part, Record, footprint, is_record, part_of}
 use Rattle.pw_parts.specs.Effects.{Effect, Taken, effect, takes_in}
 
@@ -71,26 +68,10 @@ pub record Stays (P : Plan) (q other : Request) : Type 0 where
 
 -- The same in a history, where one more entry of any request is made, be it a fault or not.
 pub record StaysInHistory (P : Plan) (q : Request) : Type 0 where
-  pub parts : (es : List HistoryEntry) (e : HistoryEntry) (rs : List Record) → AllByRecursion (IsEntry P) es → IsEntry P e → Apart rs (footprint P (replay P es) (request_of e))
+  pub parts : (es : List HistoryEntry) (e : HistoryEntry) (rs : List Record) → AllByRecursion (StatesRequest P) es → StatesRequest P e → Apart rs (footprint P (replay P es) (request_of e))
       → SameParts P (replay P es) (replay P (es ++ e ∷ [])) rs
-  pub way : (es : List HistoryEntry) (e : HistoryEntry) (j : ℕ) → AllByRecursion (IsEntry P) es → IsEntry P e → Apart (take j (footprint P (replay P es) q)) (footprint P (replay P es) (request_of e))
+  pub way : (es : List HistoryEntry) (e : HistoryEntry) (j : ℕ) → AllByRecursion (StatesRequest P) es → StatesRequest P e → Apart (take j (footprint P (replay P es) q)) (footprint P (replay P es) (request_of e))
       → take (suc j) (footprint P (replay P es) q) ≡ take (suc j) (footprint P (replay P (es ++ e ∷ [])) q)
-
--- # States
-
--- What a history leaves is a state of the plan, and a request that no table refuses is accepted in one.
-pub record HasStates (P : Plan) : Type 0 where
-  pub opens : IsState P (opening P)
-  pub steps : (S : State) (q : Request) → IsState P S → Has P q → IsState P (after P S q)
-  pub replays : (es : List HistoryEntry) → AllByRecursion (IsEntry P) es → IsState P (replay P es)
-  pub accepts : (q : Request) → Has P q → fixed_refusal P q ≡ None → (S : State) × IsState P S × (refusal P S q ≡ None)
-
--- Histories leave states in which who runs bears any latency, and what the records hold there is of their tables.
-pub record HasParts (P : Plan) : Type 0 where
-  pub opens : IsProperState P (opening P)
-  pub steps : (S : State) (q : Request) → IsProperState P S → Has P q → IsProperState P (after P S q)
-  pub replays : (es : List HistoryEntry) → AllByRecursion (IsEntry P) es → IsProperState P (replay P es)
-  pub holds : (S : State) (r : Record) → IsProperState P S → Holds P r (part_of P S r)
 
 -- # A program that keeps records
 

@@ -3,14 +3,17 @@ ghost use Rattle.pw_plan.specs.declared.plan.Plan.{Plan as plan};
 ghost use Rattle.pw_plan.specs.declared.request.Request.{Request as request};
 ghost use Rattle.pw_plan.specs.Requests.{Has};
 ghost use Rattle.pw_parts.specs.Calls.{CallsServe, OpensRight};
-ghost use Rattle.pw_parts.specs.Locality.{HasParts, HasStates, IsLocal, IsTold, KeepsRecords, StaysInHistory};
+ghost use Rattle.pw_parts.specs.Locality.{IsLocal, IsTold, KeepsRecords, StaysInHistory};
 ghost use Rattle.pw_parts.specs.Loops.{IsClimbStep};
 ghost use Rattle.pw_parts.specs.Numbers.{HasWay};
+ghost use Rattle.pw_parts.specs.Holding.{Holds};
 ghost use Rattle.pw_plan.specs.declared.domain.Child.{Child as child};
+ghost use Rattle.pw_model.specs.declared.state.State.{State as state};
 ghost use Rattle.pw_model.specs.declared.state.Vote.{Vote as vote};
+ghost use Rattle.pw_model.specs.States.{IsState};
 ghost use Rattle.pw_parts.specs.Routes.{ChainsFit, HasRoute};
-ghost use Rattle.pw_parts.specs.Records.{IsRecord, Part as part, Record as record_of, number_of, record_at};
-ghost use Rattle.pw_parts.specs.Records.{record_count};
+ghost use Rattle.pw_parts.specs.Records.{IsRecord, Part as part, Record as record_of, number_of, part_of};
+ghost use Rattle.pw_parts.specs.Records.{record_at, record_count};
 
 /// What a request is answered, what it operates and which records it takes follows from these
 /// records alone, and no other record changes.
@@ -41,10 +44,9 @@ pub fn histories_leave_ways()
     ensures { (P : plan) (q : request) → Has P q → StaysInHistory P q }
 {}
 
-/// What a history leaves is a state of the plan, and what records hold there is of their tables.
-pub fn histories_stay_states()
-    ensures states { (P : plan) → HasStates P }
-    ensures parts { (P : plan) → HasParts P }
+/// What records hold in a state of the plan is of their tables.
+pub fn states_fit_records()
+    ensures { (P : plan) (S : state) (r : record_of) → IsState P S → Holds P r (part_of P S r) }
 {}
 
 /// Records open with their part of the state at the start, and their calls do what requests do.

@@ -4,6 +4,6 @@
 mod laws;
 
 pub use laws::{
-    histories_leave_ways, histories_stay_states, records_open_and_serve, records_tell_requests,
-    requests_are_local, requests_have_routes, requests_have_ways,
+    histories_leave_ways, records_open_and_serve, records_tell_requests, requests_are_local,
+    requests_have_routes, requests_have_ways, states_fit_records,
 };

@@ -1,9 +1,5 @@
-use Rattle.pw_parts.proofs.Holding.{has_parts}
-use Rattle.pw_parts.proofs.Steps.{has_states}
-use Rattle.pw_parts.proofs.laws.histories_stay_states.Goals as goal
+use Rattle.pw_parts.proofs.Holding.{holds}
+use Rattle.pw_parts.proofs.laws.states_fit_records.Goals as goal
 
-pub returns-clause-states : goal.returns-clause-states
-returns-clause-states c = λ P. has_states P
-
-pub returns-clause-parts : goal.returns-clause-parts
-returns-clause-parts c = λ P. has_parts P
+pub returns : goal.returns
+returns c = λ P S r s. holds P S s r
