@@ -6,9 +6,9 @@ ghost use Rattle.pw_domain.specs.Groups.{IsGroupOf};
 
 use crate::machines::{ANY, cst_pair, enter, one_cluster, perf_pair, register, set, two_clusters};
 use acpi_values::{Coord, Op};
-use pw_core::Ops;
 use pw_domain::{DomainRec, GroupRec};
 use pw_idle::NodeRec;
+use pw_ops::Ops;
 use pw_plan::{Child, DomainKind, Plan};
 use std::alloc::Global;
 use std::process::Abort;

@@ -4,3 +4,4 @@ pub mod Composing
 pub mod Starting
 pub mod Drawing
 pub mod Comparing
+pub mod Leaving

@@ -10,7 +10,6 @@ mod composite;
 mod counts;
 mod domains;
 mod opening;
-mod ops;
 mod reads;
 mod refusal;
 mod replaying;
@@ -20,8 +19,8 @@ mod tree;
 
 pub use composite::{chain_composite, own_register};
 pub use opening::opening_limit;
-pub use ops::Ops;
 pub use pw_model::{HistoryEntry, Reply, Vote};
+pub use pw_ops::Ops;
 pub use refusal::fixed_answer;
 pub use replaying::{replay, replay_on};
 pub use setting::{set_each, set_on};

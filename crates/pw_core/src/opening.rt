@@ -5,15 +5,15 @@ ghost use Rattle.pw_plan.specs.Planning.{opening_count};
 ghost use Rattle.pw_plan.specs.Requests.{opening_bound};
 ghost use Rattle.pw_model.specs.States.{opening, opening_limit, running};
 ghost use Rattle.pw_model.specs.Operations.{opening_ops, opening_ops_of, set_on};
-ghost use Rattle.pw_core.specs.Rooms.{HasRoom};
+ghost use Rattle.pw_ops.specs.Rooms.{HasRoom};
 
 use crate::changing::capped;
-use crate::ops::Ops;
 use crate::setting::{set_each, set_on};
 use crate::tree::RUNNING;
 use acpi_values::Coord;
 use pw_base::{List, Memory};
 use pw_model::{State, Vote};
+use pw_ops::Ops;
 use pw_plan::{DomainKind, Plan};
 use std::alloc::Global;
 

@@ -6,13 +6,13 @@ ghost use Rattle.pw_model.specs.States.{IsState, with_change};
 ghost use Rattle.pw_model.specs.Answers.{stands};
 ghost use Rattle.pw_model.specs.Operations.{control_of, domain_ops};
 ghost use Rattle.pw_model.specs.Operations.{register_of, set_on};
-ghost use Rattle.pw_core.specs.Rooms.{HasRoom};
+ghost use Rattle.pw_ops.specs.Rooms.{HasRoom};
 
 use crate::composite::own_register;
 use crate::domains::standing;
-use crate::ops::Ops;
 use acpi_values::{Coord, EntryMethod, Op, Register};
 use pw_model::{Change, Reply, State};
+use pw_ops::Ops;
 use pw_plan::{CpuParts, DomainKind, Plan};
 
 /// The control register of a processor's states of this kind.

@@ -1,10 +1,10 @@
 use crate::accepting::{accept, accepted_reply};
 use crate::changing::{change_of, make};
 use crate::opening::{open_all, opened};
-use crate::ops::Ops;
 use crate::refusal::refusal;
 use pw_base::Memory;
 use pw_model::{Reply, State as Lists};
+use pw_ops::Ops;
 use pw_plan::{Plan, Request};
 use std::alloc::Global;
 use std::marker::Model;
@@ -29,7 +29,7 @@ impl State {
     ghost use Rattle.pw_model.specs.States.{IsState, opening};
     ghost use Rattle.pw_model.specs.Answers.{after, answer};
     ghost use Rattle.pw_model.specs.Operations.{opening_ops, ops_of};
-    ghost use Rattle.pw_core.specs.Rooms.{HasRoom};
+    ghost use Rattle.pw_ops.specs.Rooms.{HasRoom};
 
     /// The state at the start: everyone runs, the limits are those of the tables, and each processor
     /// asks for the fastest state that its limit allows.

@@ -4,7 +4,7 @@ ghost use Rattle.pw_plan.specs.Groups.{is_idle};
 ghost use Rattle.pw_plan.specs.Parts.{scale_of};
 ghost use Rattle.pw_plan.specs.Places.{cpu_at, domain_at};
 ghost use Rattle.pw_plan.specs.Requests.{set_by};
-ghost use Rattle.pw_core.specs.Rooms.{HasRoom};
+ghost use Rattle.pw_ops.specs.Rooms.{HasRoom};
 ghost use Rattle.pw_model.specs.States.{IsIndex, opening_limit};
 ghost use Rattle.pw_model.specs.Domains.{stands_at};
 ghost use Rattle.pw_parts.specs.Calls.{level_ops, level_standing, opening_part};
@@ -17,7 +17,8 @@ ghost use Rattle.pw_domain.specs.Domains.{IsDomainOf, domain_part};
 use crate::setting::set_at;
 use acpi_values::Coord;
 use pw_base::{List, Memory};
-use pw_core::{Ops, opening_limit};
+use pw_core::opening_limit;
+use pw_ops::Ops;
 use pw_plan::{DomainKind, Plan};
 use std::alloc::Global;
 

@@ -10,13 +10,13 @@ ghost use Rattle.pw_parts.specs.Effects.{c_state_by, drawn_by, drawn_ops, enter_
 ghost use Rattle.pw_parts.specs.Effects.{gathered_by, member_place, state_by};
 ghost use Rattle.pw_parts.specs.Holding.{HoldsStates, member_in};
 ghost use Rattle.pw_parts.specs.Records.{group as joined};
-ghost use Rattle.pw_core.specs.Rooms.{HasRoom};
+ghost use Rattle.pw_ops.specs.Rooms.{HasRoom};
 ghost use Rattle.pw_domain.specs.Groups.{IsGroupOf, group_part};
 
 use crate::setting::enter_c;
 use acpi_values::{Coord, IdleKind, Op};
 use pw_base::{List, Memory};
-use pw_core::Ops;
+use pw_ops::Ops;
 use pw_plan::{Domain, DomainKind, Plan, covers};
 use std::alloc::Global;
 

@@ -6,10 +6,11 @@ ghost use Rattle.pw_plan.specs.Requests.{set_by};
 ghost use Rattle.pw_model.specs.Answers.{chain_of};
 ghost use Rattle.pw_model.specs.Operations.{set_at, set_on};
 ghost use Rattle.pw_parts.specs.Effects.{enter_c};
-ghost use Rattle.pw_core.specs.Rooms.{HasRoom};
+ghost use Rattle.pw_ops.specs.Rooms.{HasRoom};
 
 use acpi_values::{Chain, Composite, Coord, Op};
-use pw_core::{Ops, own_register, row, set_each, set_on};
+use pw_core::{own_register, row, set_each, set_on};
+use pw_ops::Ops;
 use pw_plan::Plan;
 
 /// Sets the new state of a domain, which this member asked for.
