@@ -58,7 +58,7 @@ set_members p r v f (m ∷ ms) e is other = step (has_member ms p) refl (λ g. s
 
 -- # In lists that are put together
 
-untouched_in : (p : ℕ) (r : Register) (f : ℕ → List Op) (k n : ℕ) → ((q : ℕ) → k ≤ q → q < k + n → Untouched p r (f q)) → Untouched p r (flat_map f (range_with_len k n))
+pub untouched_in : (p : ℕ) (r : Register) (f : ℕ → List Op) (k n : ℕ) → ((q : ℕ) → k ≤ q → q < k + n → Untouched p r (f q)) → Untouched p r (flat_map f (range_with_len k n))
 untouched_in p r f k zero h = tt
 untouched_in p r f k (suc n) h = each_append (λ o. (w : ℕ) → o ≢ Set p r w) (f k) (flat_map f (range_with_len (k + 1) n)) (h k (omega arith) (omega arith)) (untouched_in p r f (k + 1) n (λ q a b. h q (omega arith) (omega arith)))
 

@@ -18,3 +18,5 @@ pub mod Composing
 pub mod Drawn
 pub mod Rows
 pub mod Joining
+pub mod Setting
+pub mod AnyMember

@@ -67,31 +67,47 @@ each_member : (Q : ℕ → Type 0) (ms : List ℕ) → ((q : ℕ) → has_member
 each_member Q [] h = tt
 each_member Q (m ∷ ms) h = (h m (or_left (m == m) (has_member ms m) (grind (arith, nat_tests))), each_member Q ms (λ q e. h q (or_right (m == q) (has_member ms q) e)))
 
--- # Domains that software coordinates
+own_spared : (S : State) (c : Change) (kind : DomainKind) (p : ℕ) → Spares c kind p → max (limit_of kind (with_change S c) p) (ask_of kind (with_change S c) p) ≡ max (limit_of kind S p) (ask_of kind S p)
+own_spared S c kind p spared =
+    ap (λ l. max l (ask_of kind (with_change S c) p)) (limit_spared S c kind p spared)
+    ∙ ap (max (limit_of kind S p)) (ask_spared S c kind p spared)
+
+-- # Where domains stand
 
 -- the domain stands alike for whoever asks
 pub standing-any : (P : Plan) (S : State) (d p q : ℕ) → is_software (domain_at P d).coord ≡ true → standing P S d p ≡ standing P S d q
 standing-any P S d p q e = rw e refl
 
--- what spares all members leaves where they stand
-pub standing-spared : (P : Plan) (S : State) (c : Change) (d p : ℕ) → is_software (domain_at P d).coord ≡ true → ((q : ℕ) → has_member (domain_at P d).members q ≡ true → Spares c (domain_at P d).kind q)
+-- what spares all members leaves where a member stands
+pub standing-spared : (P : Plan) (S : State) (c : Change) (d p : ℕ) → has_member (domain_at P d).members p ≡ true
+    → ((q : ℕ) → has_member (domain_at P d).members q ≡ true → Spares c (domain_at P d).kind q)
     → standing P (with_change S c) d p ≡ standing P S d p
-standing-spared P S c d p e spares =
+standing-spared P S c d p member spares =
     let each = each_member (Spares c (domain_at P d).kind) (domain_at P d).members spares in
     let asks : map (ask_of (domain_at P d).kind (with_change S c)) (domain_at P d).members ≡ map (ask_of (domain_at P d).kind S) (domain_at P d).members =
     map_agree (Spares c (domain_at P d).kind) (ask_of (domain_at P d).kind (with_change S c)) (ask_of (domain_at P d).kind S) (ask_spared S c (domain_at P d).kind) (domain_at P d).members each in
     let limits : map (limit_of (domain_at P d).kind (with_change S c)) (domain_at P d).members ≡ map (limit_of (domain_at P d).kind S) (domain_at P d).members =
     map_agree (Spares c (domain_at P d).kind) (limit_of (domain_at P d).kind (with_change S c)) (limit_of (domain_at P d).kind S) (limit_spared S c (domain_at P d).kind) (domain_at P d).members each in
-    by (is_software (domain_at P d).coord) e asks limits
+    by (is_software (domain_at P d).coord) asks limits
   where
-    by : (b : Bool) → b ≡ true
+    own : max (limit_of (domain_at P d).kind (with_change S c) p) (ask_of (domain_at P d).kind (with_change S c) p) ≡ max (limit_of (domain_at P d).kind S p) (ask_of (domain_at P d).kind S p)
+    own = own_spared S c (domain_at P d).kind p (spares p member)
+
+    by : (b : Bool)
         → map (ask_of (domain_at P d).kind (with_change S c)) (domain_at P d).members ≡ map (ask_of (domain_at P d).kind S) (domain_at P d).members
         → map (limit_of (domain_at P d).kind (with_change S c)) (domain_at P d).members ≡ map (limit_of (domain_at P d).kind S) (domain_at P d).members
         → cond b (stands_at (map (ask_of (domain_at P d).kind (with_change S c)) (domain_at P d).members) (map (limit_of (domain_at P d).kind (with_change S c)) (domain_at P d).members))
         (max (limit_of (domain_at P d).kind (with_change S c) p) (ask_of (domain_at P d).kind (with_change S c) p))
         ≡ cond b (stands_at (map (ask_of (domain_at P d).kind S) (domain_at P d).members) (map (limit_of (domain_at P d).kind S) (domain_at P d).members))
         (max (limit_of (domain_at P d).kind S p) (ask_of (domain_at P d).kind S p))
-    by true h asks limits =
+    by true asks limits =
         ap (λ xs. stands_at xs (map (limit_of (domain_at P d).kind (with_change S c)) (domain_at P d).members)) asks
         ∙ ap (stands_at (map (ask_of (domain_at P d).kind S) (domain_at P d).members)) limits
-    by false h asks limits = cc
+    by false asks limits = own
+
+-- # Domains that hardware coordinates
+
+-- what spares a member leaves where it stands
+pub standing-own : (P : Plan) (S : State) (c : Change) (d p : ℕ) → is_software (domain_at P d).coord ≡ false → Spares c (domain_at P d).kind p
+    → standing P (with_change S c) d p ≡ standing P S d p
+standing-own P S c d p e spared = rw e (own_spared S c (domain_at P d).kind p spared)

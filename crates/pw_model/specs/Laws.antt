@@ -3,7 +3,7 @@ use Rattle.std.specs.Prelude.{◌≡◌, ◌≢◌, ◌<◌, ◌≤◌, ◌++◌
 use Rattle.std.specs.List.{AllByRecursion}
 use Rattle.std.specs.Option.{option_and_then}
 use Rattle.acpi_values.specs.Idle.{rows_of}
-use Rattle.acpi_values.specs.declared.dependency.Coord.TheVariants.{SwAll}
+use Rattle.acpi_values.specs.declared.dependency.Coord.{Coord}
 use Rattle.acpi_values.specs.declared.operation.Op.{Op}
 use Rattle.acpi_values.specs.declared.operation.Op.TheVariants.{Set}
 use Rattle.acpi_values.specs.declared.register.Register.{Register}
@@ -21,7 +21,7 @@ use Rattle.pw_model.specs.declared.state.State.{State}
 use Rattle.pw_model.specs.States.{ask_of, limit_of, vote_of}
 use Rattle.pw_model.specs.Containers.{child_vote}
 use Rattle.pw_model.specs.Domains.{standing, state_of}
-use Rattle.pw_model.specs.Operations.{control_of, register_of}
+use Rattle.pw_model.specs.Operations.{control_of, register_of, set_on}
 
 -- A child idles, its state enables state i of its container, and it bears that state's wake latency.
 pub record Allows (P : Plan) (S : State) (n i : ℕ) (c : Child) : Type 0 where
@@ -61,11 +61,11 @@ pub record IsLastSet (p : ℕ) (r : Register) (v : ℕ) (ops : List Op) : Type 0
   pub set : ops ≡ before ++ Set p r v ∷ later
   pub none_later : AllByRecursion (λ o. (w : ℕ) → o ≢ Set p r w) later
 
--- Domain d is of performance or throttling, fit, set on all its members, and p is one of them.
-pub record IsSetOnAll (P : Plan) (d p : ℕ) : Type 0 where
+-- Domain d is of performance or throttling, fit, coordinated so, and p is one of its members.
+pub record IsFitMember (P : Plan) (coord : Coord) (d p : ℕ) : Type 0 where
   pub exists : d < length P.domains
   pub kind : is_idle (domain_at P d).kind ≡ false
-  pub coord : (domain_at P d).coord ≡ SwAll
+  pub coordinated : (domain_at P d).coord ≡ coord
   pub fit : (domain_at P d).unfit ≡ 0
   pub member : has_member (domain_at P d).members p ≡ true
 
@@ -84,3 +84,13 @@ standing_value P S d p = control_of (scale_of (domain_at P d).kind (cpu_at P p))
 -- Processor p's register was last set to where domain d stands.
 abbrev pub IsSetToStanding : Plan → State → ℕ → ℕ → List Op → Type 0
 IsSetToStanding P S d p ops = IsLastSet p (register_of (scale_of (domain_at P d).kind (cpu_at P p))) (standing_value P S d p) ops
+
+-- The last register for states of this kind that the operations set on any of these processors is set to state s.
+pub record IsLastSetAmong (P : Plan) (kind : DomainKind) (members : List ℕ) (s : ℕ) (ops : List Op) : Type 0 where
+  pub before : List Op
+  pub later : List Op
+  pub cpu : ℕ
+  pub member : has_member members cpu ≡ true
+  pub set : ops ≡ before ++ set_on P kind s cpu ∷ later
+  pub none_later : (q : ℕ) → has_member members q ≡ true
+      → AllByRecursion (λ o. (w : ℕ) → o ≢ Set q (register_of (scale_of kind (cpu_at P q))) w) later

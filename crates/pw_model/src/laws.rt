@@ -1,5 +1,6 @@
 ghost use Rattle.std.specs.Prelude.{◌≡◌, ◌<◌, ◌≤◌, ◌++◌, ℕ, true, List, [], Some, length};
 ghost use Rattle.std.specs.List.{AllByRecursion};
+ghost use Rattle.acpi_values.specs.declared.dependency.Coord.TheVariants.{HwAll, SwAll, SwAny};
 ghost use Rattle.pw_plan.specs.declared.plan.Plan.{Plan as plan};
 ghost use Rattle.pw_plan.specs.declared.request.Request.{Request as request};
 ghost use Rattle.pw_plan.specs.declared.request.Request.TheVariants.{Wake};
@@ -15,8 +16,9 @@ ghost use Rattle.pw_model.specs.Domains.{c_state, standing};
 ghost use Rattle.pw_model.specs.Refusals.{refusal};
 ghost use Rattle.pw_model.specs.Answers.{after, answer};
 ghost use Rattle.pw_model.specs.Operations.{opening_ops, ops_of};
-ghost use Rattle.pw_model.specs.History.{Legal, history_ops, replay};
-ghost use Rattle.pw_model.specs.Laws.{AsksFrom, HasOwnRegisters, IsSetOnAll, IsSetToStanding};
+ghost use Rattle.pw_model.specs.History.{Faultless, Legal, history_ops, replay};
+ghost use Rattle.pw_model.specs.Laws.{AsksFrom, HasOwnRegisters, IsFitMember, IsLastSetAmong};
+ghost use Rattle.pw_model.specs.Laws.{IsSetToStanding};
 ghost use Rattle.pw_model.specs.Laws.{LimitsWithin, MayEnter, MayIdle};
 
 /// A container is in the deepest enabled state that every child allows, and bears the wake latency
@@ -90,10 +92,20 @@ pub fn bounds_hold()
 {}
 
 /// After the opening operations and those of a history without a fault, the control register of
-/// each member of a fit SW_ALL domain was last set to the state in which the domain stands, unless
-/// the member has one control register for both performance and throttling.
+/// each member of a fit SW_ALL domain was last set to the state in which the domain stands, that of
+/// each member of a fit HW_ALL domain to its own, and of the members of a fit SW_ANY domain the one
+/// that was set last to where the domain stands, unless a member has one control register for both
+/// performance and throttling.
 pub fn registers_stand()
-    ensures { (P : plan) (H : List entry) (d p : ℕ) → Legal P H → AllByRecursion (λ e. e.fault ≡ 0) H
-        → IsSetOnAll P d p → HasOwnRegisters P p
+    ensures all { (P : plan) (H : List entry) (d p : ℕ) → Legal P H → Faultless H
+        → IsFitMember P SwAll d p → HasOwnRegisters P p
         → IsSetToStanding P (replay P H) d p (opening_ops P ++ history_ops P H) }
+    ensures each { (P : plan) (H : List entry) (d p : ℕ) → Legal P H → Faultless H
+        → IsFitMember P HwAll d p → HasOwnRegisters P p
+        → IsSetToStanding P (replay P H) d p (opening_ops P ++ history_ops P H) }
+    ensures any { (P : plan) (H : List entry) (d p : ℕ) → Legal P H → Faultless H
+        → IsFitMember P SwAny d p
+        → ((q : ℕ) → has_member (domain_at P d).members q ≡ true → HasOwnRegisters P q)
+        → IsLastSetAmong P (domain_at P d).kind (domain_at P d).members
+        (standing P (replay P H) d p) (opening_ops P ++ history_ops P H) }
 {}
