@@ -105,7 +105,7 @@ pub negated : (b : Bool) → not b ≡ true → b ≡ false
 negated true e = cc
 negated false e = refl
 
-member_bound : (n : ℕ) (xs : List ℕ) → AllByRecursion (λ q. q < n) xs → (q : ℕ) → has_member xs q ≡ true → q < n
+pub member_bound : (n : ℕ) (xs : List ℕ) → AllByRecursion (λ q. q < n) xs → (q : ℕ) → has_member xs q ≡ true → q < n
 member_bound n [] a q e = cc
 member_bound n (x ∷ xs) a q e = by (x == q) refl e (member_bound n xs a.1 q)
   where

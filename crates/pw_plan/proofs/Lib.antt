@@ -18,3 +18,6 @@ pub mod OneDomains
 pub mod Listing
 pub mod EntryTables
 pub mod Repeats
+pub mod Among
+pub mod Indexing
+pub mod Seats

@@ -5,6 +5,7 @@ pub mod Domains
 pub mod Groups
 pub mod Orderly
 pub mod Planning
+pub mod Index
 pub mod Places
 pub mod Requests
 pub mod inner

@@ -1,5 +1,5 @@
 -- What stands at a number in a plan.
-use Rattle.std.specs.Prelude.{◌-◌, ℕ, List, [], slice_index_or, Option}
+use Rattle.std.specs.Prelude.{◌≡◌, ◌-◌, ◌<◌, ℕ, List, [], length, slice_index_or, Option, Some}
 use Rattle.std.specs.List.{position_or_len}
 use Rattle.acpi_values.specs.Idle.{rows_of}
 use Rattle.acpi_values.specs.declared.idle.IdleRow.{IdleRow}
@@ -15,6 +15,7 @@ use Rattle.pw_plan.specs.declared.plan.Plan.{Plan}
 use Rattle.pw_plan.specs.Parts.{container_in, cpu_in, no_row}
 use Rattle.pw_plan.specs.Groups.{domain_in, has_member}
 unfoldable pub use Rattle.pw_plan.specs.Groups.{no_group}
+use Rattle.pw_plan.specs.Index.{is_unfit}
 use Rattle.pw_plan.specs.Planning.{covers}
 
 abbrev pub container_at : Plan → ℕ → ContainerParts
@@ -40,6 +41,15 @@ abbrev pub parent_of : Plan → Child → Option ℕ
 parent_of P (Cpu p) = (cpu_at P p).parent
 parent_of P (Container n) = (container_at P n).parent
 
+-- whether it is a processor or a container of the plan
+abbrev pub IsIn : Plan → Child → Type 0
+IsIn P (Cpu p) = p < length P.cpus
+IsIn P (Container n) = n < length P.containers
+
+-- the child stands at this place among the children of its parent
+abbrev pub IsChildPlace : Plan → Child → ℕ → Type 0
+IsChildPlace P c j = (n : ℕ) → parent_of P c ≡ Some n → (j < length (children_at P n)) × (slice_index_or (children_at P n) j c ≡ c)
+
 abbrev pub table_of : Plan → Child → IdleTable
 table_of P (Cpu p) = (cpu_at P p).idle
 table_of P (Container n) = (container_at P n).idle
@@ -47,6 +57,10 @@ table_of P (Container n) = (container_at P n).idle
 -- the number of the first domain of this kind that has the processor, or how many domains there are
 abbrev pub domain_of : Plan → DomainKind → ℕ → ℕ
 domain_of P kind p = position_or_len (covers kind p) P.domains
+
+-- the number of the first idle domain of the processor that can't be coordinated, or how many domains there are
+abbrev pub unfit_of : Plan → ℕ → ℕ
+unfit_of P p = position_or_len (is_unfit p) P.domains
 
 -- the number of the group that has the processor, or how many groups there are
 abbrev pub group_of : Plan → ℕ → ℕ

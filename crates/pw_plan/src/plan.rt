@@ -1,11 +1,13 @@
+ghost use Rattle.pw_plan.specs.Index.{IsIndexed};
 ghost use Rattle.pw_plan.specs.Orderly.{IsOrderly};
 ghost use Rattle.pw_plan.specs.Planning.{IsPlanOf, IsSound};
 
-use crate::bounds::{covers, opening_count, set_by};
+use crate::bounds::{opening_count, set_by};
 use crate::domain::{Child, Domain, DomainKind, Group};
 use crate::domains::all_domains;
 use crate::fault::PlanFault;
-use crate::groups::{groups_of, has_member};
+use crate::groups::groups_of;
+use crate::index::{CpuIndex, Seat, container_places, cpu_indices};
 use crate::limits::limit_passed;
 use crate::parts::{ContainerParts, CpuParts};
 use crate::request::Request;
@@ -26,13 +28,19 @@ pub struct Plan {
     pub domains: List<Domain>,
     /// By their first member.
     pub groups: List<Group>,
+    /// Where each processor stands.
+    pub cpu_index: List<CpuIndex>,
+    /// The place of each container among the children of the one around it.
+    pub container_index: List<Option<usize>>,
     pub ghost planned: { ∥ IsPlanOf containers cpus children domains groups ∥₁ },
     pub ghost sound: { IsSound containers cpus children domains groups },
     pub ghost orderly: { IsOrderly containers cpus children domains groups },
+    pub ghost indexed: { IsIndexed containers cpus children domains groups cpu_index container_index },
 }
 
 impl Plan {
-    ghost use Rattle.std.specs.Prelude.{◌≡◌, ◌↔◌, ◌<◌, length, IfOk, IsTrue, ℕ, Some};
+    ghost use Rattle.std.specs.Prelude.{◌≡◌, ◌↔◌, ◌<◌, length, option_copied, slice_get};
+    ghost use Rattle.std.specs.Prelude.{IfOk, IfSome, IsTrue, MatchOption, ℕ, None, Some};
     ghost use Rattle.pw_plan.specs.Parts.{PartsFit};
     ghost use Rattle.pw_plan.specs.Tree.{all_children};
     ghost use Rattle.pw_plan.specs.Limits.{limit_passed};
@@ -40,6 +48,8 @@ impl Plan {
     ghost use Rattle.pw_plan.specs.Groups.{AreGroups, groups_of};
     ghost use Rattle.pw_plan.specs.Places.{container_at, children_at, cpu_at, domain_at};
     ghost use Rattle.pw_plan.specs.Places.{domain_of, group_at, group_of};
+    ghost use Rattle.pw_plan.specs.Places.{parent_of, unfit_of, IsChildPlace, IsIn};
+    ghost use Rattle.pw_plan.specs.Index.{idle_seats, member_place, IsPlaceIn};
     ghost use Rattle.pw_plan.specs.Requests.{Has, domain_bound};
     ghost use Rattle.pw_plan.specs.Requests.{group_bound};
     ghost use Rattle.pw_plan.specs.Requests.{opening_bound, ops_bound};
@@ -68,6 +78,14 @@ impl Plan {
         let children = all_children(alloc, containers.as_slice(), cpus.as_slice())?;
         let domains = all_domains(alloc, cpus.as_slice())?;
         let groups = groups_of(alloc, domains.as_slice(), cpus.len() as u32)?;
+        let cpu_index = cpu_indices(
+            alloc,
+            children.as_slice(),
+            cpus.as_slice(),
+            domains.as_slice(),
+            groups.as_slice(),
+        )?;
+        let container_index = container_places(alloc, children.as_slice(), containers.as_slice())?;
         let containers = List::from_vec(containers);
         let cpus = List::from_vec(cpus);
         Ok(Plan {
@@ -76,6 +94,8 @@ impl Plan {
             cpus,
             domains,
             groups,
+            cpu_index,
+            container_index,
         })
     }
 
@@ -119,30 +139,66 @@ impl Plan {
         &self.groups.as_slice()[place]
     }
 
-    /// The place of the first domain of this kind that has the processor, or how many domains there are.
-    pub fn domain_of(&self, kind: DomainKind, cpu: u32) -> usize
-        ensures { result ≡ domain_of self.now kind cpu }
+    /// Where the processor of this number stands, by the index.
+    fn index_of(&self, cpu: u32) -> Option<&CpuIndex>
+        ensures { option_copied result ≡ slice_get self.now.cpu_index cpu }
     {
-        let domains = self.domains.as_slice();
-        for (place, domain) in domains.iter().enumerate() {
-            if covers(kind, cpu, domain) {
-                return place;
-            }
-        }
-        domains.len()
+        self.cpu_index.as_slice().get(cpu as usize)
     }
 
-    /// The place of the group that has the processor, or how many groups there are.
-    pub fn group_of(&self, cpu: u32) -> usize
-        ensures { result ≡ group_of self.now cpu }
+    /// Where the processor stands in the first domain of this kind that has it, if there is one.
+    pub fn domain_of(&self, kind: DomainKind, cpu: u32) -> Option<Seat>
+        ensures place { MatchOption result (domain_of self.now kind cpu ≡ length self.now.domains)
+            (IsPlaceIn self.now.domains (domain_of self.now kind cpu)) }
+        ensures member { IfSome result
+            (λ seat. seat.member ≡ member_place (domain_at self.now seat.place).members cpu) }
     {
-        let groups = self.groups.as_slice();
-        for (place, group) in groups.iter().enumerate() {
-            if has_member(group.members.as_slice(), cpu) {
-                return place;
-            }
+        let index = self.index_of(cpu)?;
+        match kind {
+            DomainKind::Perf => index.perf,
+            DomainKind::Throttle => index.throttle,
+            DomainKind::Idle => index.idle.as_slice().first().copied(),
         }
-        groups.len()
+    }
+
+    /// Where the processor stands in its idle domains, in their order.
+    pub fn idle_domains_of(&self, cpu: u32) -> &[Seat]
+        ensures { result.now ≡ idle_seats self.now.domains cpu }
+    {
+        match self.index_of(cpu) {
+            None => &[],
+            Some(index) => index.idle.as_slice(),
+        }
+    }
+
+    /// Where the processor stands in the first of its idle domains that is unfit, if one is.
+    pub fn unfit_of(&self, cpu: u32) -> Option<Seat>
+        ensures { MatchOption result (unfit_of self.now cpu ≡ length self.now.domains)
+            (IsPlaceIn self.now.domains (unfit_of self.now cpu)) }
+    {
+        self.index_of(cpu)?.unfit
+    }
+
+    /// Where the processor stands in the group that has it, if one has.
+    pub fn group_of(&self, cpu: u32) -> Option<Seat>
+        ensures place { MatchOption result (group_of self.now cpu ≡ length self.now.groups)
+            (IsPlaceIn self.now.groups (group_of self.now cpu)) }
+        ensures member { IfSome result
+            (λ seat. seat.member ≡ member_place (group_at self.now seat.place).members cpu) }
+    {
+        self.index_of(cpu)?.group
+    }
+
+    /// The place of a processor or a container among the children of the container around it, if
+    /// there is one.
+    pub fn place_of(&self, child: Child) -> Option<usize>
+        requires { IsIn self.now child }
+        ensures { MatchOption result (parent_of self.now child ≡ None) (IsChildPlace self.now child) }
+    {
+        match child {
+            Child::Cpu(cpu) => self.index_of(cpu)?.child,
+            Child::Container(node) => self.container_index.as_slice()[node as usize],
+        }
     }
 
     /// Whether the processor of the request exists.
@@ -157,12 +213,12 @@ impl Plan {
     fn domain_bound(&self, kind: DomainKind, cpu: u32) -> u32
         ensures { result ≡ domain_bound self.now kind cpu }
     {
-        let place = self.domain_of(kind, cpu);
-        if place < self.domains.as_slice().len() {
-            let domain = self.domain(place);
-            set_by(domain.coord, domain.members.as_slice().len() as u32)
-        } else {
-            1
+        match self.domain_of(kind, cpu) {
+            None => 1,
+            Some(seat) => {
+                let domain = self.domain(seat.place);
+                set_by(domain.coord, domain.members.as_slice().len() as u32)
+            }
         }
     }
 
@@ -170,11 +226,9 @@ impl Plan {
     fn group_bound(&self, cpu: u32) -> u32
         ensures { result ≡ group_bound self.now cpu }
     {
-        let place = self.group_of(cpu);
-        if place < self.groups.as_slice().len() {
-            self.group(place).members.as_slice().len() as u32
-        } else {
-            1
+        match self.group_of(cpu) {
+            None => 1,
+            Some(seat) => self.group(seat.place).members.as_slice().len() as u32,
         }
     }
 
