@@ -5,3 +5,4 @@ pub mod Starting
 pub mod Drawing
 pub mod Comparing
 pub mod Leaving
+pub mod Owning

@@ -1,5 +1,5 @@
 -- A container's vote by the least that its children enable and bear.
-use Rattle.std.proofs.Common.{◌≡◌, ◌<◌, ◌≤◌, ◌==◌, ◌&&◌, ◌^◌, ℕ, min, Bool, true, false, cond, List, [], ◌∷◌, map, length, get_or, refl, ap, sym, ◌∙◌, arith, nat_le, drop, drop-cons, add-one, ◌+◌, Option, Some, None}
+use Rattle.std.proofs.Common.{◌≡◌, ◌<◌, ◌≤◌, ◌==◌, ◌&&◌, ◌^◌, ℕ, suc, zero, min, Bool, true, false, cond, List, [], ◌∷◌, map, length, get_or, refl, ap, sym, ◌∙◌, arith, nat_le, drop, drop-cons, add-one, ◌+◌, Option, Some, None}
 use Rattle.std.specs.Prelude.{fold}
 use Rattle.std.proofs.lemmas.Bool.Decides.{nat_tests}
 use Rattle.acpi_values.specs.Idle.{rows_of}
@@ -65,7 +65,41 @@ module _ (P : Plan) (S : State) (n : ℕ) where
       ∙ ap (λ s. vote_over s (child_votes P S n)) same
       ∙ ap (λ t. cond (state == 0) running (idling state t)) least_tolerance-is
 
+  greatest-none : (test : ℕ → Bool) (count : ℕ) → ((i : ℕ) → 0 < i → test i ≡ false) → greatest test count ≡ 0
+  greatest-none test zero h = refl
+  greatest-none test (suc count) h = rw (h (suc count) (omega arith)) (greatest-none test count h)
+
+  none_reached : (a b : Bool) (i : ℕ) → 0 < i → (a && (nat_le i 0 && b)) ≡ false
+  none_reached a b i lt = let above : nat_le i 0 ≡ false = grind (arith, nat_tests) in rw above (never a)
+    where
+      never : (a : Bool) → (a && false) ≡ false
+      never true = refl
+      never false = refl
+
+  -- where some child enables no state the container runs
+  pub runs : length (rows_of (container_at P n).idle) ≤ 255 → 0 < length (children_at P n) → (child_vote P S (get_or (children_at P n) 0 (Cpu 0))).tolerance < 2 ^ 32
+      → least_reach P S n ≡ 0 → running ≡ container_vote P S n
+  runs small some fits none =
+      let rows = length (rows_of (container_at P n).idle) in
+      let is : greatest (λ i. (row_at (container_at P n).idle i).enabled && (nat_le i (least_reach P S n) && nat_le (row_at (container_at P n).idle i).latency (least_bearing P S n))) rows ≡ 0 =
+      rw none (greatest-none (λ i. (row_at (container_at P n).idle i).enabled && (nat_le i 0 && nat_le (row_at (container_at P n).idle i).latency (least_bearing P S n))) rows
+      (λ i lt. none_reached (row_at (container_at P n).idle i).enabled (nat_le (row_at (container_at P n).idle i).latency (least_bearing P S n)) i lt)) in
+      sym (container_vote-by_least small some fits 0 (sym is))
+
 -- # The loop over the children
+
+fold-zero : (xs : List ℕ) → fold min 0 xs ≡ 0
+fold-zero [] = refl
+fold-zero (x ∷ xs) = let least : min 0 x ≡ 0 = omega arith in rw least (fold-zero xs)
+
+-- nothing is left only once the loop has begun
+pub has_begun : (i least : ℕ) → (i ≡ 0 → least ≡ 4294967295) → least ≡ 0 → 0 < i
+has_begun zero least begun none = let all = begun refl in absurd (omega (arith, all, none))
+has_begun (suc i) least begun none = omega arith
+
+-- once one enables nothing, all together enable nothing
+pub nothing_left : (least whole : ℕ) (xs : List ℕ) → least ≡ 0 → fold min least xs ≡ whole → whole ≡ 0
+nothing_left least whole xs e h = sym h ∙ ap (λ m. fold min m xs) e ∙ fold-zero xs
 
 -- one more child
 pub least_more : (f : Child → ℕ) (cs : List Child) (i least own whole : ℕ) → i < length cs → own ≡ f (get_or cs i (Cpu 0)) → fold min least (map f (drop i cs)) ≡ whole

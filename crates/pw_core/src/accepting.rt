@@ -109,9 +109,8 @@ fn idle(plan: &Plan, state: &State, change: Change, cpu: u32, ops: &mut Ops) -> 
     if chain.states[0] > 0 {
         ops.push(enter(plan, cpu, &chain));
     }
-    let place = plan.group_of(cpu);
-    if place < plan.groups.as_slice().len() {
-        let members = plan.group(place).members.as_slice();
+    if let Some(seat) = plan.group_of(cpu) {
+        let members = plan.group(seat.place).members.as_slice();
         draw_along(plan, state, change, cpu, members, ops);
     }
     chain

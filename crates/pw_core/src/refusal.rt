@@ -1,5 +1,4 @@
 ghost use Rattle.std.specs.Prelude.{◌≡◌, ◌<◌, length};
-ghost use Rattle.std.specs.List.{position_or_len};
 ghost use Rattle.pw_plan.specs.Parts.{scale_of};
 ghost use Rattle.pw_plan.specs.Places.{cpu_at};
 ghost use Rattle.pw_plan.specs.Requests.{Has};
@@ -7,7 +6,7 @@ ghost use Rattle.pw_model.specs.States.{IsState};
 ghost use Rattle.pw_model.specs.Refusals.{above_limit, ask_refusal};
 ghost use Rattle.pw_model.specs.Refusals.{domain_refusal};
 ghost use Rattle.pw_model.specs.Refusals.{fixed_refusal};
-ghost use Rattle.pw_model.specs.Refusals.{idle_refusal, is_unfit};
+ghost use Rattle.pw_model.specs.Refusals.{idle_refusal};
 ghost use Rattle.pw_model.specs.Refusals.{refusal, unfit_refusal};
 
 use crate::counts::in_32_bits;
@@ -15,41 +14,17 @@ use crate::reads::limit_under;
 use crate::tree::row;
 use acpi_values::IdleKind;
 use pw_model::{Change, Reply, State};
-use pw_plan::{Domain, DomainKind, Plan, Request, covers};
+use pw_plan::{DomainKind, Plan, Request};
 
-/// Whether it is an idle domain of the processor that can't be coordinated.
-fn is_unfit(cpu: u32, domain: &Domain) -> bool
-    ensures { result ≡ is_unfit cpu domain.now }
-{
-    covers(DomainKind::Idle, cpu, domain) && domain.unfit != 0
-}
-
-/// The place of the first such domain, or how many domains there are.
-fn unfit_of(plan: &Plan, cpu: u32) -> usize
-    ensures { result ≡ position_or_len (is_unfit cpu) plan.now.domains }
-{
-    let domains = plan.domains.as_slice();
-    for (place, domain) in domains.iter().enumerate() {
-        if is_unfit(cpu, domain) {
-            return place;
-        }
-    }
-    domains.len()
-}
-
-/// The refusal for the first such domain.
+/// The refusal for the first idle domain of the processor that can't be coordinated.
 fn unfit_refusal(plan: &Plan, cpu: u32) -> Option<Reply>
     ensures { result ≡ unfit_refusal plan.now cpu }
 {
-    let place = unfit_of(plan, cpu);
-    if place < plan.domains.as_slice().len() {
-        Some(Reply::Unfit {
-            domain: in_32_bits(place),
-            why: plan.domain(place).unfit,
-        })
-    } else {
-        None
-    }
+    let seat = plan.unfit_of(cpu)?;
+    Some(Reply::Unfit {
+        domain: in_32_bits(seat.place),
+        why: plan.domain(seat.place).unfit,
+    })
 }
 
 /// The refusal of an idle request.
@@ -88,13 +63,15 @@ fn domain_refusal(plan: &Plan, kind: DomainKind, cpu: u32) -> Option<Reply>
     if plan.cpu(cpu).scale(kind).is_none() {
         return Some(Reply::NoTable);
     }
-    let place = plan.domain_of(kind, cpu);
-    let why = plan.domain(place).unfit;
+    let Some(seat) = plan.domain_of(kind, cpu) else {
+        unreachable!()
+    };
+    let why = plan.domain(seat.place).unfit;
     if why == 0 {
         None
     } else {
         Some(Reply::Unfit {
-            domain: place as u32,
+            domain: seat.place as u32,
             why,
         })
     }

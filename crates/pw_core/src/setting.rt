@@ -78,9 +78,11 @@ pub fn stands_under(plan: &Plan, state: &State, change: Change, kind: DomainKind
     requires fits { IsState plan.now state.now }
     ensures { result ≡ stands plan.now (with_change state.now change) kind cpu }
 {
-    let place = plan.domain_of(kind, cpu);
+    let Some(seat) = plan.domain_of(kind, cpu) else {
+        unreachable!()
+    };
     Reply::Stands {
-        index: u32::from(standing(plan, state, change, place, cpu)),
+        index: u32::from(standing(plan, state, change, seat.place, cpu)),
     }
 }
 
@@ -104,11 +106,13 @@ pub fn set_domain(
           ++ domain_ops plan.now state.now (with_change state.now change) kind cpu;
     } }
 {
-    let place = plan.domain_of(kind, cpu);
-    let before = standing(plan, state, Change::Nothing, place, cpu);
-    let after = standing(plan, state, change, place, cpu);
+    let Some(seat) = plan.domain_of(kind, cpu) else {
+        unreachable!()
+    };
+    let before = standing(plan, state, Change::Nothing, seat.place, cpu);
+    let after = standing(plan, state, change, seat.place, cpu);
     if before != after {
-        let domain = plan.domain(place);
+        let domain = plan.domain(seat.place);
         match domain.coord {
             Coord::SwAll => set_each(plan, kind, after, domain.members.as_slice(), ops),
             Coord::SwAny => ops.push(set_on(plan, kind, after, cpu)),

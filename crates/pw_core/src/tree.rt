@@ -143,6 +143,10 @@ pub fn container_vote(
         tolerance: u32::MAX,
     };
     for child in children {
+        // Once a child enables no state, its container runs whatever the others do.
+        if least.state == 0 {
+            return RUNNING;
+        }
         let own = match *child {
             Child::Cpu(cpu) => allowed(&plan.cpu(cpu).idle, cpu_vote(plan, state, change, cpu)),
             Child::Container(below) => allowed(

@@ -1,4 +1,4 @@
-use Rattle.std.proofs.Common.{◌≡◌, ◌≤◌, length, ap, ◌∙◌}
+use Rattle.std.proofs.Common.{◌≡◌, ◌≤◌, length, ap, ◌∙◌, arith}
 use Rattle.pw_plan.specs.declared.domain.Group.{Group}
 use Rattle.pw_plan.specs.Places.{group_at, group_of}
 use Rattle.pw_model.specs.States.{with_change}
@@ -28,11 +28,11 @@ draw_along-requires-clause-room c =
       | else-chain-gt0 w ↦ own_kept P T p chain c.requires.cpu c.requires.fits c.chain_under-chain.ensures c.requires.table ops c.if-chain-gt0.ops c.requires.idles w.if-chain-gt0.false w.ops-is
     ] in
     let members : c.as_slice-members.result.now ≡ (group_at P (group_of P p)).members =
-    c.as_slice-members.ensures ∙ ap (λ (g : Group). g.members) c.group.ensures ∙ ap (λ n. (group_at P n).members) c.group_of-place.ensures in
+    c.as_slice-members.ensures ∙ ap (λ (g : Group). g.members) c.group.ensures ∙ ap (λ n. (group_at P n).members) (c.in-Some.ensures.place).0 in
     room_drawn P S T p ops c.requires.room c.if-chain-gt0.ops c.as_slice-members.result.now mid members
 
-pub returns-then-place-as_slice-clause-list : goal.returns-then-place-as_slice-clause-list
-returns-then-place-as_slice-clause-list c =
+pub returns-in-Some-clause-list : goal.returns-in-Some-clause-list
+returns-in-Some-clause-list c =
     let P = c.args.plan.now in
     let S = c.args.state.now in
     let T = with_change S c.args.change in
@@ -45,11 +45,11 @@ returns-then-place-as_slice-clause-list c =
       | else-chain-gt0 w ↦ own_kept P T p chain c.requires.cpu c.requires.fits c.chain_under-chain.ensures c.requires.table ops c.if-chain-gt0.ops c.requires.idles w.if-chain-gt0.false w.ops-is
     ] in
     let members : c.as_slice-members.result.now ≡ (group_at P (group_of P p)).members =
-    c.as_slice-members.ensures ∙ ap (λ (g : Group). g.members) c.group.ensures ∙ ap (λ n. (group_at P n).members) c.group_of-place.ensures in
+    c.as_slice-members.ensures ∙ ap (λ (g : Group). g.members) c.group.ensures ∙ ap (λ n. (group_at P n).members) (c.in-Some.ensures.place).0 in
     idles_with P S T p ops c.if-chain-gt0.ops c.draw_along.new.ops c.as_slice-members.result.now members mid c.draw_along.ensures
 
-pub returns-else-place-as_slice-clause-list : goal.returns-else-place-as_slice-clause-list
-returns-else-place-as_slice-clause-list c =
+pub returns-in_default-clause-list : goal.returns-in_default-clause-list
+returns-in_default-clause-list c =
     let P = c.args.plan.now in
     let S = c.args.state.now in
     let T = with_change S c.args.change in
@@ -61,5 +61,6 @@ returns-else-place-as_slice-clause-list c =
       | then-chain-gt0 w ↦ own_pushed P T p chain c.requires.cpu c.requires.fits c.chain_under-chain.ensures c.requires.table ops c.if-chain-gt0.ops w.enter.result w.if-chain-gt0.true w.enter.ensures (w.ops-is ∙ w.push.ensures)
       | else-chain-gt0 w ↦ own_kept P T p chain c.requires.cpu c.requires.fits c.chain_under-chain.ensures c.requires.table ops c.if-chain-gt0.ops c.requires.idles w.if-chain-gt0.false w.ops-is
     ] in
-    let none : length P.groups ≤ group_of P p = rw (← c.group_of-place.ensures, ← c.as_slice.ensures) c.if-place-as_slice.false in
+    let e : group_of P p ≡ length P.groups = rw c.in_default.is at c.group_of.ensures.place in
+    let none : length P.groups ≤ group_of P p = omega arith in
     idles_alone P S T p ops c.if-chain-gt0.ops none mid

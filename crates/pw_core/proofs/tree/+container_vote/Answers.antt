@@ -11,7 +11,7 @@ use Rattle.pw_model.proofs.Enabling.{container_vote-le, container_vote-none}
 use Rattle.pw_model.proofs.Votes.{container_child}
 use Rattle.pw_plan.specs.declared.parts.ContainerParts.{ContainerParts}
 use Rattle.pw_plan.specs.declared.parts.CpuParts.{CpuParts}
-use Rattle.pw_core.proofs.Voting.{IsAllowed, is_allowed, container_vote-by_least, least_bearing, least_more, least_reach}
+use Rattle.pw_core.proofs.Voting.{IsAllowed, is_allowed, container_vote-by_least, has_begun, least_bearing, least_more, least_reach, nothing_left, runs}
 use Rattle.pw_core.proofs.tree.+container_vote.Goals as goal
 use Rattle.pw_core.proofs.tree.+container_vote.Goals.{in-Cpu, in-Container}
 
@@ -46,12 +46,26 @@ loop-child-preserved t c =
           (w.own-is ∙ w.allowed-own-in-Container.ensures.value) (ap (λ (x : ContainerParts). x.idle) w.container.ensures) w.container_vote.ensures w.allowed-own-in-Container.ensures.fits)
     ] in
     record {
+      begun = λ e. absurd (omega arith);
       state = rw c.min.ensures (least_more (λ d. enables_to (table_of P d) (child_vote P S d)) cs i c.loop-child.least.state c.match-child.own.state
           (least_reach P S c.args.node) c.loop-child-test.true own.state c.loop-child.invariant.state);
       tolerance = rw c.min-in-loop-child.ensures (least_more (λ d. (child_vote P S d).tolerance) cs i c.loop-child.least.tolerance c.match-child.own.tolerance
           (least_bearing P S c.args.node) c.loop-child-test.true own.tolerance c.loop-child.invariant.tolerance);
       fits = below_more _ _ c.loop-child.invariant.fits own.fits;
     }
+
+pub returns-then-least-eq0 : goal.returns-then-least-eq0
+unfolding any_latency
+returns-then-least-eq0 t c =
+    let P = c.args.plan.now in
+    let S = with_change c.args.state.now c.args.change in
+    let cs = c.children_of-children.result.now in
+    let some : 0 < length cs = grind (arith, nat_tests) in
+    let later : 0 < c.loop-child.child-index = has_begun c.loop-child.child-index c.loop-child.least.state c.loop-child.invariant.begun c.if-least-eq0.true in
+    let rest = map (λ d. enables_to (table_of P d) (child_vote P S d)) (drop c.loop-child.child-index cs) in
+    let none = nothing_left c.loop-child.least.state (least_reach P S c.args.node) rest c.if-least-eq0.true c.loop-child.invariant.state in
+    runs P S c.args.node (P.sound.small.container_rows c.args.node) (rw (← c.children_of-children.ensures) some)
+    (rw (← c.children_of-children.ensures) (c.loop-child.invariant.fits 0 later)) none
 
 pub returns : goal.returns
 returns t c =

@@ -12,6 +12,7 @@ decreases-container_vote l = length l.plan.now.containers - l.node
 
 abbrev pub invariant-loop-child : goal.invariant-loop-child
 invariant-loop-child l = record {
+  begun : l.child-index ≡ 0 → l.least.state ≡ 4294967295;
   state : fold min l.least.state (map (λ c. enables_to (table_of l.plan c) (child_vote l.plan (with_change l.state l.change) c)) (drop l.child-index l.children))
       ≡ least_reach l.plan (with_change l.state l.change) l.node;
   tolerance : fold min l.least.tolerance (map (λ c. (child_vote l.plan (with_change l.state l.change) c).tolerance) (drop l.child-index l.children))
