@@ -109,8 +109,8 @@ fn idle(plan: &Plan, state: &State, change: Change, cpu: u32, ops: &mut Ops) -> 
     if chain.states[0] > 0 {
         ops.push(enter(plan, cpu, &chain));
     }
-    if let Some(seat) = plan.group_of(cpu) {
-        let members = plan.group(seat.place).members.as_slice();
+    if let Some(membership) = plan.group_of(cpu) {
+        let members = plan.group(membership.place).members.as_slice();
         draw_along(plan, state, change, cpu, members, ops);
     }
     chain

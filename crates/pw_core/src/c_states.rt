@@ -38,8 +38,8 @@ fn may_enter(plan: &Plan, state: &State, change: Change, cpu: u32, level: u8) ->
     requires { IsState plan.now state.now }
     ensures { result ≡ may_enter plan.now (with_change state.now change) cpu level }
 {
-    for seat in plan.idle_domains_of(cpu) {
-        let domain = plan.domain(seat.place);
+    for membership in plan.idle_domains_of(cpu) {
+        let domain = plan.domain(membership.place);
         if governs(cpu, level, domain) && !is_gathered(state, change, domain) {
             return false;
         }
@@ -67,8 +67,8 @@ pub fn c_state(plan: &Plan, state: &State, change: Change, cpu: u32) -> u8
 fn is_set_on_all(plan: &Plan, cpu: u32, level: u8) -> bool
     ensures { result ≡ list_any (λ d. governs cpu level d && is_sw_all d.coord) plan.now.domains }
 {
-    for seat in plan.idle_domains_of(cpu) {
-        let domain = plan.domain(seat.place);
+    for membership in plan.idle_domains_of(cpu) {
+        let domain = plan.domain(membership.place);
         if governs(cpu, level, domain) && matches!(domain.coord, Coord::SwAll) {
             return true;
         }

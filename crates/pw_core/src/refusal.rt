@@ -20,10 +20,10 @@ use pw_plan::{DomainKind, Plan, Request};
 fn unfit_refusal(plan: &Plan, cpu: u32) -> Option<Reply>
     ensures { result ≡ unfit_refusal plan.now cpu }
 {
-    let seat = plan.unfit_of(cpu)?;
+    let membership = plan.unfit_of(cpu)?;
     Some(Reply::Unfit {
-        domain: in_32_bits(seat.place),
-        why: plan.domain(seat.place).unfit,
+        domain: in_32_bits(membership.place),
+        why: plan.domain(membership.place).unfit,
     })
 }
 
@@ -63,15 +63,15 @@ fn domain_refusal(plan: &Plan, kind: DomainKind, cpu: u32) -> Option<Reply>
     if plan.cpu(cpu).scale(kind).is_none() {
         return Some(Reply::NoTable);
     }
-    let Some(seat) = plan.domain_of(kind, cpu) else {
+    let Some(membership) = plan.domain_of(kind, cpu) else {
         unreachable!()
     };
-    let why = plan.domain(seat.place).unfit;
+    let why = plan.domain(membership.place).unfit;
     if why == 0 {
         None
     } else {
         Some(Reply::Unfit {
-            domain: seat.place as u32,
+            domain: membership.place as u32,
             why,
         })
     }

@@ -78,11 +78,11 @@ pub fn stands_under(plan: &Plan, state: &State, change: Change, kind: DomainKind
     requires fits { IsState plan.now state.now }
     ensures { result ≡ stands plan.now (with_change state.now change) kind cpu }
 {
-    let Some(seat) = plan.domain_of(kind, cpu) else {
+    let Some(membership) = plan.domain_of(kind, cpu) else {
         unreachable!()
     };
     Reply::Stands {
-        index: u32::from(standing(plan, state, change, seat.place, cpu)),
+        index: u32::from(standing(plan, state, change, membership.place, cpu)),
     }
 }
 
@@ -106,13 +106,13 @@ pub fn set_domain(
           ++ domain_ops plan.now state.now (with_change state.now change) kind cpu;
     } }
 {
-    let Some(seat) = plan.domain_of(kind, cpu) else {
+    let Some(membership) = plan.domain_of(kind, cpu) else {
         unreachable!()
     };
-    let before = standing(plan, state, Change::Nothing, seat.place, cpu);
-    let after = standing(plan, state, change, seat.place, cpu);
+    let before = standing(plan, state, Change::Nothing, membership.place, cpu);
+    let after = standing(plan, state, change, membership.place, cpu);
     if before != after {
-        let domain = plan.domain(seat.place);
+        let domain = plan.domain(membership.place);
         match domain.coord {
             Coord::SwAll => set_each(plan, kind, after, domain.members.as_slice(), ops),
             Coord::SwAny => ops.push(set_on(plan, kind, after, cpu)),

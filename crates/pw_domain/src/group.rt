@@ -90,8 +90,8 @@ fn may_enter(
     requires { place < length states.now }
     ensures { result ≡ enters_by plan.now members.now (slice_set states.now place own) cpu level }
 {
-    for seat in plan.idle_domains_of(cpu) {
-        let domain = plan.domain(seat.place);
+    for membership in plan.idle_domains_of(cpu) {
+        let domain = plan.domain(membership.place);
         if governs(cpu, level, domain) && !is_gathered(domain, members, states, place, own) {
             return false;
         }
@@ -118,8 +118,8 @@ fn c_state_in(plan: &Plan, members: &[u32], states: &[u8], place: usize, own: u8
 fn is_set_on_all(plan: &Plan, cpu: u32, level: u8) -> bool
     ensures { result ≡ list_any (λ d. governs cpu level d && is_sw_all d.coord) plan.now.domains }
 {
-    for seat in plan.idle_domains_of(cpu) {
-        let domain = plan.domain(seat.place);
+    for membership in plan.idle_domains_of(cpu) {
+        let domain = plan.domain(membership.place);
         if governs(cpu, level, domain) && matches!(domain.coord, Coord::SwAll) {
             return true;
         }

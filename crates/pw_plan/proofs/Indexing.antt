@@ -9,10 +9,10 @@ use Rattle.std.proofs.lemmas.List.Elements.{All-from_recursion}
 use Rattle.pw_plan.specs.declared.parts.ContainerParts.{ContainerParts}
 use Rattle.pw_plan.specs.declared.domain.Domain.{Domain}
 use Rattle.pw_plan.specs.declared.domain.DomainKind.TheVariants.{Idle}
-use Rattle.pw_plan.specs.declared.index.Seat.{Seat}
+use Rattle.pw_plan.specs.declared.index.Membership.{Membership}
 use Rattle.pw_plan.specs.Groups.{domain_in, no_domain}
-use Rattle.pw_plan.specs.Index.{first_seat, idle_seats, is_unfit, seat_in}
-use Rattle.pw_plan.specs.inner.Seats.{shows_unfit}
+use Rattle.pw_plan.specs.Index.{first_membership, idle_memberships, is_unfit, membership_in}
+use Rattle.pw_plan.specs.inner.Memberships.{shows_unfit}
 use Rattle.pw_plan.specs.Parts.{ParentsFall, container_in, is_below}
 use Rattle.pw_plan.specs.Planning.{covers}
 use Rattle.pw_plan.specs.Tree.{places_from}
@@ -46,7 +46,7 @@ module _ {X : Type 0} (t : X → Bool) (xs : List X) (k : ℕ) (d : X) (so_far :
 -- # The first unfit one
 
 -- the first of the places of those that pass one test whose element passes another
-find_among : {X : Type 0} (t u : X → Bool) (whole : List X) (d : X) (f : ℕ → Seat) (v : Seat → Bool) → ((k : ℕ) → v (f k) ≡ u (get_or whole k d))
+find_among : {X : Type 0} (t u : X → Bool) (whole : List X) (d : X) (f : ℕ → Membership) (v : Membership → Bool) → ((k : ℕ) → v (f k) ≡ u (get_or whole k d))
     → (k : ℕ) (xs : List X) → drop k whole ≡ xs → (q : ℕ) → q ≡ k + position_or_len (λ x. t x && u x) xs
     → find v (map f (places_from t k xs)) ≡ option_map f (cond (nat_lt q (k + length xs)) (Some q) None)
 find_among t u whole d f v same k [] at q e =
@@ -76,9 +76,9 @@ find_among t u whole d f v same k (x ∷ xs) at q e =
     by ih true ta false ub = rw (ta, shows, ub) (later ih (rw (ta, ub) refl))
     by ih false ta b ub = rw ta (later ih (rw ta refl))
 
-pub first_unfit : (ds : List Domain) (p : ℕ) → find (shows_unfit ds) (idle_seats ds p) ≡ first_seat (is_unfit p) ds p
+pub first_unfit : (ds : List Domain) (p : ℕ) → find (shows_unfit ds) (idle_memberships ds p) ≡ first_membership (is_unfit p) ds p
 first_unfit ds p =
-    rw zero-add at (find_among (covers Idle p) (λ (x : Domain). not (x.unfit == 0)) ds no_domain (seat_in ds p) (shows_unfit ds) (λ k. refl) 0 ds refl
+    rw zero-add at (find_among (covers Idle p) (λ (x : Domain). not (x.unfit == 0)) ds no_domain (membership_in ds p) (shows_unfit ds) (λ k. refl) 0 ds refl
     (position_or_len (is_unfit p) ds) (omega arith))
 
 -- # Where they stand
@@ -87,11 +87,11 @@ place_within : {X : Type 0} (t : X → Bool) (xs : List X) (d : X) (i : ℕ) →
 place_within t xs d i lt = All-from_recursion (λ q. q < length xs) (places_from t 0 xs) (places-each (λ q. q < length xs) t 0 xs d (λ j le e. omega arith)) i 0 lt
 
 -- each idle domain is one of the list
-pub idle_within : (ds : List Domain) (p i : ℕ) (d : Seat) → i < length (idle_seats ds p) → (get_or (idle_seats ds p) i d).place < length ds
+pub idle_within : (ds : List Domain) (p i : ℕ) (d : Membership) → i < length (idle_memberships ds p) → (get_or (idle_memberships ds p) i d).place < length ds
 idle_within ds p i d lt =
-    let count = length-map (places_from (covers Idle p) 0 ds) (seat_in ds p) in
+    let count = length-map (places_from (covers Idle p) 0 ds) (membership_in ds p) in
     let short : i < length (places_from (covers Idle p) 0 ds) = omega (arith, count) in
-    rw (get_or-map (seat_in ds p) (places_from (covers Idle p) 0 ds) i 0 d short) (place_within (covers Idle p) ds no_domain i short)
+    rw (get_or-map (membership_in ds p) (places_from (covers Idle p) 0 ds) i 0 d short) (place_within (covers Idle p) ds no_domain i short)
 
 -- # Parents
 

@@ -20,4 +20,4 @@ pub mod EntryTables
 pub mod Repeats
 pub mod Among
 pub mod Indexing
-pub mod Seats
+pub mod Memberships

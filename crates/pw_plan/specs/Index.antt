@@ -10,7 +10,7 @@ use Rattle.pw_plan.specs.declared.domain.Domain.{Domain}
 use Rattle.pw_plan.specs.declared.domain.DomainKind.TheVariants.{Perf, Throttle, Idle}
 use Rattle.pw_plan.specs.declared.domain.Group.{Group}
 use Rattle.pw_plan.specs.declared.index.CpuIndex.{CpuIndex}
-use Rattle.pw_plan.specs.declared.index.Seat.{Seat}
+use Rattle.pw_plan.specs.declared.index.Membership.{Membership}
 use Rattle.pw_plan.specs.Groups.{domain_in, has_member, no_group}
 use Rattle.pw_plan.specs.Orderly.{is_same}
 use Rattle.pw_plan.specs.Parts.{container_in, cpu_in}
@@ -21,33 +21,33 @@ use Rattle.pw_plan.specs.Tree.{places_from}
 abbrev pub member_place : List ℕ → ℕ → ℕ
 member_place members p = position_or_len (λ q. q == p) members
 
--- the seat is in element k of these domains or groups
-abbrev pub IsPlaceIn : {X : Type 0} → List X → ℕ → Seat → Type 0
-IsPlaceIn xs k seat = (seat.place ≡ k) × (k < length xs)
+-- the membership is in element k of these domains or groups
+abbrev pub IsPlaceIn : {X : Type 0} → List X → ℕ → Membership → Type 0
+IsPlaceIn xs k membership = (membership.place ≡ k) × (k < length xs)
 
 -- where processor p stands in domain d
-abbrev pub seat_in : List Domain → ℕ → ℕ → Seat
-seat_in ds p d = record { place = d; member = member_place (domain_in ds d).members p }
+abbrev pub membership_in : List Domain → ℕ → ℕ → Membership
+membership_in ds p d = record { place = d; member = member_place (domain_in ds d).members p }
 
 -- where it stands in the first domain that passes a test
-abbrev pub first_seat : (Domain → Bool) → List Domain → ℕ → Option Seat
-first_seat test ds p = option_map (seat_in ds p) (position test ds)
+abbrev pub first_membership : (Domain → Bool) → List Domain → ℕ → Option Membership
+first_membership test ds p = option_map (membership_in ds p) (position test ds)
 
 -- where it stands in its idle domains, in their order
-abbrev pub idle_seats : List Domain → ℕ → List Seat
-idle_seats ds p = map (seat_in ds p) (places_from (covers Idle p) 0 ds)
+abbrev pub idle_memberships : List Domain → ℕ → List Membership
+idle_memberships ds p = map (membership_in ds p) (places_from (covers Idle p) 0 ds)
 
 -- whether it is an idle domain of processor p that can't be coordinated
 abbrev pub is_unfit : ℕ → Domain → Bool
 is_unfit p d = covers Idle p d && not (d.unfit == 0)
 
 -- where processor p stands in group g
-abbrev pub group_seat_in : List Group → ℕ → ℕ → Seat
-group_seat_in gs p g = record { place = g; member = member_place (slice_index_or gs g no_group).members p }
+abbrev pub group_membership_in : List Group → ℕ → ℕ → Membership
+group_membership_in gs p g = record { place = g; member = member_place (slice_index_or gs g no_group).members p }
 
 -- where it stands in the group that has it
-abbrev pub group_seat : List Group → ℕ → Option Seat
-group_seat gs p = option_map (group_seat_in gs p) (position (λ (g : Group). has_member g.members p) gs)
+abbrev pub group_membership : List Group → ℕ → Option Membership
+group_membership gs p = option_map (group_membership_in gs p) (position (λ (g : Group). has_member g.members p) gs)
 
 -- the place of a child among the children of its container
 abbrev pub child_place : List (List Child) → Option ℕ → Child → Option ℕ
@@ -58,11 +58,11 @@ child_place children (Some n) child = position (is_same child) (slice_index_or c
 abbrev pub index_under : List (List Child) → Option ℕ → List Domain → List Group → ℕ → CpuIndex
 index_under children parent ds gs p = record {
   child = child_place children parent (Cpu p);
-  perf = first_seat (covers Perf p) ds p;
-  throttle = first_seat (covers Throttle p) ds p;
-  idle = idle_seats ds p;
-  unfit = first_seat (is_unfit p) ds p;
-  group = group_seat gs p;
+  perf = first_membership (covers Perf p) ds p;
+  throttle = first_membership (covers Throttle p) ds p;
+  idle = idle_memberships ds p;
+  unfit = first_membership (is_unfit p) ds p;
+  group = group_membership gs p;
 }
 
 -- where processor p stands

@@ -2,4 +2,4 @@
 pub mod Once
 pub mod DomainList
 pub mod EntryTables
-pub mod Seats
+pub mod Memberships

@@ -2,9 +2,9 @@
 //! every machine.
 ghost use Rattle.std.specs.Prelude.{◌≡◌, ◌<◌, ◌≤◌, ℕ, find, length, true, All, IfOk};
 ghost use Rattle.pw_plan.specs.Index.{child_place, container_places, cpu_indices};
-ghost use Rattle.pw_plan.specs.Index.{first_seat, group_seat, idle_seats};
-ghost use Rattle.pw_plan.specs.Index.{index_under, member_place, seat_in};
-ghost use Rattle.pw_plan.specs.inner.Seats.{shows_unfit};
+ghost use Rattle.pw_plan.specs.Index.{first_membership, group_membership, idle_memberships};
+ghost use Rattle.pw_plan.specs.Index.{index_under, member_place, membership_in};
+ghost use Rattle.pw_plan.specs.inner.Memberships.{shows_unfit};
 ghost use Rattle.pw_plan.specs.Orderly.{is_same};
 ghost use Rattle.pw_plan.specs.Parts.{container_in, cpu_in, is_below};
 ghost use Rattle.pw_plan.specs.Planning.{covers};
@@ -19,7 +19,7 @@ use std::alloc::Global;
 
 /// Where a processor stands in a domain or a group.
 #[derive(Clone, Copy)]
-pub struct Seat {
+pub struct Membership {
     /// The place of the domain or the group in the plan's list.
     pub place: usize,
     /// The processor's place among the members.
@@ -31,13 +31,13 @@ pub struct Seat {
 pub struct CpuIndex {
     /// Its place among the children of its container.
     pub child: Option<usize>,
-    pub perf: Option<Seat>,
-    pub throttle: Option<Seat>,
+    pub perf: Option<Membership>,
+    pub throttle: Option<Membership>,
     /// In its idle domains, in their order.
-    pub idle: List<Seat>,
+    pub idle: List<Membership>,
     /// In the first of them that is unfit.
-    pub unfit: Option<Seat>,
-    pub group: Option<Seat>,
+    pub unfit: Option<Membership>,
+    pub group: Option<Membership>,
 }
 
 /// The place of a processor among these members, or how many they are.
@@ -53,70 +53,70 @@ fn member_place(members: &[u32], cpu: u32) -> usize
 }
 
 /// Where a processor stands in the domain at this place.
-fn seat_in(domains: &[Domain], cpu: u32, place: usize) -> Seat
+fn membership_in(domains: &[Domain], cpu: u32, place: usize) -> Membership
     requires { place < length domains.now }
-    ensures { result ≡ seat_in domains.now cpu place }
+    ensures { result ≡ membership_in domains.now cpu place }
 {
-    Seat {
+    Membership {
         place,
         member: member_place(domains[place].members.as_slice(), cpu),
     }
 }
 
 /// Where a processor stands in its domain of performance or throttling.
-fn first_seat(kind: DomainKind, domains: &[Domain], cpu: u32) -> Option<Seat>
-    ensures { result ≡ first_seat (covers kind cpu) domains.now cpu }
+fn first_membership(kind: DomainKind, domains: &[Domain], cpu: u32) -> Option<Membership>
+    ensures { result ≡ first_membership (covers kind cpu) domains.now cpu }
 {
     for (place, domain) in domains.iter().enumerate() {
         if covers(kind, cpu, domain) {
-            return Some(seat_in(domains, cpu, place));
+            return Some(membership_in(domains, cpu, place));
         }
     }
     None
 }
 
 /// Where a processor stands in its idle domains, in their order.
-fn idle_seats(alloc: Global, domains: &[Domain], cpu: u32) -> Result<List<Seat>, Memory>
-    ensures { IfOk result (λ seats. seats ≡ idle_seats domains.now cpu) }
+fn idle_memberships(alloc: Global, domains: &[Domain], cpu: u32) -> Result<List<Membership>, Memory>
+    ensures { IfOk result (λ memberships. memberships ≡ idle_memberships domains.now cpu) }
 {
-    let mut seats = Vec::new(alloc);
+    let mut memberships = Vec::new(alloc);
     for (place, domain) in domains.iter().enumerate() {
         if covers(DomainKind::Idle, cpu, domain) {
-            seats.push(seat_in(domains, cpu, place))?;
+            memberships.push(membership_in(domains, cpu, place))?;
         }
     }
-    Ok(List::from_vec(seats))
+    Ok(List::from_vec(memberships))
 }
 
-/// Whether the domain of a seat is unfit.
-fn shows_unfit(domains: &[Domain], seat: Seat) -> bool
-    requires { seat.place < length domains.now }
-    ensures { result ≡ shows_unfit domains.now seat }
+/// Whether the domain of a membership is unfit.
+fn shows_unfit(domains: &[Domain], membership: Membership) -> bool
+    requires { membership.place < length domains.now }
+    ensures { result ≡ shows_unfit domains.now membership }
 {
-    domains[seat.place].unfit != 0
+    domains[membership.place].unfit != 0
 }
 
-/// The first of these seats whose domain is unfit.
-fn unfit_seat(domains: &[Domain], seats: &[Seat]) -> Option<Seat>
-    requires { All (λ seat. seat.place < length domains.now) seats.now }
-    ensures { result ≡ find (shows_unfit domains.now) seats.now }
+/// The first of these memberships whose domain is unfit.
+fn unfit_membership(domains: &[Domain], memberships: &[Membership]) -> Option<Membership>
+    requires { All (λ membership. membership.place < length domains.now) memberships.now }
+    ensures { result ≡ find (shows_unfit domains.now) memberships.now }
 {
-    for seat in seats {
-        if shows_unfit(domains, *seat) {
-            return Some(*seat);
+    for membership in memberships {
+        if shows_unfit(domains, *membership) {
+            return Some(*membership);
         }
     }
     None
 }
 
 /// Where a processor stands in the group that has it.
-fn group_seat(groups: &[Group], cpu: u32) -> Option<Seat>
-    ensures { result ≡ group_seat groups.now cpu }
+fn group_membership(groups: &[Group], cpu: u32) -> Option<Membership>
+    ensures { result ≡ group_membership groups.now cpu }
 {
     for (place, group) in groups.iter().enumerate() {
         let members = group.members.as_slice();
         if has_member(members, cpu) {
-            return Some(Seat {
+            return Some(Membership {
                 place,
                 member: member_place(members, cpu),
             });
@@ -162,15 +162,15 @@ fn cpu_index(
     requires { is_below (length children.now) parent ≡ true }
     ensures { IfOk result (λ index. index ≡ index_under children.now parent domains.now groups.now cpu) }
 {
-    let idle = idle_seats(alloc, domains, cpu)?;
-    let unfit = unfit_seat(domains, idle.as_slice());
+    let idle = idle_memberships(alloc, domains, cpu)?;
+    let unfit = unfit_membership(domains, idle.as_slice());
     Ok(CpuIndex {
         child: child_place(children, parent, Child::Cpu(cpu)),
-        perf: first_seat(DomainKind::Perf, domains, cpu),
-        throttle: first_seat(DomainKind::Throttle, domains, cpu),
+        perf: first_membership(DomainKind::Perf, domains, cpu),
+        throttle: first_membership(DomainKind::Throttle, domains, cpu),
         idle,
         unfit,
-        group: group_seat(groups, cpu),
+        group: group_membership(groups, cpu),
     })
 }
 

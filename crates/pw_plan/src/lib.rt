@@ -20,7 +20,7 @@ mod tree;
 pub use bounds::covers;
 pub use domain::{Child, Domain, DomainKind, Group};
 pub use fault::PlanFault;
-pub use index::{CpuIndex, Seat};
+pub use index::{CpuIndex, Membership};
 pub use laws::domains_are_known;
 pub use parts::{ContainerParts, CpuParts, Scale};
 pub use parts_check::parts_ok;

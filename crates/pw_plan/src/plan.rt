@@ -7,7 +7,7 @@ use crate::domain::{Child, Domain, DomainKind, Group};
 use crate::domains::all_domains;
 use crate::fault::PlanFault;
 use crate::groups::groups_of;
-use crate::index::{CpuIndex, Seat, container_places, cpu_indices};
+use crate::index::{CpuIndex, Membership, container_places, cpu_indices};
 use crate::limits::limit_passed;
 use crate::parts::{ContainerParts, CpuParts};
 use crate::request::Request;
@@ -49,7 +49,7 @@ impl Plan {
     ghost use Rattle.pw_plan.specs.Places.{container_at, children_at, cpu_at, domain_at};
     ghost use Rattle.pw_plan.specs.Places.{domain_of, group_at, group_of};
     ghost use Rattle.pw_plan.specs.Places.{parent_of, unfit_of, IsChildPlace, IsIn};
-    ghost use Rattle.pw_plan.specs.Index.{idle_seats, member_place, IsPlaceIn};
+    ghost use Rattle.pw_plan.specs.Index.{idle_memberships, member_place, IsPlaceIn};
     ghost use Rattle.pw_plan.specs.Requests.{Has, domain_bound};
     ghost use Rattle.pw_plan.specs.Requests.{group_bound};
     ghost use Rattle.pw_plan.specs.Requests.{opening_bound, ops_bound};
@@ -147,11 +147,11 @@ impl Plan {
     }
 
     /// Where the processor stands in the first domain of this kind that has it, if there is one.
-    pub fn domain_of(&self, kind: DomainKind, cpu: u32) -> Option<Seat>
+    pub fn domain_of(&self, kind: DomainKind, cpu: u32) -> Option<Membership>
         ensures place { MatchOption result (domain_of self.now kind cpu ≡ length self.now.domains)
             (IsPlaceIn self.now.domains (domain_of self.now kind cpu)) }
         ensures member { IfSome result
-            (λ seat. seat.member ≡ member_place (domain_at self.now seat.place).members cpu) }
+            (λ membership. membership.member ≡ member_place (domain_at self.now membership.place).members cpu) }
     {
         let index = self.index_of(cpu)?;
         match kind {
@@ -162,8 +162,8 @@ impl Plan {
     }
 
     /// Where the processor stands in its idle domains, in their order.
-    pub fn idle_domains_of(&self, cpu: u32) -> &[Seat]
-        ensures { result.now ≡ idle_seats self.now.domains cpu }
+    pub fn idle_domains_of(&self, cpu: u32) -> &[Membership]
+        ensures { result.now ≡ idle_memberships self.now.domains cpu }
     {
         match self.index_of(cpu) {
             None => &[],
@@ -172,7 +172,7 @@ impl Plan {
     }
 
     /// Where the processor stands in the first of its idle domains that is unfit, if one is.
-    pub fn unfit_of(&self, cpu: u32) -> Option<Seat>
+    pub fn unfit_of(&self, cpu: u32) -> Option<Membership>
         ensures { MatchOption result (unfit_of self.now cpu ≡ length self.now.domains)
             (IsPlaceIn self.now.domains (unfit_of self.now cpu)) }
     {
@@ -180,11 +180,11 @@ impl Plan {
     }
 
     /// Where the processor stands in the group that has it, if one has.
-    pub fn group_of(&self, cpu: u32) -> Option<Seat>
+    pub fn group_of(&self, cpu: u32) -> Option<Membership>
         ensures place { MatchOption result (group_of self.now cpu ≡ length self.now.groups)
             (IsPlaceIn self.now.groups (group_of self.now cpu)) }
         ensures member { IfSome result
-            (λ seat. seat.member ≡ member_place (group_at self.now seat.place).members cpu) }
+            (λ membership. membership.member ≡ member_place (group_at self.now membership.place).members cpu) }
     {
         self.index_of(cpu)?.group
     }
@@ -215,8 +215,8 @@ impl Plan {
     {
         match self.domain_of(kind, cpu) {
             None => 1,
-            Some(seat) => {
-                let domain = self.domain(seat.place);
+            Some(membership) => {
+                let domain = self.domain(membership.place);
                 set_by(domain.coord, domain.members.as_slice().len() as u32)
             }
         }
@@ -228,7 +228,7 @@ impl Plan {
     {
         match self.group_of(cpu) {
             None => 1,
-            Some(seat) => self.group(seat.place).members.as_slice().len() as u32,
+            Some(membership) => self.group(membership.place).members.as_slice().len() as u32,
         }
     }
 

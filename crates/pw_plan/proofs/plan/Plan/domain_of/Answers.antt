@@ -2,9 +2,9 @@ use Rattle.std.proofs.Common.{◌≡◌, ◌∙◌, ap, refl}
 use Rattle.std.specs.List.{slice_get}
 use Rattle.pw_plan.specs.declared.domain.DomainKind.TheVariants.{Perf, Throttle, Idle}
 use Rattle.pw_plan.specs.declared.index.CpuIndex.{CpuIndex}
-use Rattle.pw_plan.specs.Index.{first_seat, seat_in}
+use Rattle.pw_plan.specs.Index.{first_membership, membership_in}
 use Rattle.pw_plan.specs.Planning.{covers}
-use Rattle.pw_plan.proofs.Seats.{covers_has, first_idle, index_none, index_some, member_is, no_domain_of, seat_is}
+use Rattle.pw_plan.proofs.Memberships.{covers_has, first_idle, index_none, index_some, member_is, no_domain_of, membership_is}
 use Rattle.pw_plan.proofs.plan.Plan.domain_of.Goals as goal
 
 pub returns-in_err-index-clause-place : goal.returns-in_err-index-clause-place
@@ -16,7 +16,7 @@ pub returns-in-Perf-clause-place : goal.returns-in-Perf-clause-place
 returns-in-Perf-clause-place c =
     let P = c.args.self.now in
     let is = index_some P c.args.cpu c.in_ok-index.index.now c.in_ok-index.ensures in
-    rw c.in-Perf.is (seat_is (covers Perf c.args.cpu) P.domains (seat_in P.domains c.args.cpu) (λ k. refl) c.in_ok-index.index.now.perf (ap (λ (i : CpuIndex). i.perf) is))
+    rw c.in-Perf.is (membership_is (covers Perf c.args.cpu) P.domains (membership_in P.domains c.args.cpu) (λ k. refl) c.in_ok-index.index.now.perf (ap (λ (i : CpuIndex). i.perf) is))
 
 pub returns-in-Perf-clause-member : goal.returns-in-Perf-clause-member
 returns-in-Perf-clause-member c =
@@ -28,7 +28,7 @@ pub returns-in-Throttle-clause-place : goal.returns-in-Throttle-clause-place
 returns-in-Throttle-clause-place c =
     let P = c.args.self.now in
     let is = index_some P c.args.cpu c.in_ok-index.index.now c.in_ok-index.ensures in
-    rw c.in-Throttle.is (seat_is (covers Throttle c.args.cpu) P.domains (seat_in P.domains c.args.cpu) (λ k. refl) c.in_ok-index.index.now.throttle (ap (λ (i : CpuIndex). i.throttle) is))
+    rw c.in-Throttle.is (membership_is (covers Throttle c.args.cpu) P.domains (membership_in P.domains c.args.cpu) (λ k. refl) c.in_ok-index.index.now.throttle (ap (λ (i : CpuIndex). i.throttle) is))
 
 pub returns-in-Throttle-clause-member : goal.returns-in-Throttle-clause-member
 returns-in-Throttle-clause-member c =
@@ -36,7 +36,7 @@ returns-in-Throttle-clause-member c =
     let is = index_some P c.args.cpu c.in_ok-index.index.now c.in_ok-index.ensures in
     member_is P.domains c.args.cpu (covers Throttle c.args.cpu) c.in_ok-index.index.now.throttle (ap (λ (i : CpuIndex). i.throttle) is)
 
-first_is : (c : goal.After-copied) → c.copied.result ≡ first_seat (covers Idle c.args.cpu) c.args.self.now.domains c.args.cpu
+first_is : (c : goal.After-copied) → c.copied.result ≡ first_membership (covers Idle c.args.cpu) c.args.self.now.domains c.args.cpu
 first_is c =
     let P = c.args.self.now in
     let is = index_some P c.args.cpu c.in_ok-index.index.now c.in_ok-index.ensures in
@@ -46,7 +46,7 @@ first_is c =
 pub returns-in-Idle-clause-place : goal.returns-in-Idle-clause-place
 returns-in-Idle-clause-place c =
     let P = c.args.self.now in
-    rw c.in-Idle.is (seat_is (covers Idle c.args.cpu) P.domains (seat_in P.domains c.args.cpu) (λ k. refl) c.copied.result (first_is c))
+    rw c.in-Idle.is (membership_is (covers Idle c.args.cpu) P.domains (membership_in P.domains c.args.cpu) (λ k. refl) c.copied.result (first_is c))
 
 pub returns-in-Idle-clause-member : goal.returns-in-Idle-clause-member
 returns-in-Idle-clause-member c = member_is c.args.self.now.domains c.args.cpu (covers Idle c.args.cpu) c.copied.result (first_is c)

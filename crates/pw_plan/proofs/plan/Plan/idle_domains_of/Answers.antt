@@ -1,6 +1,6 @@
 use Rattle.std.proofs.Common.{◌∙◌, ap, sym}
 use Rattle.pw_plan.specs.declared.index.CpuIndex.{CpuIndex}
-use Rattle.pw_plan.proofs.Seats.{index_none, index_some, no_idle_of}
+use Rattle.pw_plan.proofs.Memberships.{index_none, index_some, no_idle_of}
 use Rattle.pw_plan.proofs.plan.Plan.idle_domains_of.Goals as goal
 
 pub returns-in-None : goal.returns-in-None

@@ -1,7 +1,7 @@
 use Rattle.std.proofs.Common.{◌<◌, length, get_or, None, ap, arith}
 use Rattle.pw_plan.specs.declared.domain.Child.TheVariants.{Cpu, Container}
 use Rattle.pw_plan.specs.declared.index.CpuIndex.{CpuIndex}
-use Rattle.pw_plan.proofs.Seats.{child_is, index_none, index_some, place_is, places_size}
+use Rattle.pw_plan.proofs.Memberships.{child_is, index_none, index_some, place_is, places_size}
 use Rattle.pw_plan.proofs.plan.Plan.place_of.Goals as goal
 
 pub returns-in_err-index_of-in-Cpu : goal.returns-in_err-index_of-in-Cpu

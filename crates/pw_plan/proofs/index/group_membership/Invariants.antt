@@ -2,7 +2,7 @@ use Rattle.std.proofs.Common.{◌≡◌, ◌+◌, drop}
 use Rattle.std.specs.List.{position_or_len}
 use Rattle.pw_plan.specs.declared.domain.Group.{Group}
 use Rattle.pw_plan.specs.Groups.{has_member}
-use Rattle.pw_plan.proofs.index.group_seat.Given as goal
+use Rattle.pw_plan.proofs.index.group_membership.Given as goal
 
 abbrev pub invariant-loop-place : goal.invariant-loop-place
 invariant-loop-place l =

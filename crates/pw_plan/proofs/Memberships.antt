@@ -15,10 +15,10 @@ use Rattle.pw_plan.specs.declared.domain.DomainKind.{DomainKind}
 use Rattle.pw_plan.specs.declared.domain.DomainKind.TheVariants.{Idle}
 use Rattle.pw_plan.specs.declared.domain.Group.{Group}
 use Rattle.pw_plan.specs.declared.index.CpuIndex.{CpuIndex}
-use Rattle.pw_plan.specs.declared.index.Seat.{Seat}
+use Rattle.pw_plan.specs.declared.index.Membership.{Membership}
 use Rattle.pw_plan.specs.declared.plan.Plan.{Plan}
 use Rattle.pw_plan.specs.Groups.{domain_in, has_member, no_domain, no_group}
-use Rattle.pw_plan.specs.Index.{IsPlaceIn, child_place, container_place, cpu_index, first_seat, group_seat, group_seat_in, idle_seats, is_unfit, member_place, seat_in}
+use Rattle.pw_plan.specs.Index.{IsPlaceIn, child_place, container_place, cpu_index, first_membership, group_membership, group_membership_in, idle_memberships, is_unfit, member_place, membership_in}
 use Rattle.pw_plan.specs.Orderly.{is_same}
 use Rattle.pw_plan.specs.Parts.{container_in, cpu_in}
 use Rattle.pw_plan.specs.Places.{children_at, domain_at, domain_of, group_at, group_of, parent_of, unfit_of, IsChildPlace, IsIn}
@@ -45,29 +45,29 @@ index_is P p d lt =
 place_le : {X : Type 0} (t : X → Bool) (xs : List X) → position_or_len t xs ≤ length xs
 place_le t xs = prefix_len-le-length (λ x. not (t x)) xs
 
-module _ {X : Type 0} (t : X → Bool) (xs : List X) (f : ℕ → Seat) (at : (k : ℕ) → (f k).place ≡ k) where
-  pub seat_is : (r : Option Seat) → r ≡ option_map f (position t xs) → MatchOption r (position_or_len t xs ≡ length xs) (IsPlaceIn xs (position_or_len t xs))
-  seat_is r e = subst (λ s. MatchOption s (position_or_len t xs ≡ length xs) (IsPlaceIn xs (position_or_len t xs))) (sym e) (by (nat_lt (position_or_len t xs) (length xs)) refl)
+module _ {X : Type 0} (t : X → Bool) (xs : List X) (f : ℕ → Membership) (at : (k : ℕ) → (f k).place ≡ k) where
+  pub membership_is : (r : Option Membership) → r ≡ option_map f (position t xs) → MatchOption r (position_or_len t xs ≡ length xs) (IsPlaceIn xs (position_or_len t xs))
+  membership_is r e = subst (λ s. MatchOption s (position_or_len t xs ≡ length xs) (IsPlaceIn xs (position_or_len t xs))) (sym e) (by (nat_lt (position_or_len t xs) (length xs)) refl)
     where
       by : (b : Bool) → nat_lt (position_or_len t xs) (length xs) ≡ b
           → MatchOption (option_map f (cond b (Some (position_or_len t xs)) None)) (position_or_len t xs ≡ length xs) (IsPlaceIn xs (position_or_len t xs))
       by true h = (at (position_or_len t xs), grind (arith, nat_tests))
       by false h = let le = place_le t xs in let ge : length xs ≤ position_or_len t xs = grind (arith, nat_tests) in omega (arith, le, ge)
 
-pub member_is : (ds : List Domain) (p : ℕ) (t : Domain → Bool) (r : Option Seat) → r ≡ first_seat t ds p → IfSome r (λ s. s.member ≡ member_place (domain_in ds s.place).members p)
+pub member_is : (ds : List Domain) (p : ℕ) (t : Domain → Bool) (r : Option Membership) → r ≡ first_membership t ds p → IfSome r (λ s. s.member ≡ member_place (domain_in ds s.place).members p)
 member_is ds p t r e = subst (λ s. IfSome s (λ s. s.member ≡ member_place (domain_in ds s.place).members p)) (sym e) (by (nat_lt (position_or_len t ds) (length ds)))
   where
-    by : (b : Bool) → IfSome (option_map (seat_in ds p) (cond b (Some (position_or_len t ds)) None)) (λ s. s.member ≡ member_place (domain_in ds s.place).members p)
+    by : (b : Bool) → IfSome (option_map (membership_in ds p) (cond b (Some (position_or_len t ds)) None)) (λ s. s.member ≡ member_place (domain_in ds s.place).members p)
     by true = refl
     by false = tt
 
-pub group_member_is : (gs : List Group) (p : ℕ) (r : Option Seat) → r ≡ group_seat gs p → IfSome r (λ s. s.member ≡ member_place (get_or gs s.place no_group).members p)
+pub group_member_is : (gs : List Group) (p : ℕ) (r : Option Membership) → r ≡ group_membership gs p → IfSome r (λ s. s.member ≡ member_place (get_or gs s.place no_group).members p)
 group_member_is gs p r e = subst (λ s. IfSome s (λ s. s.member ≡ member_place (get_or gs s.place no_group).members p)) (sym e) (by (nat_lt k (length gs)))
   where
     k : ℕ
     k = position_or_len (λ (g : Group). has_member g.members p) gs
 
-    by : (b : Bool) → IfSome (option_map (group_seat_in gs p) (cond b (Some k) None)) (λ s. s.member ≡ member_place (get_or gs s.place no_group).members p)
+    by : (b : Bool) → IfSome (option_map (group_membership_in gs p) (cond b (Some k) None)) (λ s. s.member ≡ member_place (get_or gs s.place no_group).members p)
     by true = refl
     by false = tt
 
@@ -146,12 +146,12 @@ no_places t k (x ∷ xs) e = by (no_places t (k + 1) xs) (t x) refl
     by ih true h = let here = position-here t x xs h in absurd (omega (arith, e, here))
     by ih false h = let later = position-later t x xs h in rw h (ih (omega (arith, e, later)))
 
-pub no_idle_of : (P : Plan) (p : ℕ) → length P.cpus ≤ p → idle_seats P.domains p ≡ []
-no_idle_of P p le = ap (map (seat_in P.domains p)) (no_places (covers Idle p) 0 P.domains (no_domain_of P p le (covers Idle p) (covers_has Idle p)))
+pub no_idle_of : (P : Plan) (p : ℕ) → length P.cpus ≤ p → idle_memberships P.domains p ≡ []
+no_idle_of P p le = ap (map (membership_in P.domains p)) (no_places (covers Idle p) 0 P.domains (no_domain_of P p le (covers Idle p) (covers_has Idle p)))
 
 -- # The first idle domain
 
-first_among : {X : Type 0} (t : X → Bool) (f : ℕ → Seat) (k : ℕ) (xs : List X) (q : ℕ) → q ≡ k + position_or_len t xs
+first_among : {X : Type 0} (t : X → Bool) (f : ℕ → Membership) (k : ℕ) (xs : List X) (q : ℕ) → q ≡ k + position_or_len t xs
     → slice_get (map f (places_from t k xs)) 0 ≡ option_map f (cond (nat_lt q (k + length xs)) (Some q) None)
 first_among t f k [] q e =
     let h : nat_lt q (k + 0) ≡ false = grind (arith, nat_tests) in
@@ -171,20 +171,20 @@ first_among t f k (x ∷ xs) q e = by (first_among t f (k + 1) xs q) (t x) refl
         let len : (k + 1) + length xs ≡ k + suc (length xs) = omega arith in
         rw h (rw len at (ih (omega (arith, e, later))))
 
-pub first_idle : (ds : List Domain) (p : ℕ) → slice_get (idle_seats ds p) 0 ≡ first_seat (covers Idle p) ds p
-first_idle ds p = rw zero-add at (first_among (covers Idle p) (seat_in ds p) 0 ds (position_or_len (covers Idle p) ds) (omega arith))
+pub first_idle : (ds : List Domain) (p : ℕ) → slice_get (idle_memberships ds p) 0 ≡ first_membership (covers Idle p) ds p
+first_idle ds p = rw zero-add at (first_among (covers Idle p) (membership_in ds p) 0 ds (position_or_len (covers Idle p) ds) (omega arith))
 
 -- # Own idle domains
 
 -- all domains pass a test where the processor's idle ones do, if the others do
 pub all_own : (P : Plan) (p : ℕ) (t : Domain → Bool) → ((d : Domain) → covers Idle p d ≡ false → t d ≡ true)
-    → list_all (λ (s : Seat). t (domain_at P s.place)) (idle_seats P.domains p) ≡ list_all t P.domains
-all_own P p t outside = all_among (covers Idle p) t P.domains no_domain (seat_in P.domains p) (λ s. t (domain_at P s.place)) (λ k. refl) outside 0 P.domains refl
+    → list_all (λ (s : Membership). t (domain_at P s.place)) (idle_memberships P.domains p) ≡ list_all t P.domains
+all_own P p t outside = all_among (covers Idle p) t P.domains no_domain (membership_in P.domains p) (λ s. t (domain_at P s.place)) (λ k. refl) outside 0 P.domains refl
 
 -- one passes where one of its idle ones does, if no other does
 pub any_own : (P : Plan) (p : ℕ) (t : Domain → Bool) → ((d : Domain) → covers Idle p d ≡ false → t d ≡ false)
-    → list_any (λ (s : Seat). t (domain_at P s.place)) (idle_seats P.domains p) ≡ list_any t P.domains
-any_own P p t outside = any_among (covers Idle p) t P.domains no_domain (seat_in P.domains p) (λ s. t (domain_at P s.place)) (λ k. refl) outside 0 P.domains refl
+    → list_any (λ (s : Membership). t (domain_at P s.place)) (idle_memberships P.domains p) ≡ list_any t P.domains
+any_own P p t outside = any_among (covers Idle p) t P.domains no_domain (membership_in P.domains p) (λ s. t (domain_at P s.place)) (λ k. refl) outside 0 P.domains refl
 
 -- # Children
 
