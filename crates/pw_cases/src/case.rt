@@ -1,6 +1,5 @@
 use crate::bytes::{block_of, put_bytes};
-use anyhow::{Context, anyhow};
-use pw_base::{MemoryFiles, MemorySink};
+use pw_base::{MemoryFile, MemoryFiles, MemorySink};
 use pw_cli::run;
 use std::alloc::Global;
 
@@ -11,7 +10,6 @@ const ROOM: u32 = 20_000_000;
 /// must stand on the two outputs.
 #[derive(Drop)]
 pub struct Case {
-    pub name: String,
     a: Vec<u8>,
     b: Vec<u8>,
     c: Vec<u8>,
@@ -22,9 +20,8 @@ pub struct Case {
 }
 
 impl Case {
-    pub fn named(alloc: Global, name: &str) -> anyhow::Result<Case> {
-        Ok(Case {
-            name: String::from_str(alloc, name)?,
+    pub fn new(alloc: Global) -> Case {
+        Case {
             a: Vec::new(alloc),
             b: Vec::new(alloc),
             c: Vec::new(alloc),
@@ -32,97 +29,94 @@ impl Case {
             piece: 1 << 20,
             out: Vec::new(alloc),
             err: Vec::new(alloc),
-        })
+        }
     }
 
     /// Reads a line of the list.
-    pub fn read(&mut self, alloc: Global, line: &str) -> anyhow::Result<()> {
+    pub fn read(&mut self, alloc: Global, line: &str) -> Option<()> {
         let Some((key, rest)) = line.split_once(" ") else {
-            return if line.is_empty() {
-                Ok(())
-            } else {
-                Err(anyhow!("a line without a space"))
-            };
+            return if line.is_empty() { Some(()) } else { None };
         };
         match key {
-            "#" => Ok(()),
+            "#" => Some(()),
             "run" => self.read_words(alloc, rest),
             "reads-of" => {
-                self.piece = rest.parse::<u32>().context("a number")?;
-                Ok(())
+                self.piece = rest.parse::<u32>().ok()?;
+                Some(())
             }
             "out" => put_line(&mut self.out, rest),
             "out-bytes" => put_bytes(alloc, &mut self.out, rest),
-            "out-file" => {
-                let held = self.file(rest)?.clone()?;
-                self.out.extend_from_slice(held.as_slice())?;
-                Ok(())
-            }
+            "out-file" => self.put_file(rest),
             "err" => put_line(&mut self.err, rest),
             "block" => self.make_block(alloc, rest),
             name => put_bytes(alloc, self.file(name)?, rest),
         }
     }
 
-    fn read_words(&mut self, alloc: Global, words: &str) -> anyhow::Result<()> {
+    fn read_words(&mut self, alloc: Global, words: &str) -> Option<()> {
         for word in words.split_whitespace() {
-            self.words.push(String::from_str(alloc, word)?)?;
+            let word = String::from_str(alloc, word).ok()?;
+            self.words.push(word).ok()?;
         }
-        Ok(())
+        Some(())
+    }
+
+    fn put_file(&mut self, name: &str) -> Option<()> {
+        let held = self.file(name)?.clone().ok()?;
+        self.out.extend_from_slice(held.as_slice()).ok()
     }
 
     /// Puts the header of a block before what a file has.
-    fn make_block(&mut self, alloc: Global, words: &str) -> anyhow::Result<()> {
-        let (name, signature) = words.split_once(" ").context("a file and a signature")?;
+    fn make_block(&mut self, alloc: Global, words: &str) -> Option<()> {
+        let (name, signature) = words.split_once(" ")?;
         let file = self.file(name)?;
         *file = block_of(alloc, signature, file.as_slice())?;
-        Ok(())
+        Some(())
     }
 
-    fn file(&mut self, name: &str) -> anyhow::Result<&mut Vec<u8>> {
+    fn file(&mut self, name: &str) -> Option<&mut Vec<u8>> {
         match name {
-            "a" => Ok(&mut self.a),
-            "b" => Ok(&mut self.b),
-            "c" => Ok(&mut self.c),
-            _ => Err(anyhow!("no file")),
+            "a" => Some(&mut self.a),
+            "b" => Some(&mut self.b),
+            "c" => Some(&mut self.c),
+            _ => None,
         }
     }
 
-    fn files(&self, alloc: Global) -> anyhow::Result<MemoryFiles> {
+    fn files(&self, alloc: Global) -> Option<MemoryFiles> {
         let mut held = Vec::new(alloc);
-        held.push((String::from_str(alloc, "a")?, self.a.clone()?))?;
-        held.push((String::from_str(alloc, "b")?, self.b.clone()?))?;
-        held.push((String::from_str(alloc, "c")?, self.c.clone()?))?;
-        Ok(MemoryFiles::new(held, Vec::new(alloc), self.piece.max(1)))
+        let a = MemoryFile::new(String::from_str(alloc, "a").ok()?, self.a.clone().ok()?);
+        held.push(a).ok()?;
+        let b = MemoryFile::new(String::from_str(alloc, "b").ok()?, self.b.clone().ok()?);
+        held.push(b).ok()?;
+        let c = MemoryFile::new(String::from_str(alloc, "c").ok()?, self.c.clone().ok()?);
+        held.push(c).ok()?;
+        Some(MemoryFiles::new(held, Vec::new(alloc), self.piece.max(1)))
     }
 
     /// What came of the run: `as it must be`, or what else.
-    pub fn run(&self, alloc: Global, status: u8) -> anyhow::Result<String> {
+    pub fn run(&self, alloc: Global, status: u8) -> Option<&'static str> {
         let mut files = self.files(alloc)?;
         let mut out = sink(alloc)?;
         let mut err = sink(alloc)?;
         let outcome = run(alloc, self.words.as_slice(), &mut files, &mut out, &mut err);
-        if outcome.status != status {
-            return Ok(format!(in alloc; "status {}", outcome.status)?);
-        }
-        if out.written() != self.out.as_slice() {
-            return Ok(format!(in alloc; "another output, {:?}", out.written())?);
-        }
-        if err.written() != self.err.as_slice() {
-            return Ok(format!(in alloc; "another line, {:?}", err.written())?);
-        }
-        Ok(String::from_str(alloc, "as it must be")?)
+        Some(if outcome.status != status {
+            "another status"
+        } else if out.written() != self.out.as_slice() {
+            "another output"
+        } else if err.written() != self.err.as_slice() {
+            "another line"
+        } else {
+            "as it must be"
+        })
     }
 }
 
-fn sink(alloc: Global) -> anyhow::Result<MemorySink> {
-    MemorySink::new(alloc, ROOM, Vec::new(alloc), ROOM)
-        .ok()
-        .context("no memory")
+fn sink(alloc: Global) -> Option<MemorySink> {
+    MemorySink::new(alloc, ROOM, Vec::new(alloc), ROOM).ok()
 }
 
-fn put_line(bytes: &mut Vec<u8>, line: &str) -> anyhow::Result<()> {
-    bytes.extend_from_slice(line.as_bytes())?;
-    bytes.push(b'\n')?;
-    Ok(())
+fn put_line(bytes: &mut Vec<u8>, line: &str) -> Option<()> {
+    bytes.extend_from_slice(line.as_bytes()).ok()?;
+    bytes.push(b'\n').ok()
 }

@@ -6,22 +6,35 @@
 mod bytes;
 mod case;
 
-use anyhow::Context;
 use case::Case;
-use std::fs;
+use std::alloc::Global;
+use std::{fs, io};
 
-fn main(rt: HostRuntime) -> anyhow::Result<()> {
+/// Reads a line that begins no case. A line with the case's status ends it, and says what came of it.
+fn took(alloc: Global, case: &mut Case, line: &str) -> Option<Option<&'static str>> {
+    match line.strip_prefix("status ") {
+        Some(status) => Some(Some(case.run(alloc, status.parse::<u8>().ok()?)?)),
+        None => {
+            case.read(alloc, line)?;
+            Some(None)
+        }
+    }
+}
+
+fn main(rt: HostRuntime) -> io::Result<()> {
     let list = fs::read_to_string(&rt, "cases.txt")?;
-    let mut case = Case::named(rt.alloc(), "")?;
+    let mut case = Case::new(rt.alloc());
+    let mut case_name = "";
     for line in list.as_str().lines() {
         if let Some(name) = line.strip_prefix("case ") {
-            case = Case::named(rt.alloc(), name)?;
-        } else if let Some(status) = line.strip_prefix("status ") {
-            let status = status.parse::<u8>().context("a status")?;
-            let came = case.run(rt.alloc(), status)?;
-            println!(rt; "{}: {came}", case.name)?;
-        } else {
-            case.read(rt.alloc(), line)?;
+            case = Case::new(rt.alloc());
+            case_name = name;
+            continue;
+        }
+        match took(rt.alloc(), &mut case, line) {
+            None => println!(rt; "{case_name}: can't be read, or want of memory: {line}")?,
+            Some(Some(came)) => println!(rt; "{case_name}: {came}")?,
+            Some(None) => {}
         }
     }
     Ok(())
