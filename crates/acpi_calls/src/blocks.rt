@@ -1,5 +1,5 @@
 use aml_block::{BlockFault, HeaderFault};
-use pw_base::MemoryFiles;
+use pw_base::{MemoryFile, MemoryFiles};
 use pw_blocks::{BlocksFault, encode_blocks, read_blocks};
 use std::alloc::Global;
 use std::test::Fail;
@@ -17,9 +17,9 @@ fn files_of(alloc: Global) -> Result<MemoryFiles, Fail> {
     named[9] = 0x20;
     named.extend_from_slice(b"\x08_PPC\x00")?;
     let mut held = Vec::new(alloc);
-    held.push((String::from_str(alloc, "a")?, EMPTY.to_vec(alloc)?))?;
-    held.push((String::from_str(alloc, "b")?, wrong))?;
-    held.push((String::from_str(alloc, "c")?, named))?;
+    held.push(MemoryFile::new(String::from_str(alloc, "a")?, EMPTY.to_vec(alloc)?))?;
+    held.push(MemoryFile::new(String::from_str(alloc, "b")?, wrong))?;
+    held.push(MemoryFile::new(String::from_str(alloc, "c")?, named))?;
     Ok(MemoryFiles::new(held, Vec::new(alloc), 100_000))
 }
 

@@ -72,9 +72,9 @@ fn room_fills_and_empties(rt: HostRuntime) -> Result<(), Fail> {
 fn memory_files_read_by_pieces_and_fail_where_listed(rt: HostRuntime) -> Result<(), Fail> {
     let mut held = Vec::new(rt.alloc());
     let ab = String::from_str(rt.alloc(), "ab")?;
-    held.push((ab, [9u8].to_vec(rt.alloc())?))?;
+    held.push(MemoryFile::new(ab, [9u8].to_vec(rt.alloc())?))?;
     let a = String::from_str(rt.alloc(), "a")?;
-    held.push((a, [1u8, 2, 3, 4, 5].to_vec(rt.alloc())?))?;
+    held.push(MemoryFile::new(a, [1u8, 2, 3, 4, 5].to_vec(rt.alloc())?))?;
     let mut files = MemoryFiles::new(held, [3u32].to_vec(rt.alloc())?, 2);
     let mut buf = [0u8; 4];
     assert_eq!(rt; files.read("a", 0, &mut buf), Ok(2));
