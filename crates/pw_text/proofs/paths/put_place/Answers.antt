@@ -17,7 +17,7 @@ two_and_rest (x ∷ []) first second h e d = absurd (omega arith)
 two_and_rest (x ∷ y ∷ rest) first second h e d =
     let more = flat_map dotted rest in
     ap (λ (f : List ℕ). (92 ∷ f ++ 46 ∷ second) ++ more) e ∙ ap (λ (s : List ℕ). (92 ∷ x ++ 46 ∷ s) ++ more) d
-        ∙ ap (λ (l : List ℕ). 92 ∷ l) (append_assoc x (46 ∷ y) more ∙ sym (join-flat_map 46 x (y ∷ rest)))
+    ∙ ap (λ (l : List ℕ). 92 ∷ l) (append_assoc x (46 ∷ y) more ∙ sym (join-flat_map 46 x (y ∷ rest)))
 
 pub returns-in_err-put_two-in-len2-up : goal.returns-in_err-put_two-in-len2-up
 returns-in_err-put_two-in-len2-up g c =
