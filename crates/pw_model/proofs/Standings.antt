@@ -11,57 +11,60 @@ use Rattle.pw_plan.specs.Places.{domain_at}
 use Rattle.pw_plan.proofs.Lists.{or_left, or_right}
 use Rattle.pw_model.specs.declared.state.Change.{Change}
 use Rattle.pw_model.specs.declared.state.Change.TheVariants as changes
+use Rattle.pw_model.specs.declared.state.ScaleKind.{ScaleKind}
+use Rattle.pw_model.specs.declared.state.ScaleKind.TheVariants as scales
 use Rattle.pw_model.specs.declared.state.State.{State}
 use Rattle.pw_model.specs.States.{ask_of, limit_of, with_change}
 use Rattle.pw_model.specs.Domains.{standing, stands_at}
 use Rattle.pw_model.proofs.Maps.{map_agree}
 
+-- the kind of the domains whose members share such states
+abbrev pub domain_kind : ScaleKind → DomainKind
+domain_kind scales.Perf = Perf
+domain_kind scales.Throttle = Throttle
+
 -- the change is of no ask and no limit of this kind of processor q
 abbrev pub Spares : Change → DomainKind → ℕ → Type 0
 Spares changes.Nothing kind q = Unit {0}
 Spares (changes.Vote p v) kind q = Unit {0}
-Spares (changes.Ask k p i) kind q = kind ≡ k → q ≢ p
-Spares (changes.Limit k p n) kind q = kind ≡ k → q ≢ p
+Spares (changes.Ask k p i) kind q = kind ≡ domain_kind k → q ≢ p
+Spares (changes.Limit k p n) kind q = kind ≡ domain_kind k → q ≢ p
 
 pub ask_spared : (S : State) (c : Change) (kind : DomainKind) (q : ℕ) → Spares c kind q → ask_of kind (with_change S c) q ≡ ask_of kind S q
 ask_spared S changes.Nothing kind q h = refl
 ask_spared S (changes.Vote p v) Perf q h = refl
 ask_spared S (changes.Vote p v) Throttle q h = refl
 ask_spared S (changes.Vote p v) Idle q h = refl
-ask_spared S (changes.Ask Perf p i) Perf q h = get_or-set_other S.perf_asks p q i 0 (h refl)
-ask_spared S (changes.Ask Perf p i) Throttle q h = refl
-ask_spared S (changes.Ask Perf p i) Idle q h = refl
-ask_spared S (changes.Ask Throttle p i) Perf q h = refl
-ask_spared S (changes.Ask Throttle p i) Throttle q h = get_or-set_other S.throttle_asks p q i 0 (h refl)
-ask_spared S (changes.Ask Throttle p i) Idle q h = refl
-ask_spared S (changes.Ask Idle p i) kind q h = refl
-ask_spared S (changes.Limit Perf p n) Perf q h = refl
-ask_spared S (changes.Limit Perf p n) Throttle q h = refl
-ask_spared S (changes.Limit Perf p n) Idle q h = refl
-ask_spared S (changes.Limit Throttle p n) Perf q h = refl
-ask_spared S (changes.Limit Throttle p n) Throttle q h = refl
-ask_spared S (changes.Limit Throttle p n) Idle q h = refl
-ask_spared S (changes.Limit Idle p n) kind q h = refl
+ask_spared S (changes.Ask scales.Perf p i) Perf q h = get_or-set_other S.perf_asks p q i 0 (h refl)
+ask_spared S (changes.Ask scales.Perf p i) Throttle q h = refl
+ask_spared S (changes.Ask scales.Perf p i) Idle q h = refl
+ask_spared S (changes.Ask scales.Throttle p i) Perf q h = refl
+ask_spared S (changes.Ask scales.Throttle p i) Throttle q h = get_or-set_other S.throttle_asks p q i 0 (h refl)
+ask_spared S (changes.Ask scales.Throttle p i) Idle q h = refl
+ask_spared S (changes.Limit scales.Perf p n) Perf q h = refl
+ask_spared S (changes.Limit scales.Perf p n) Throttle q h = refl
+ask_spared S (changes.Limit scales.Perf p n) Idle q h = refl
+ask_spared S (changes.Limit scales.Throttle p n) Perf q h = refl
+ask_spared S (changes.Limit scales.Throttle p n) Throttle q h = refl
+ask_spared S (changes.Limit scales.Throttle p n) Idle q h = refl
 
 pub limit_spared : (S : State) (c : Change) (kind : DomainKind) (q : ℕ) → Spares c kind q → limit_of kind (with_change S c) q ≡ limit_of kind S q
 limit_spared S changes.Nothing kind q h = refl
 limit_spared S (changes.Vote p v) Perf q h = refl
 limit_spared S (changes.Vote p v) Throttle q h = refl
 limit_spared S (changes.Vote p v) Idle q h = refl
-limit_spared S (changes.Ask Perf p i) Perf q h = refl
-limit_spared S (changes.Ask Perf p i) Throttle q h = refl
-limit_spared S (changes.Ask Perf p i) Idle q h = refl
-limit_spared S (changes.Ask Throttle p i) Perf q h = refl
-limit_spared S (changes.Ask Throttle p i) Throttle q h = refl
-limit_spared S (changes.Ask Throttle p i) Idle q h = refl
-limit_spared S (changes.Ask Idle p i) kind q h = refl
-limit_spared S (changes.Limit Perf p n) Perf q h = get_or-set_other S.perf_limits p q n 0 (h refl)
-limit_spared S (changes.Limit Perf p n) Throttle q h = refl
-limit_spared S (changes.Limit Perf p n) Idle q h = refl
-limit_spared S (changes.Limit Throttle p n) Perf q h = refl
-limit_spared S (changes.Limit Throttle p n) Throttle q h = get_or-set_other S.throttle_limits p q n 0 (h refl)
-limit_spared S (changes.Limit Throttle p n) Idle q h = refl
-limit_spared S (changes.Limit Idle p n) kind q h = refl
+limit_spared S (changes.Ask scales.Perf p i) Perf q h = refl
+limit_spared S (changes.Ask scales.Perf p i) Throttle q h = refl
+limit_spared S (changes.Ask scales.Perf p i) Idle q h = refl
+limit_spared S (changes.Ask scales.Throttle p i) Perf q h = refl
+limit_spared S (changes.Ask scales.Throttle p i) Throttle q h = refl
+limit_spared S (changes.Ask scales.Throttle p i) Idle q h = refl
+limit_spared S (changes.Limit scales.Perf p n) Perf q h = get_or-set_other S.perf_limits p q n 0 (h refl)
+limit_spared S (changes.Limit scales.Perf p n) Throttle q h = refl
+limit_spared S (changes.Limit scales.Perf p n) Idle q h = refl
+limit_spared S (changes.Limit scales.Throttle p n) Perf q h = refl
+limit_spared S (changes.Limit scales.Throttle p n) Throttle q h = get_or-set_other S.throttle_limits p q n 0 (h refl)
+limit_spared S (changes.Limit scales.Throttle p n) Idle q h = refl
 
 each_member : (Q : ℕ → Type 0) (ms : List ℕ) → ((q : ℕ) → has_member ms q ≡ true → Q q) → AllByRecursion Q ms
 each_member Q [] h = tt

@@ -14,6 +14,7 @@ use Rattle.pw_model.specs.declared.reply.Reply.{Reply}
 use Rattle.pw_model.specs.declared.reply.Reply.TheVariants.{Entered, Running, Stands}
 use Rattle.pw_model.specs.declared.state.Change.{Change}
 use Rattle.pw_model.specs.declared.state.Change.TheVariants as changes
+use Rattle.pw_model.specs.declared.state.ScaleKind.TheVariants as scales
 use Rattle.pw_model.specs.declared.state.State.{State}
 use Rattle.pw_model.specs.States.{running, idling, vote_of, capped, with_change}
 use Rattle.pw_model.specs.Containers.{container_vote, ancestors}
@@ -31,10 +32,10 @@ if_accepted (Some reply) refused accepted = refused reply
 abbrev pub change_of : Plan → Request → Change
 change_of P (Idle p s t) = changes.Vote p (idling s t)
 change_of P (Wake p) = changes.Vote p running
-change_of P (Perf p i) = changes.Ask kinds.Perf p i
-change_of P (Throttle p i) = changes.Ask kinds.Throttle p i
-change_of P (PerfLimit p n) = changes.Limit kinds.Perf p (capped (scale_of kinds.Perf (cpu_at P p)) n)
-change_of P (ThrottleLimit p n) = changes.Limit kinds.Throttle p (capped (scale_of kinds.Throttle (cpu_at P p)) n)
+change_of P (Perf p i) = changes.Ask scales.Perf p i
+change_of P (Throttle p i) = changes.Ask scales.Throttle p i
+change_of P (PerfLimit p n) = changes.Limit scales.Perf p (capped (scale_of kinds.Perf (cpu_at P p)) n)
+change_of P (ThrottleLimit p n) = changes.Limit scales.Throttle p (capped (scale_of kinds.Throttle (cpu_at P p)) n)
 
 -- the state that an accepted request leaves
 abbrev pub changed : Plan → State → Request → State

@@ -9,6 +9,7 @@ use Rattle.pw_plan.specs.Parts.{count_of, scale_of}
 use Rattle.pw_plan.specs.Places.{cpu_at}
 use Rattle.pw_model.specs.declared.state.Change.{Change}
 use Rattle.pw_model.specs.declared.state.Change.TheVariants as changes
+use Rattle.pw_model.specs.declared.state.ScaleKind.TheVariants as scales
 use Rattle.pw_model.specs.declared.state.State.{State}
 use Rattle.pw_model.specs.declared.state.Vote.{Vote}
 
@@ -72,12 +73,10 @@ opening P = record {
 abbrev pub with_change : State → Change → State
 with_change S changes.Nothing = S
 with_change S (changes.Vote p v) = record S { votes = slice_set S.votes p v }
-with_change S (changes.Ask Perf p i) = record S { perf_asks = slice_set S.perf_asks p i }
-with_change S (changes.Ask Throttle p i) = record S { throttle_asks = slice_set S.throttle_asks p i }
-with_change S (changes.Ask Idle p i) = S
-with_change S (changes.Limit Perf p n) = record S { perf_limits = slice_set S.perf_limits p n }
-with_change S (changes.Limit Throttle p n) = record S { throttle_limits = slice_set S.throttle_limits p n }
-with_change S (changes.Limit Idle p n) = S
+with_change S (changes.Ask scales.Perf p i) = record S { perf_asks = slice_set S.perf_asks p i }
+with_change S (changes.Ask scales.Throttle p i) = record S { throttle_asks = slice_set S.throttle_asks p i }
+with_change S (changes.Limit scales.Perf p n) = record S { perf_limits = slice_set S.perf_limits p n }
+with_change S (changes.Limit scales.Throttle p n) = record S { throttle_limits = slice_set S.throttle_limits p n }
 
 -- # Which states are of a plan
 

@@ -27,4 +27,4 @@ pub use laws::{
 };
 pub use reply::Reply;
 pub use starting::starts_are_those_of_the_tables;
-pub use state::{Change, State, Vote};
+pub use state::{Change, ScaleKind, State, Vote};

@@ -1,5 +1,4 @@
 use pw_base::List;
-use pw_plan::DomainKind;
 
 /// What a processor or a container votes: the state in which it idles, 0 where it runs, and the wake
 /// latency that it bears.
@@ -25,6 +24,15 @@ pub struct State {
     pub throttle_limits: List<u8>,
 }
 
+/// The states that asks and limits speak of.
+#[derive(Clone, Copy, Debug, PartialEq, Eq)]
+pub enum ScaleKind {
+    /// Performance states: `_PSS` (ACPI 6.5, 8.4.5.2).
+    Perf,
+    /// Throttling states: `_TSS` (ACPI 6.5, 8.4.4.2).
+    Throttle,
+}
+
 /// What an accepted request changes: one entry of one list, or nothing.
 #[derive(Clone, Copy, Debug, PartialEq, Eq)]
 pub enum Change {
@@ -33,15 +41,15 @@ pub enum Change {
         cpu: u32,
         vote: Vote,
     },
-    /// An ask for a performance or a throttling state; one of kind Idle changes nothing.
+    /// The state that a processor asks for.
     Ask {
-        kind: DomainKind,
+        kind: ScaleKind,
         cpu: u32,
         index: u8,
     },
-    /// A limit of performance or throttling states; one of kind Idle changes nothing.
+    /// The first state that a processor may use.
     Limit {
-        kind: DomainKind,
+        kind: ScaleKind,
         cpu: u32,
         n: u8,
     },
