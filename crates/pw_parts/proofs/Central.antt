@@ -18,6 +18,8 @@ use Rattle.pw_plan.specs.Requests.{Has}
 use Rattle.pw_model.specs.declared.reply.Reply.{Reply}
 use Rattle.pw_model.specs.declared.reply.Reply.TheVariants.{Entered, Stands, AboveLimit, NoTable}
 use Rattle.pw_model.specs.declared.state.Change.TheVariants as changes
+use Rattle.pw_model.specs.declared.state.ScaleKind.{ScaleKind}
+use Rattle.pw_model.specs.declared.state.ScaleKind.TheVariants as scales
 use Rattle.pw_model.specs.declared.state.State.{State}
 use Rattle.pw_model.specs.States.{IsState, asks_of, capped, idling, limit_of, limits_of, running, with_change}
 use Rattle.pw_model.specs.Containers.{ancestors}
@@ -25,6 +27,7 @@ use Rattle.pw_model.specs.Domains.{standing}
 use Rattle.pw_model.specs.Refusals.{domain_refusal, fixed_refusal, is_absent, refuse_if, state_refusal, ◌or_else◌}
 use Rattle.pw_model.specs.Answers.{accepted, after, answer, chain_of, changed, if_accepted}
 use Rattle.pw_model.specs.Operations.{accepted_ops, domain_ops, ops_of}
+use Rattle.pw_model.proofs.Standings.{domain_kind}
 use Rattle.pw_parts.specs.inner.Wired.{IsWired}
 use Rattle.pw_parts.specs.Records.{Record, domain, footprint, part_of, records_among, runs_in_both, through}
 use Rattle.pw_parts.specs.Effects.{Effect, Taken, ask_effect, effect, effect_within, level_effect, limits_in, member_place, refused_above, refused_effect, takes_in, with_ask, with_limit}
@@ -82,67 +85,70 @@ module _ (P : Plan) where
 
     -- # Requests on domains
 
-    asks_long : (kind : DomainKind) (p : ℕ) → is_idle kind ≡ false → p < length P.cpus → p < length (asks_of kind S)
-    asks_long kinds.Perf p k lt = let e = is.perf_asks in omega (arith, e, lt)
-    asks_long kinds.Throttle p k lt = let e = is.throttle_asks in omega (arith, e, lt)
-    asks_long kinds.Idle p k lt = cc
+    never_idle : (kind : ScaleKind) → is_idle (domain_kind kind) ≡ false
+    never_idle scales.Perf = refl
+    never_idle scales.Throttle = refl
 
-    limits_long : (kind : DomainKind) (p : ℕ) → is_idle kind ≡ false → p < length P.cpus → p < length (limits_of kind S)
-    limits_long kinds.Perf p k lt = let e = is.perf_limits in omega (arith, e, lt)
-    limits_long kinds.Throttle p k lt = let e = is.throttle_limits in omega (arith, e, lt)
-    limits_long kinds.Idle p k lt = cc
+    asks_long : (kind : ScaleKind) (p : ℕ) → p < length P.cpus → p < length (asks_of (domain_kind kind) S)
+    asks_long scales.Perf p lt = let e = is.perf_asks in omega (arith, e, lt)
+    asks_long scales.Throttle p lt = let e = is.throttle_asks in omega (arith, e, lt)
 
-    ask_votes : (kind : DomainKind) (p i : ℕ) → (with_change S (changes.Ask kind p i)).votes ≡ S.votes
-    ask_votes kinds.Perf p i = refl
-    ask_votes kinds.Throttle p i = refl
-    ask_votes kinds.Idle p i = refl
+    limits_long : (kind : ScaleKind) (p : ℕ) → p < length P.cpus → p < length (limits_of (domain_kind kind) S)
+    limits_long scales.Perf p lt = let e = is.perf_limits in omega (arith, e, lt)
+    limits_long scales.Throttle p lt = let e = is.throttle_limits in omega (arith, e, lt)
 
-    limit_votes : (kind : DomainKind) (p i : ℕ) → (with_change S (changes.Limit kind p i)).votes ≡ S.votes
-    limit_votes kinds.Perf p i = refl
-    limit_votes kinds.Throttle p i = refl
-    limit_votes kinds.Idle p i = refl
+    ask_votes : (kind : ScaleKind) (p i : ℕ) → (with_change S (changes.Ask kind p i)).votes ≡ S.votes
+    ask_votes scales.Perf p i = refl
+    ask_votes scales.Throttle p i = refl
 
-    module _ (kind : DomainKind) (p : ℕ) (scaled : is_idle kind ≡ false) (exists : p < length P.cpus) (has : HasDomain P kind p) where
+    limit_votes : (kind : ScaleKind) (p i : ℕ) → (with_change S (changes.Limit kind p i)).votes ≡ S.votes
+    limit_votes scales.Perf p i = refl
+    limit_votes scales.Throttle p i = refl
+
+    module _ (scale : ScaleKind) (p : ℕ) (exists : p < length P.cpus) (has : HasDomain P (domain_kind scale) p) where
+      abbrev kind : DomainKind
+      kind = domain_kind scale
+
       abbrev d : ℕ
       d = domain_of P kind p
 
       abbrev ms : List ℕ
       ms = (domain_at P d).members
 
-      limit_does : (n : ℕ) → Does P S (with_change S (changes.Limit kind p n)) (domain d ∷ []) (Stands (standing P (with_change S (changes.Limit kind p n)) d p)) (domain_ops P S (with_change S (changes.Limit kind p n)) kind p)
+      limit_does : (n : ℕ) → Does P S (with_change S (changes.Limit scale p n)) (domain d ∷ []) (Stands (standing P (with_change S (changes.Limit scale p n)) d p)) (domain_ops P S (with_change S (changes.Limit scale p n)) kind p)
           (level_effect P kind p d (part_of P S (domain d)) (with_limit (member_place ms p) n (part_of P S (domain d))))
       limit_does n =
-          level_does P S kind p scaled has (changes.Limit kind p n) (with_limit (member_place ms p) n (part_of P S (domain d)))
-          (subst (λ (k : DomainKind). level_part k ms (with_change S (changes.Limit kind p n)) ≡ with_limit (member_place ms p) n (level_part k ms S)) (sym has.kind_is)
-          (limited kind ms S p n scaled (limits_long kind p scaled exists) (wired.members d p)))
-          (limit_votes kind p n) (λ e q out on. elsewhere P kind p scaled e q out on)
+          level_does P S kind p (never_idle scale) has (changes.Limit scale p n) (with_limit (member_place ms p) n (part_of P S (domain d)))
+          (subst (λ (k : DomainKind). level_part k ms (with_change S (changes.Limit scale p n)) ≡ with_limit (member_place ms p) n (level_part k ms S)) (sym has.kind_is)
+          (limited scale ms S p n (limits_long scale p exists) (wired.members d p)))
+          (limit_votes scale p n) (λ e q out on. elsewhere P kind p (never_idle scale) e q out on)
 
       own_limit : limit_of kind S p ≡ get_or (limits_in (part_of P S (domain d))) (member_place ms p) 0
       own_limit = ap (λ k. limit_of k S p) (sym has.kind_is) ∙ sym (read_place (limit_of (domain_at P d).kind S) ms p has.member)
 
       ask_does : (i : ℕ)
-          → Does P S (if_accepted (refuse_if (nat_lt i (limit_of kind S p)) (AboveLimit (limit_of kind S p))) (λ reply. S) (with_change S (changes.Ask kind p i))) (domain d ∷ [])
-          (if_accepted (refuse_if (nat_lt i (limit_of kind S p)) (AboveLimit (limit_of kind S p))) (λ reply. reply) (Stands (standing P (with_change S (changes.Ask kind p i)) d p)))
-          (if_accepted (refuse_if (nat_lt i (limit_of kind S p)) (AboveLimit (limit_of kind S p))) (λ reply. []) (domain_ops P S (with_change S (changes.Ask kind p i)) kind p))
+          → Does P S (if_accepted (refuse_if (nat_lt i (limit_of kind S p)) (AboveLimit (limit_of kind S p))) (λ reply. S) (with_change S (changes.Ask scale p i))) (domain d ∷ [])
+          (if_accepted (refuse_if (nat_lt i (limit_of kind S p)) (AboveLimit (limit_of kind S p))) (λ reply. reply) (Stands (standing P (with_change S (changes.Ask scale p i)) d p)))
+          (if_accepted (refuse_if (nat_lt i (limit_of kind S p)) (AboveLimit (limit_of kind S p))) (λ reply. []) (domain_ops P S (with_change S (changes.Ask scale p i)) kind p))
           (ask_effect P kind p i d (part_of P S (domain d)))
       ask_does i =
-          subst (λ (l : ℕ). Does P S (if_accepted (refuse_if (nat_lt i (limit_of kind S p)) (AboveLimit (limit_of kind S p))) (λ reply. S) (with_change S (changes.Ask kind p i))) (domain d ∷ [])
-          (if_accepted (refuse_if (nat_lt i (limit_of kind S p)) (AboveLimit (limit_of kind S p))) (λ reply. reply) (Stands (standing P (with_change S (changes.Ask kind p i)) d p)))
-          (if_accepted (refuse_if (nat_lt i (limit_of kind S p)) (AboveLimit (limit_of kind S p))) (λ reply. []) (domain_ops P S (with_change S (changes.Ask kind p i)) kind p))
+          subst (λ (l : ℕ). Does P S (if_accepted (refuse_if (nat_lt i (limit_of kind S p)) (AboveLimit (limit_of kind S p))) (λ reply. S) (with_change S (changes.Ask scale p i))) (domain d ∷ [])
+          (if_accepted (refuse_if (nat_lt i (limit_of kind S p)) (AboveLimit (limit_of kind S p))) (λ reply. reply) (Stands (standing P (with_change S (changes.Ask scale p i)) d p)))
+          (if_accepted (refuse_if (nat_lt i (limit_of kind S p)) (AboveLimit (limit_of kind S p))) (λ reply. []) (domain_ops P S (with_change S (changes.Ask scale p i)) kind p))
           (cond (nat_lt i l) (refused_above (domain d) (part_of P S (domain d)) l) (level_effect P kind p d (part_of P S (domain d)) (with_ask (member_place ms p) i (part_of P S (domain d))))))
           own_limit (step (nat_lt i (limit_of kind S p)))
         where
           step : (b : Bool)
-              → Does P S (if_accepted (refuse_if b (AboveLimit (limit_of kind S p))) (λ reply. S) (with_change S (changes.Ask kind p i))) (domain d ∷ [])
-              (if_accepted (refuse_if b (AboveLimit (limit_of kind S p))) (λ reply. reply) (Stands (standing P (with_change S (changes.Ask kind p i)) d p)))
-              (if_accepted (refuse_if b (AboveLimit (limit_of kind S p))) (λ reply. []) (domain_ops P S (with_change S (changes.Ask kind p i)) kind p))
+              → Does P S (if_accepted (refuse_if b (AboveLimit (limit_of kind S p))) (λ reply. S) (with_change S (changes.Ask scale p i))) (domain d ∷ [])
+              (if_accepted (refuse_if b (AboveLimit (limit_of kind S p))) (λ reply. reply) (Stands (standing P (with_change S (changes.Ask scale p i)) d p)))
+              (if_accepted (refuse_if b (AboveLimit (limit_of kind S p))) (λ reply. []) (domain_ops P S (with_change S (changes.Ask scale p i)) kind p))
               (cond b (refused_above (domain d) (part_of P S (domain d)) (limit_of kind S p)) (level_effect P kind p d (part_of P S (domain d)) (with_ask (member_place ms p) i (part_of P S (domain d)))))
-          step true = refused_does P S kind p scaled has d (limit_of kind S p)
+          step true = refused_does P S kind p (never_idle scale) has d (limit_of kind S p)
           step false =
-              level_does P S kind p scaled has (changes.Ask kind p i) (with_ask (member_place ms p) i (part_of P S (domain d)))
-              (subst (λ (k : DomainKind). level_part k ms (with_change S (changes.Ask kind p i)) ≡ with_ask (member_place ms p) i (level_part k ms S)) (sym has.kind_is)
-              (asked kind ms S p i scaled (asks_long kind p scaled exists) (wired.members d p)))
-              (ask_votes kind p i) (λ e q out on. elsewhere P kind p scaled e q out on)
+              level_does P S kind p (never_idle scale) has (changes.Ask scale p i) (with_ask (member_place ms p) i (part_of P S (domain d)))
+              (subst (λ (k : DomainKind). level_part k ms (with_change S (changes.Ask scale p i)) ≡ with_ask (member_place ms p) i (level_part k ms S)) (sym has.kind_is)
+              (asked scale ms S p i (asks_long scale p exists) (wired.members d p)))
+              (ask_votes scale p i) (λ e q out on. elsewhere P kind p (never_idle scale) e q out on)
 
     -- # All requests
 
@@ -156,10 +162,10 @@ module _ (P : Plan) where
     unfolding accepted accepted_ops
     accepts (Idle p s t) has e = idle_does p s t has (some_table (cpu_at P p).idle.kind _ e)
     accepts (Wake p) has e = wake_does p has
-    accepts (Perf p i) has e = ask_does kinds.Perf p refl has (has_domain P kinds.Perf p has (some_scale kinds.Perf p (scale_of kinds.Perf (cpu_at P p)) _ e)) i
-    accepts (Throttle p i) has e = ask_does kinds.Throttle p refl has (has_domain P kinds.Throttle p has (some_scale kinds.Throttle p (scale_of kinds.Throttle (cpu_at P p)) _ e)) i
-    accepts (PerfLimit p n) has e = limit_does kinds.Perf p refl has (has_domain P kinds.Perf p has (some_scale_alone kinds.Perf p (scale_of kinds.Perf (cpu_at P p)) e)) (capped (scale_of kinds.Perf (cpu_at P p)) n)
-    accepts (ThrottleLimit p n) has e = limit_does kinds.Throttle p refl has (has_domain P kinds.Throttle p has (some_scale_alone kinds.Throttle p (scale_of kinds.Throttle (cpu_at P p)) e)) (capped (scale_of kinds.Throttle (cpu_at P p)) n)
+    accepts (Perf p i) has e = ask_does scales.Perf p has (has_domain P kinds.Perf p has (some_scale kinds.Perf p (scale_of kinds.Perf (cpu_at P p)) _ e)) i
+    accepts (Throttle p i) has e = ask_does scales.Throttle p has (has_domain P kinds.Throttle p has (some_scale kinds.Throttle p (scale_of kinds.Throttle (cpu_at P p)) _ e)) i
+    accepts (PerfLimit p n) has e = limit_does scales.Perf p has (has_domain P kinds.Perf p has (some_scale_alone kinds.Perf p (scale_of kinds.Perf (cpu_at P p)) e)) (capped (scale_of kinds.Perf (cpu_at P p)) n)
+    accepts (ThrottleLimit p n) has e = limit_does scales.Throttle p has (has_domain P kinds.Throttle p has (some_scale_alone kinds.Throttle p (scale_of kinds.Throttle (cpu_at P p)) e)) (capped (scale_of kinds.Throttle (cpu_at P p)) n)
 
     by_refusal : (q : Request) → Has P q → (r : Option Reply) → fixed_refusal P q ≡ r → Within q r
     by_refusal q has None e = accepts q has e

@@ -15,11 +15,13 @@ use Rattle.pw_plan.specs.Planning.{covers, same_kind}
 use Rattle.pw_plan.proofs.Lists.{and_both, and_first, and_second, or_left, or_right}
 use Rattle.pw_model.specs.declared.state.Change.{Change}
 use Rattle.pw_model.specs.declared.state.Change.TheVariants as changes
+use Rattle.pw_model.specs.declared.state.ScaleKind.{ScaleKind}
+use Rattle.pw_model.specs.declared.state.ScaleKind.TheVariants as scales
 use Rattle.pw_model.specs.declared.state.State.{State}
 use Rattle.pw_model.specs.States.{ask_of, asks_of, limit_of, limits_of, with_change}
 use Rattle.pw_model.specs.Domains.{standing, stands_at}
 use Rattle.pw_model.proofs.Maps.{map_agree}
-use Rattle.pw_model.proofs.Standings.{Spares, ask_spared, limit_spared}
+use Rattle.pw_model.proofs.Standings.{Spares, ask_spared, domain_kind, limit_spared}
 use Rattle.pw_plan.specs.inner.Once.{Once}
 use Rattle.pw_parts.specs.Records.{Part, levels, domain, part_of}
 use Rattle.pw_parts.specs.Effects.{member_place, standing_in, with_ask, with_limit}
@@ -52,21 +54,19 @@ set_place f g ms p i once here other =
 abbrev pub level_part : DomainKind → List ℕ → State → Part
 level_part kind ms S = levels (map (ask_of kind S) ms) (map (limit_of kind S) ms)
 
-pub asked : (kind : DomainKind) (ms : List ℕ) (S : State) (p i : ℕ) → is_idle kind ≡ false → p < length (asks_of kind S) → Once (λ q. q == p) ms
-    → level_part kind ms (with_change S (changes.Ask kind p i)) ≡ with_ask (member_place ms p) i (level_part kind ms S)
-asked Perf ms S p i k lt once =
-    ap (λ xs. levels xs (map (limit_of Perf S) ms)) (set_place (ask_of Perf S) (ask_of Perf (with_change S (changes.Ask Perf p i))) ms p i once (get_or-set_same S.perf_asks p i 0 lt) (λ q ne. get_or-set_other S.perf_asks p q i 0 ne))
-asked Throttle ms S p i k lt once =
-    ap (λ xs. levels xs (map (limit_of Throttle S) ms)) (set_place (ask_of Throttle S) (ask_of Throttle (with_change S (changes.Ask Throttle p i))) ms p i once (get_or-set_same S.throttle_asks p i 0 lt) (λ q ne. get_or-set_other S.throttle_asks p q i 0 ne))
-asked Idle ms S p i k lt once = cc
+pub asked : (kind : ScaleKind) (ms : List ℕ) (S : State) (p i : ℕ) → p < length (asks_of (domain_kind kind) S) → Once (λ q. q == p) ms
+    → level_part (domain_kind kind) ms (with_change S (changes.Ask kind p i)) ≡ with_ask (member_place ms p) i (level_part (domain_kind kind) ms S)
+asked scales.Perf ms S p i lt once =
+    ap (λ xs. levels xs (map (limit_of Perf S) ms)) (set_place (ask_of Perf S) (ask_of Perf (with_change S (changes.Ask scales.Perf p i))) ms p i once (get_or-set_same S.perf_asks p i 0 lt) (λ q ne. get_or-set_other S.perf_asks p q i 0 ne))
+asked scales.Throttle ms S p i lt once =
+    ap (λ xs. levels xs (map (limit_of Throttle S) ms)) (set_place (ask_of Throttle S) (ask_of Throttle (with_change S (changes.Ask scales.Throttle p i))) ms p i once (get_or-set_same S.throttle_asks p i 0 lt) (λ q ne. get_or-set_other S.throttle_asks p q i 0 ne))
 
-pub limited : (kind : DomainKind) (ms : List ℕ) (S : State) (p n : ℕ) → is_idle kind ≡ false → p < length (limits_of kind S) → Once (λ q. q == p) ms
-    → level_part kind ms (with_change S (changes.Limit kind p n)) ≡ with_limit (member_place ms p) n (level_part kind ms S)
-limited Perf ms S p i k lt once =
-    ap (λ xs. levels (map (ask_of Perf S) ms) xs) (set_place (limit_of Perf S) (limit_of Perf (with_change S (changes.Limit Perf p i))) ms p i once (get_or-set_same S.perf_limits p i 0 lt) (λ q ne. get_or-set_other S.perf_limits p q i 0 ne))
-limited Throttle ms S p i k lt once =
-    ap (λ xs. levels (map (ask_of Throttle S) ms) xs) (set_place (limit_of Throttle S) (limit_of Throttle (with_change S (changes.Limit Throttle p i))) ms p i once (get_or-set_same S.throttle_limits p i 0 lt) (λ q ne. get_or-set_other S.throttle_limits p q i 0 ne))
-limited Idle ms S p i k lt once = cc
+pub limited : (kind : ScaleKind) (ms : List ℕ) (S : State) (p n : ℕ) → p < length (limits_of (domain_kind kind) S) → Once (λ q. q == p) ms
+    → level_part (domain_kind kind) ms (with_change S (changes.Limit kind p n)) ≡ with_limit (member_place ms p) n (level_part (domain_kind kind) ms S)
+limited scales.Perf ms S p i lt once =
+    ap (λ xs. levels (map (ask_of Perf S) ms) xs) (set_place (limit_of Perf S) (limit_of Perf (with_change S (changes.Limit scales.Perf p i))) ms p i once (get_or-set_same S.perf_limits p i 0 lt) (λ q ne. get_or-set_other S.perf_limits p q i 0 ne))
+limited scales.Throttle ms S p i lt once =
+    ap (λ xs. levels (map (ask_of Throttle S) ms) xs) (set_place (limit_of Throttle S) (limit_of Throttle (with_change S (changes.Limit scales.Throttle p i))) ms p i once (get_or-set_same S.throttle_limits p i 0 lt) (λ q ne. get_or-set_other S.throttle_limits p q i 0 ne))
 
 -- a change that spares all members
 pub spared : (kind : DomainKind) (ms : List ℕ) (S : State) (c : Change) → ((q : ℕ) → has_member ms q ≡ true → Spares c kind q) → level_part kind ms (with_change S c) ≡ level_part kind ms S
