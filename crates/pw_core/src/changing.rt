@@ -8,7 +8,7 @@ ghost use Rattle.pw_core.specs.inner.Changes.{CanChange};
 ghost use Rattle.pw_model.specs.Answers.{change_of};
 
 use crate::tree::RUNNING;
-use pw_model::{Change, State, Vote};
+use pw_model::{Change, ScaleKind, State, Vote};
 use pw_plan::{DomainKind, Plan, Request};
 
 /// A limit, which past the last state counts as the last one.
@@ -41,22 +41,22 @@ pub fn change_of(plan: &Plan, state: &State, request: Request) -> Change
         },
         Request::Wake { cpu } => Change::Vote { cpu, vote: RUNNING },
         Request::Perf { cpu, index } => Change::Ask {
-            kind: DomainKind::Perf,
+            kind: ScaleKind::Perf,
             cpu,
             index: index as u8,
         },
         Request::Throttle { cpu, index } => Change::Ask {
-            kind: DomainKind::Throttle,
+            kind: ScaleKind::Throttle,
             cpu,
             index: index as u8,
         },
         Request::PerfLimit { cpu, n } => Change::Limit {
-            kind: DomainKind::Perf,
+            kind: ScaleKind::Perf,
             cpu,
             n: capped(plan, DomainKind::Perf, cpu, n),
         },
         Request::ThrottleLimit { cpu, n } => Change::Limit {
-            kind: DomainKind::Throttle,
+            kind: ScaleKind::Throttle,
             cpu,
             n: capped(plan, DomainKind::Throttle, cpu, n),
         },
@@ -72,14 +72,12 @@ pub fn make(state: &mut State, change: Change)
         Change::Nothing => {}
         Change::Vote { cpu, vote } => state.votes.set(cpu as usize, vote),
         Change::Ask { kind, cpu, index } => match kind {
-            DomainKind::Perf => state.perf_asks.set(cpu as usize, index),
-            DomainKind::Throttle => state.throttle_asks.set(cpu as usize, index),
-            DomainKind::Idle => {}
+            ScaleKind::Perf => state.perf_asks.set(cpu as usize, index),
+            ScaleKind::Throttle => state.throttle_asks.set(cpu as usize, index),
         },
         Change::Limit { kind, cpu, n } => match kind {
-            DomainKind::Perf => state.perf_limits.set(cpu as usize, n),
-            DomainKind::Throttle => state.throttle_limits.set(cpu as usize, n),
-            DomainKind::Idle => {}
+            ScaleKind::Perf => state.perf_limits.set(cpu as usize, n),
+            ScaleKind::Throttle => state.throttle_limits.set(cpu as usize, n),
         },
     }
 }

@@ -3,7 +3,7 @@ ghost use Rattle.std.specs.Prelude.{◌≡◌, ◌<◌, length};
 ghost use Rattle.pw_model.specs.States.{ask_of, limit_of};
 ghost use Rattle.pw_model.specs.States.{vote_of, with_change};
 
-use pw_model::{Change, State, Vote};
+use pw_model::{Change, ScaleKind, State, Vote};
 use pw_plan::DomainKind;
 
 /// The vote of a processor in the changed state.
@@ -26,7 +26,7 @@ pub fn ask_under(kind: DomainKind, state: &State, change: Change, cpu: u32) -> u
     match kind {
         DomainKind::Perf => match change {
             Change::Ask {
-                kind: DomainKind::Perf,
+                kind: ScaleKind::Perf,
                 cpu: changed,
                 index,
             } if changed == cpu => index,
@@ -34,7 +34,7 @@ pub fn ask_under(kind: DomainKind, state: &State, change: Change, cpu: u32) -> u
         },
         DomainKind::Throttle => match change {
             Change::Ask {
-                kind: DomainKind::Throttle,
+                kind: ScaleKind::Throttle,
                 cpu: changed,
                 index,
             } if changed == cpu => index,
@@ -53,7 +53,7 @@ pub fn limit_under(kind: DomainKind, state: &State, change: Change, cpu: u32) ->
     match kind {
         DomainKind::Perf => match change {
             Change::Limit {
-                kind: DomainKind::Perf,
+                kind: ScaleKind::Perf,
                 cpu: changed,
                 n,
             } if changed == cpu => n,
@@ -61,7 +61,7 @@ pub fn limit_under(kind: DomainKind, state: &State, change: Change, cpu: u32) ->
         },
         DomainKind::Throttle => match change {
             Change::Limit {
-                kind: DomainKind::Throttle,
+                kind: ScaleKind::Throttle,
                 cpu: changed,
                 n,
             } if changed == cpu => n,
