@@ -18,6 +18,7 @@ pub mod OneDomains
 pub mod Listing
 pub mod EntryTables
 pub mod Repeats
+pub mod Paths
 pub mod Among
 pub mod Indexing
 pub mod Memberships

@@ -3,3 +3,4 @@ pub mod Once
 pub mod DomainList
 pub mod EntryTables
 pub mod Memberships
+pub mod Paths

@@ -1,6 +1,7 @@
 ghost use Rattle.std.specs.Prelude.{◌≡◌, ◌↔◌, ◌<◌, ◌≢◌, ℕ, Some, length, true, false, IsTrue, if◌then◌else◌};
 ghost use Rattle.pw_plan.specs.inner.DomainList.{is_before};
 ghost use Rattle.pw_plan.specs.inner.EntryTables.{name_from};
+ghost use Rattle.pw_plan.specs.inner.Paths.{is_path_before};
 ghost use Rattle.std.specs.List.{list_any};
 ghost use Rattle.acpi_values.specs.declared.idle.IdleKind.TheVariants.{Cst};
 ghost use Rattle.pw_plan.specs.Parts.{FitsCsd, ParentsFall, PartsFit, container_in};
@@ -11,6 +12,7 @@ use crate::domains::{DomainName, is_entry};
 use crate::parts::{ContainerParts, CpuParts, Scale};
 use acpi_values::{CDependency, IdleKind};
 use aml_data::Seg;
+use std::cmp::Ordering;
 
 /// Whether a parent's number is below this one.
 fn is_below(bound: usize, parent: Option<u32>) -> bool
@@ -168,14 +170,39 @@ fn fits_csd(cpu: &CpuParts) -> bool
     true
 }
 
-/// Whether no processor behind this one has its path.
-fn is_only(cpus: &[CpuParts], cpu: usize) -> bool
-    requires { cpu < length cpus.now }
-    ensures { IsTrue result ↔ ((q : ℕ) → cpu < q → q < length cpus.now
-        → (cpu_in cpus.now cpu).path ≢ (cpu_in cpus.now q).path) }
+/// Whether a path comes before another, by their segments in order.
+fn is_path_before(one: &[Seg], other: &[Seg]) -> bool
+    ensures { result ≡ is_path_before one.now other.now }
 {
-    for other in cpu + 1..cpus.len() {
-        if same_path(&cpus[cpu], &cpus[other]) {
+    one.cmp(other) == Ordering::Less
+}
+
+/// Whether no processor before this one has its path.
+fn is_path_new(cpus: &[CpuParts], number: usize) -> bool
+    requires { number < length cpus.now }
+    ensures { IsTrue result ↔ ((p : ℕ) → p < number
+        → (cpu_in cpus.now p).path ≢ (cpu_in cpus.now number).path) }
+{
+    for other in 0..number {
+        if same_path(&cpus[other], &cpus[number]) {
+            return false;
+        }
+    }
+    true
+}
+
+/// Whether no two processors have one path. None of the paths before one comes after `greatest`: a
+/// path that does is new, and no other need be looked at.
+fn paths_differ(cpus: &[CpuParts]) -> bool
+    ensures { IsTrue result ↔ ((p q : ℕ) → p < q → q < length cpus.now
+        → (cpu_in cpus.now p).path ≢ (cpu_in cpus.now q).path) }
+{
+    let mut greatest: &[Seg] = &[];
+    for (number, cpu) in cpus.iter().enumerate() {
+        let path = cpu.path.segs.as_slice();
+        if is_path_before(greatest, path) {
+            greatest = path;
+        } else if !is_path_new(cpus, number) {
             return false;
         }
     }
@@ -191,15 +218,14 @@ pub fn parts_ok(containers: &[ContainerParts], cpus: &[CpuParts]) -> bool
     if !parents_fall(containers) {
         return false;
     }
-    for (number, cpu) in cpus.iter().enumerate() {
+    for cpu in cpus {
         if !is_below(containers.len(), cpu.parent)
             || !has_states(&cpu.perf)
             || !has_states(&cpu.throttle)
             || !fits_csd(cpu)
-            || !is_only(cpus, number)
         {
             return false;
         }
     }
-    true
+    paths_differ(cpus)
 }
