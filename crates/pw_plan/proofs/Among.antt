@@ -1,5 +1,5 @@
 -- The elements that pass one test, by their places, and another test of them: who fails the first need not be looked at.
-use Rattle.std.proofs.Common.{◌≡◌, ◌+◌, ◌&&◌, ◌||◌, ℕ, suc, zero, Bool, true, false, cond, List, [], ◌∷◌, map, get_or, drop, refl, ap, sym, ◌∙◌, arith, add-one}
+use Rattle.std.proofs.Common.{◌≡◌, ◌+◌, ◌&&◌, ◌||◌, ℕ, suc, zero, Bool, true, false, cond, List, [], ◌∷◌, map, get_or, drop, refl, ap, ◌∙◌, add-one}
 use Rattle.std.specs.List.{list_all, list_any}
 use Rattle.pw_plan.specs.Tree.{places_from}
 

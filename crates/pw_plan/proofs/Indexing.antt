@@ -1,5 +1,5 @@
 -- The index of a plan: what its loops find.
-use Rattle.std.proofs.Common.{◌≡◌, ◌<◌, ◌≤◌, ◌+◌, ◌&&◌, ◌==◌, not, ℕ, suc, zero, Bool, true, false, cond, List, [], ◌∷◌, map, length, get_or, drop, Option, Some, None, refl, ap, sym, ◌∙◌, arith, drop-cons, add-one, zero-add}
+use Rattle.std.proofs.Common.{◌≡◌, ◌<◌, ◌≤◌, ◌+◌, ◌&&◌, ◌==◌, not, ℕ, suc, Bool, true, false, cond, List, [], ◌∷◌, map, length, get_or, drop, Option, Some, None, refl, ap, ◌∙◌, arith, drop-cons, add-one, zero-add}
 use Rattle.std.specs.Prelude.{find, nat_lt}
 use Rattle.std.specs.Option.{option_map}
 use Rattle.std.specs.List.{position, position_or_len}
@@ -10,7 +10,7 @@ use Rattle.pw_plan.specs.declared.parts.ContainerParts.{ContainerParts}
 use Rattle.pw_plan.specs.declared.domain.Domain.{Domain}
 use Rattle.pw_plan.specs.declared.domain.DomainKind.TheVariants.{Idle}
 use Rattle.pw_plan.specs.declared.index.Membership.{Membership}
-use Rattle.pw_plan.specs.Groups.{domain_in, no_domain}
+use Rattle.pw_plan.specs.Groups.{no_domain}
 use Rattle.pw_plan.specs.Index.{first_membership, idle_memberships, is_unfit, membership_in}
 use Rattle.pw_plan.specs.inner.Memberships.{shows_unfit}
 use Rattle.pw_plan.specs.Parts.{ParentsFall, container_in, is_below}

@@ -1,6 +1,6 @@
 -- What a plan's index tells of its lists.
-use Rattle.std.proofs.Common.{◌≡◌, ◌<◌, ◌≤◌, ◌+◌, ◌&&◌, ◌==◌, not, ℕ, suc, zero, Bool, true, false, cond, List, [], ◌∷◌, map, length, get_or, Option, Some, None, refl, ap, sym, ◌∙◌, subst, arith, zero-add, inl, inr}
-use Rattle.std.specs.Prelude.{nat_lt, IfSome, MatchOption, All}
+use Rattle.std.proofs.Common.{◌≡◌, ◌<◌, ◌≤◌, ◌+◌, ◌==◌, not, ℕ, suc, zero, Bool, true, false, cond, List, [], ◌∷◌, map, length, get_or, Option, Some, None, refl, ap, sym, ◌∙◌, subst, arith, zero-add, inl, inr}
+use Rattle.std.specs.Prelude.{nat_lt, IfSome, MatchOption}
 use Rattle.std.specs.Option.{option_map}
 use Rattle.std.specs.List.{list_all, list_any, position, position_or_len, slice_get}
 use Rattle.std.proofs.lemmas.Bool.{cases_lt}
@@ -20,8 +20,7 @@ use Rattle.pw_plan.specs.declared.plan.Plan.{Plan}
 use Rattle.pw_plan.specs.Groups.{domain_in, has_member, no_domain, no_group}
 use Rattle.pw_plan.specs.Index.{IsPlaceIn, child_place, container_place, cpu_index, first_membership, group_membership, group_membership_in, idle_memberships, is_unfit, member_place, membership_in}
 use Rattle.pw_plan.specs.Orderly.{is_same}
-use Rattle.pw_plan.specs.Parts.{container_in, cpu_in}
-use Rattle.pw_plan.specs.Places.{children_at, domain_at, domain_of, group_at, group_of, parent_of, unfit_of, IsChildPlace, IsIn}
+use Rattle.pw_plan.specs.Places.{children_at, domain_at, group_at, group_of, parent_of, IsChildPlace, IsIn}
 use Rattle.pw_plan.specs.Planning.{covers, same_kind}
 use Rattle.pw_plan.specs.Tree.{places_from}
 use Rattle.pw_plan.proofs.Among.{all_among, any_among}
