@@ -46,32 +46,11 @@ fn has_states(scale: &Option<Scale>) -> bool
     }
 }
 
-fn same_seg(one: &Seg, other: &Seg) -> bool
-    ensures { IsTrue result ↔ (one.now ≡ other.now) }
-{
-    one.bytes() == other.bytes()
-}
-
-/// Whether two lists of segments are the same.
-fn same_segs(one: &[Seg], other: &[Seg]) -> bool
-    ensures { IsTrue result ↔ (one.now ≡ other.now) }
-{
-    if one.len() != other.len() {
-        return false;
-    }
-    for number in 0..one.len() {
-        if !same_seg(&one[number], &other[number]) {
-            return false;
-        }
-    }
-    true
-}
-
 /// Whether two processors have the same path.
 fn same_path(one: &CpuParts, other: &CpuParts) -> bool
     ensures { IsTrue result ↔ (one.now.path ≡ other.now.path) }
 {
-    same_segs(one.path.segs.as_slice(), other.path.segs.as_slice())
+    one.path.segs.as_slice() == other.path.segs.as_slice()
 }
 
 /// Whether an entry of `_CSD` stands among these.
