@@ -1,4 +1,4 @@
-"""Measures steps of the coordinator: nanoseconds a step, for each load and number of processors.
+"""Measures steps of the coordinator, nanoseconds a step for each load and number of processors; and making plans.
 
 usage: measure_steps.py PROGRAM
 Times are the least of several runs, as the program's own processor time. What the load `nothing` takes, which
@@ -19,6 +19,7 @@ FEWER_STEPS = 200_000
 MANY_STEPS = 50_000_000
 LOADS = {
     "idle": FEWER_STEPS,
+    "nested-idle": FEWER_STEPS,
     "c-state": FEWER_STEPS,
     "wake": MANY_STEPS,
     "perf": STEPS,
@@ -26,6 +27,9 @@ LOADS = {
     "perf-limit": STEPS,
     "throttle-limit": STEPS,
 }
+
+# How many processors, and how many idle domains each declares.
+PLANS = ((1, 150_000), (1, 300_000), (8, 1), (64, 1), (256, 1))
 
 
 def run(program, size, load, steps):
@@ -50,6 +54,13 @@ def main():
     for load, steps in LOADS.items():
         costs = [(least(program, size, load, steps) - empty[size, steps]) * 1e9 / steps for size in SIZES]
         print(f"| {load} | {steps} | " + " | ".join(f"{cost:.0f}" for cost in costs) + " |", flush=True)
+    print()
+    print("| processors | entries of `_CSD` each | milliseconds for the plan |")
+    print("|---|---|---|")
+    start = least(program, 1, "plan", 0)
+    for size, entries in PLANS:
+        cost = (least(program, size, "plan", entries) - start) * 1e3
+        print(f"| {size} | {entries} | {cost:.1f} |", flush=True)
 
 
 main()

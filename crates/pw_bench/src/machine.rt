@@ -67,13 +67,14 @@ fn cpu_table(alloc: Global, kind: IdleKind) -> anyhow::Result<IdleTable> {
     })
 }
 
-fn cluster(alloc: Global, number: u32) -> anyhow::Result<ContainerParts> {
+/// A container with two states, that enable those of the one around it.
+fn container(alloc: Global, number: u32, parent: Option<u32>) -> anyhow::Result<ContainerParts> {
     let mut rows = Vec::new(alloc);
-    rows.push(row(100, 0, EntryMethod::Integer(0x10)))?;
-    rows.push(row(500, 0, EntryMethod::Integer(0x20)))?;
+    rows.push(row(100, 1, EntryMethod::Integer(0x10)))?;
+    rows.push(row(500, 2, EntryMethod::Integer(0x20)))?;
     Ok(ContainerParts {
         path: path(alloc, b'C', number)?,
-        parent: None,
+        parent,
         idle: IdleTable {
             kind: IdleKind::Lpi,
             rows: List::from_vec(rows),
@@ -105,45 +106,95 @@ fn scale(alloc: Global, number: u32, port: u64) -> anyhow::Result<Scale> {
     })
 }
 
-fn cpu(alloc: Global, number: u32, kind: IdleKind) -> anyhow::Result<CpuParts> {
+/// So many entries of `_CSD`, about the deeper C state and the domains from one on.
+fn entries(alloc: Global, first: u32, count: u32) -> anyhow::Result<List<CDependency>> {
     let mut csd = Vec::new(alloc);
-    let mut parent = None;
-    if kind == IdleKind::Cst {
+    for place in 0..count {
         csd.push(CDependency {
-            domain: number / CLUSTER,
+            domain: first.wrapping_add(place),
             coord: Coord::SwAll,
             processors: CLUSTER,
             index: 1,
         })?;
-    } else {
-        parent = Some(number / CLUSTER);
     }
+    Ok(List::from_vec(csd))
+}
+
+fn cpu(
+    alloc: Global,
+    number: u32,
+    kind: IdleKind,
+    parent: Option<u32>,
+    csd: List<CDependency>,
+) -> anyhow::Result<CpuParts> {
     Ok(CpuParts {
         path: path(alloc, b'P', number)?,
         parent,
         idle: cpu_table(alloc, kind)?,
-        csd: List::from_vec(csd),
+        csd,
         perf: Some(scale(alloc, number, 0xB2)?),
         throttle: Some(scale(alloc, number, 0xB4)?),
         cpc: None,
     })
 }
 
-/// The plan of so many processors in clusters of eight, with idle states of this kind.
-pub fn machine(alloc: Global, cpus: u32, kind: IdleKind) -> anyhow::Result<Plan> {
-    let mut containers = Vec::new(alloc);
-    for number in 0..cpus / CLUSTER {
-        containers.push(cluster(alloc, number)?)?;
+fn planned(
+    alloc: Global,
+    containers: Vec<ContainerParts>,
+    cpus: Vec<CpuParts>,
+) -> anyhow::Result<Plan> {
+    if !parts_ok(containers.as_slice(), cpus.as_slice()) {
+        return Err(anyhow!("the parts don't fit together"));
     }
-    let mut processors = Vec::new(alloc);
-    for number in 0..cpus {
-        processors.push(cpu(alloc, number, kind)?)?;
-    }
-    if !parts_ok(containers.as_slice(), processors.as_slice()) {
-        return Err(anyhow!("the number of processors is no multiple of eight"));
-    }
-    match Plan::new(alloc, containers, processors) {
+    match Plan::new(alloc, containers, cpus) {
         Ok(plan) => Ok(plan),
         Err(_) => Err(anyhow!("no such plan, or no memory")),
     }
+}
+
+/// Containers in chains of this depth, for each eight of so many processors one.
+fn chains(alloc: Global, cpus: u32, depth: u32) -> anyhow::Result<Vec<ContainerParts>> {
+    let mut containers = Vec::new(alloc);
+    for number in 0..(cpus / CLUSTER).wrapping_mul(depth) {
+        let outermost = depth == 0 || number % depth == 0;
+        let parent = if outermost {
+            None
+        } else {
+            number.checked_sub(1)
+        };
+        containers.push(container(alloc, number, parent)?)?;
+    }
+    Ok(containers)
+}
+
+/// The plan of so many processors with low power idle states in clusters of eight, each in a chain of containers of this depth.
+pub fn nested(alloc: Global, cpus: u32, depth: u32) -> anyhow::Result<Plan> {
+    let mut processors = Vec::new(alloc);
+    for number in 0..cpus {
+        let innermost = (number / CLUSTER + 1).wrapping_mul(depth).checked_sub(1);
+        let csd = entries(alloc, 0, 0)?;
+        processors.push(cpu(alloc, number, IdleKind::Lpi, innermost, csd)?)?;
+    }
+    planned(alloc, chains(alloc, cpus, depth)?, processors)
+}
+
+/// The plan of so many processors with C states, in idle domains of eight.
+pub fn coupled(alloc: Global, cpus: u32) -> anyhow::Result<Plan> {
+    let mut processors = Vec::new(alloc);
+    for number in 0..cpus {
+        let csd = entries(alloc, number / CLUSTER, 1)?;
+        processors.push(cpu(alloc, number, IdleKind::Cst, None, csd)?)?;
+    }
+    planned(alloc, Vec::new(alloc), processors)
+}
+
+/// How many domains the plan has of so many processors that each declare so many idle domains.
+pub fn domains_of(alloc: Global, cpus: u32, count: u32) -> anyhow::Result<usize> {
+    let mut processors = Vec::new(alloc);
+    for number in 0..cpus {
+        let csd = entries(alloc, 0, count)?;
+        processors.push(cpu(alloc, number, IdleKind::Cst, None, csd)?)?;
+    }
+    let plan = planned(alloc, Vec::new(alloc), processors)?;
+    Ok(plan.domains.as_slice().len())
 }

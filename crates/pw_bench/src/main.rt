@@ -3,17 +3,20 @@
 #![tactic(auto)]
 
 use anyhow::{Context, anyhow};
+use machine::domains_of;
 use rounds::{Work, cpc_rounds, cst_rounds, lpi_rounds, pss_rounds};
 use std::alloc::Global;
 use std::env;
 use steps::{Load, steps_of};
 
 mod machine;
+mod records;
 mod rounds;
 mod steps;
 mod tables;
 
-const USAGE: &str = "usage: pw_bench LOAD PROCESSORS STEPS, or pw_bench TABLE STATES WORK ROUNDS";
+const USAGE: &str = "usage: pw_bench LOAD PROCESSORS STEPS, pw_bench plan PROCESSORS ENTRIES, or \
+    pw_bench TABLE STATES WORK ROUNDS";
 
 fn work_named(word: &str) -> Option<Work> {
     match word {
@@ -51,6 +54,12 @@ fn main(rt: HostRuntime) -> anyhow::Result<()> {
         let steps = word.parse::<u32>().context(USAGE)?;
         let done = steps_of(rt.alloc(), size, load, steps)?;
         println!(rt; "{size} processors, {steps} steps, {done} operations")?;
+        return Ok(());
+    }
+    if name.as_str() == "plan" {
+        let entries = word.parse::<u32>().context(USAGE)?;
+        let domains = domains_of(rt.alloc(), size, entries)?;
+        println!(rt; "{size} processors, {entries} entries each, {domains} domains")?;
         return Ok(());
     }
     let work = work_named(word.as_str()).context(USAGE)?;

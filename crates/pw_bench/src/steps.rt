@@ -1,7 +1,7 @@
 ghost use Rattle.pw_model.specs.States.{IsState};
 
-use crate::machine::machine;
-use acpi_values::IdleKind;
+use crate::machine::{coupled, nested};
+use crate::records::{domain_asks, group_votes, node_votes};
 use anyhow::anyhow;
 use pw_core::{Ops, State};
 use pw_plan::{Plan, Request};
@@ -14,6 +14,8 @@ pub enum Load {
     Nothing,
     /// To idle in low power idle states, one deeper in each round.
     Idle,
+    /// The same, in containers of depth eight.
+    NestedIdle,
     /// To idle in C states, likewise.
     CState,
     Wake,
@@ -21,6 +23,13 @@ pub enum Load {
     Throttle,
     PerfLimit,
     ThrottleLimit,
+    /// To idle in low power idle states, in the record of one container.
+    NodeVote,
+    /// To idle in C states, in the record of one group.
+    GroupVote,
+    /// In the record of one domain.
+    DomainAsk,
+    DomainLimit,
 }
 
 impl Load {
@@ -29,21 +38,27 @@ impl Load {
         match word {
             "nothing" => Some(Load::Nothing),
             "idle" => Some(Load::Idle),
+            "nested-idle" => Some(Load::NestedIdle),
             "c-state" => Some(Load::CState),
             "wake" => Some(Load::Wake),
             "perf" => Some(Load::Perf),
             "throttle" => Some(Load::Throttle),
             "perf-limit" => Some(Load::PerfLimit),
             "throttle-limit" => Some(Load::ThrottleLimit),
+            "node-vote" => Some(Load::NodeVote),
+            "group-vote" => Some(Load::GroupVote),
+            "domain-ask" => Some(Load::DomainAsk),
+            "domain-limit" => Some(Load::DomainLimit),
             _ => None,
         }
     }
 
-    /// The tables of the processors that this load is of.
-    fn kind(self) -> IdleKind {
+    /// The plan of so many processors that this load is of.
+    fn plan(self, alloc: Global, cpus: u32) -> anyhow::Result<Plan> {
         match self {
-            Load::CState => IdleKind::Cst,
-            _ => IdleKind::Lpi,
+            Load::CState | Load::GroupVote => coupled(alloc, cpus),
+            Load::NestedIdle => nested(alloc, cpus, 8),
+            _ => nested(alloc, cpus, 1),
         }
     }
 
@@ -51,8 +66,12 @@ impl Load {
     fn request(self, cpu: u32, round: u32) -> Option<Request> {
         let index = round % 4;
         match self {
-            Load::Nothing => None,
-            Load::Idle => Some(Request::Idle {
+            Load::Nothing
+            | Load::NodeVote
+            | Load::GroupVote
+            | Load::DomainAsk
+            | Load::DomainLimit => None,
+            Load::Idle | Load::NestedIdle => Some(Request::Idle {
                 cpu,
                 state: 1 + round % 3,
                 tolerance: u32::MAX,
@@ -94,15 +113,32 @@ fn step(plan: &Plan, load: Load, cpus: u32, steps: u32, state: &mut State, ops: 
     done
 }
 
-/// Makes a machine of so many processors and so many steps on it, and tells how many operations they had,
-/// modulo 2^64.
-pub fn steps_of(alloc: Global, cpus: u32, load: Load, steps: u32) -> anyhow::Result<u64> {
-    let plan = machine(alloc, cpus, load.kind())?;
-    let Ok(mut state) = State::open(alloc, &plan) else {
+/// Makes so many steps of a state of the plan, and tells how many operations they had, modulo 2^64.
+fn state_steps(
+    alloc: Global,
+    plan: &Plan,
+    cpus: u32,
+    load: Load,
+    steps: u32,
+) -> anyhow::Result<u64> {
+    let Ok(mut state) = State::open(alloc, plan) else {
         return Err(anyhow!("no memory"));
     };
     let Ok(mut ops) = Ops::new(alloc, 256) else {
         return Err(anyhow!("no memory"));
     };
-    Ok(step(&plan, load, cpus, steps, &mut state, &mut ops))
+    Ok(step(plan, load, cpus, steps, &mut state, &mut ops))
+}
+
+/// Makes a machine of so many processors and so many steps on it, or in one of its records, and tells how
+/// many operations they had, modulo 2^64; of a container, the sum of its states.
+pub fn steps_of(alloc: Global, cpus: u32, load: Load, steps: u32) -> anyhow::Result<u64> {
+    let plan = load.plan(alloc, cpus)?;
+    match load {
+        Load::NodeVote => node_votes(alloc, &plan, steps),
+        Load::GroupVote => group_votes(alloc, &plan, steps),
+        Load::DomainAsk => domain_asks(alloc, &plan, false, steps),
+        Load::DomainLimit => domain_asks(alloc, &plan, true, steps),
+        _ => state_steps(alloc, &plan, cpus, load, steps),
+    }
 }
