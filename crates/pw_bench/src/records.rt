@@ -29,11 +29,11 @@ fn states_of(plan: &Plan, node: u32, child: u32) -> usize
 
 /// Votes for a child of the first container, where it has this state.
 #[tactic(auto, unfolding(pw_model::specs::States::any_latency))]
-fn vote(plan: &Plan, record: &mut NodeRec, child: u32, state: u8) -> u8
-    requires of { IsNodeOf plan.now record.old }
-    requires first { record.old.node ≡ 0 }
-    ensures of { IsNodeOf plan.now record.new }
-    ensures first { record.new.node ≡ 0 }
+fn vote(plan: &Plan, held: &mut NodeRec, child: u32, state: u8) -> u8
+    requires of { IsNodeOf plan.now held.old }
+    requires first { held.old.node ≡ 0 }
+    ensures of { IsNodeOf plan.now held.new }
+    ensures first { held.new.node ≡ 0 }
 {
     if plan.containers.as_slice().is_empty() || child as usize >= plan.children_of(0).len() {
         return 0;
@@ -41,7 +41,7 @@ fn vote(plan: &Plan, record: &mut NodeRec, child: u32, state: u8) -> u8
     if state as usize > states_of(plan, 0, child) {
         return 0;
     }
-    record.vote(plan, child, state, u32::MAX)
+    held.vote(plan, child, state, u32::MAX)
 }
 
 /// Makes so many votes in the record of the first container, and tells the sum of the states that it
@@ -50,13 +50,13 @@ pub fn node_votes(alloc: Global, plan: &Plan, steps: u32) -> anyhow::Result<u64>
     if plan.containers.as_slice().is_empty() {
         return Err(anyhow!("no container"));
     }
-    let Ok(mut record) = NodeRec::open(alloc, plan, 0) else {
+    let Ok(mut held) = NodeRec::open(alloc, plan, 0) else {
         return Err(anyhow!("no memory"));
     };
     let mut done = 0u64;
     for step in 0..steps {
         let state = 1 + (step / TURNS % 3) as u8;
-        done = done.wrapping_add(u64::from(vote(plan, &mut record, step % TURNS, state)));
+        done = done.wrapping_add(u64::from(vote(plan, &mut held, step % TURNS, state)));
     }
     Ok(done)
 }
@@ -64,16 +64,16 @@ pub fn node_votes(alloc: Global, plan: &Plan, steps: u32) -> anyhow::Result<u64>
 /// Makes an ask of a member of the first domain, or sets its limit, where the index is one of its states.
 fn ask(
     plan: &Plan,
-    record: &mut DomainRec,
+    held: &mut DomainRec,
     member: u32,
     index: u8,
     is_limit: bool,
     ops: &mut Ops,
 ) -> u8
-    requires of { IsDomainOf plan.now record.old }
-    requires first { record.old.domain ≡ 0 }
-    ensures of { IsDomainOf plan.now record.new }
-    ensures first { record.new.domain ≡ 0 }
+    requires of { IsDomainOf plan.now held.old }
+    requires first { held.old.domain ≡ 0 }
+    ensures of { IsDomainOf plan.now held.new }
+    ensures first { held.new.domain ≡ 0 }
 {
     ops.clear();
     if plan.domains.as_slice().is_empty() {
@@ -89,9 +89,9 @@ fn ask(
         return 0;
     }
     if is_limit {
-        return record.limit_ops(plan, member, index, ops);
+        return held.limit_ops(plan, member, index, ops);
     }
-    record.ask_ops(plan, member, index, ops)
+    held.ask_ops(plan, member, index, ops)
 }
 
 /// Makes so many asks in the record of the first domain, or sets so many limits, and tells how many
@@ -100,7 +100,7 @@ pub fn domain_asks(alloc: Global, plan: &Plan, is_limit: bool, steps: u32) -> an
     if plan.domains.as_slice().is_empty() || plan.domain(0).kind == DomainKind::Idle {
         return Err(anyhow!("no domain of performance or throttling"));
     }
-    let Ok(mut record) = DomainRec::open(alloc, plan, 0) else {
+    let Ok(mut held) = DomainRec::open(alloc, plan, 0) else {
         return Err(anyhow!("no memory"));
     };
     let Ok(mut ops) = Ops::new(alloc, TURNS) else {
@@ -109,18 +109,18 @@ pub fn domain_asks(alloc: Global, plan: &Plan, is_limit: bool, steps: u32) -> an
     let mut done = 0u64;
     for step in 0..steps {
         let index = (step / TURNS % 4) as u8;
-        let _stands = ask(plan, &mut record, step % TURNS, index, is_limit, &mut ops);
+        let _stands = ask(plan, &mut held, step % TURNS, index, is_limit, &mut ops);
         done = done.wrapping_add(ops.list().len() as u64);
     }
     Ok(done)
 }
 
 /// Votes for a member of the first group, where it has this C state.
-fn enter(plan: &Plan, record: &mut GroupRec, member: u32, state: u8, ops: &mut Ops) -> u8
-    requires of { IsGroupOf plan.now record.old }
-    requires first { record.old.group ≡ 0 }
-    ensures of { IsGroupOf plan.now record.new }
-    ensures first { record.new.group ≡ 0 }
+fn enter(plan: &Plan, held: &mut GroupRec, member: u32, state: u8, ops: &mut Ops) -> u8
+    requires of { IsGroupOf plan.now held.old }
+    requires first { held.old.group ≡ 0 }
+    ensures of { IsGroupOf plan.now held.new }
+    ensures first { held.new.group ≡ 0 }
 {
     ops.clear();
     if plan.groups.as_slice().is_empty() {
@@ -133,7 +133,7 @@ fn enter(plan: &Plan, record: &mut GroupRec, member: u32, state: u8, ops: &mut O
     if state as usize > plan.cpu(members[member as usize]).idle.states().len() {
         return 0;
     }
-    record.vote_ops(plan, member, state, ops)
+    held.vote_ops(plan, member, state, ops)
 }
 
 /// Makes so many votes in the record of the first group, and tells how many operations they had,
@@ -142,7 +142,7 @@ pub fn group_votes(alloc: Global, plan: &Plan, steps: u32) -> anyhow::Result<u64
     if plan.groups.as_slice().is_empty() {
         return Err(anyhow!("no group"));
     }
-    let Ok(mut record) = GroupRec::open(alloc, plan, 0) else {
+    let Ok(mut held) = GroupRec::open(alloc, plan, 0) else {
         return Err(anyhow!("no memory"));
     };
     let Ok(mut ops) = Ops::new(alloc, TURNS) else {
@@ -151,7 +151,7 @@ pub fn group_votes(alloc: Global, plan: &Plan, steps: u32) -> anyhow::Result<u64
     let mut done = 0u64;
     for step in 0..steps {
         let state = 1 + (step / TURNS % 2) as u8;
-        let _level = enter(plan, &mut record, step % TURNS, state, &mut ops);
+        let _level = enter(plan, &mut held, step % TURNS, state, &mut ops);
         done = done.wrapping_add(ops.list().len() as u64);
     }
     Ok(done)
