@@ -6,7 +6,7 @@ use Rattle.std.proofs.lemmas.Bool.Decides.{nat_tests}
 use Rattle.pw_plan.specs.declared.domain.Domain.{Domain}
 use Rattle.pw_plan.specs.declared.domain.DomainKind.TheVariants.{Idle}
 use Rattle.pw_plan.specs.Groups.{is_software}
-use Rattle.pw_plan.specs.Planning.{covers}
+use Rattle.pw_plan.specs.Covering.{covers}
 use Rattle.pw_plan.proofs.Lists.{and_both}
 use Rattle.pw_model.specs.declared.state.State.{State}
 use Rattle.pw_model.specs.States.{vote_of}

@@ -7,7 +7,7 @@ use Rattle.pw_plan.specs.declared.index.Membership.{Membership}
 use Rattle.pw_plan.specs.declared.plan.Plan.{Plan}
 use Rattle.pw_plan.specs.Index.{idle_memberships}
 use Rattle.pw_plan.specs.Places.{domain_at}
-use Rattle.pw_plan.specs.Planning.{covers}
+use Rattle.pw_plan.specs.Covering.{covers}
 use Rattle.pw_plan.proofs.Memberships.{all_own, any_own}
 use Rattle.pw_model.specs.Domains.{governs, is_sw_all}
 

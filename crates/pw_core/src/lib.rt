@@ -7,7 +7,6 @@ mod c_states;
 mod chain;
 mod changing;
 mod composite;
-mod counts;
 mod domains;
 mod opening;
 mod reads;

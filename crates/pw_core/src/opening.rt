@@ -1,7 +1,7 @@
 ghost use Rattle.std.specs.Prelude.{◌≡◌, ◌<◌, ◌≤◌, ◌++◌, length, map, max, fold, All, IfOk};
 ghost use Rattle.pw_plan.specs.Parts.{scale_of};
 ghost use Rattle.pw_plan.specs.Places.{cpu_at, domain_at};
-ghost use Rattle.pw_plan.specs.Planning.{opening_count};
+ghost use Rattle.pw_plan.specs.Opening.{opening_count};
 ghost use Rattle.pw_plan.specs.Requests.{opening_bound};
 ghost use Rattle.pw_model.specs.States.{opening, opening_limit, running};
 ghost use Rattle.pw_model.specs.Operations.{opening_ops, opening_ops_of, set_on};

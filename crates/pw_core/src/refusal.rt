@@ -9,12 +9,11 @@ ghost use Rattle.pw_model.specs.Refusals.{fixed_refusal};
 ghost use Rattle.pw_model.specs.Refusals.{idle_refusal};
 ghost use Rattle.pw_model.specs.Refusals.{refusal, unfit_refusal};
 
-use crate::counts::in_32_bits;
 use crate::reads::limit_under;
 use crate::tree::row;
 use acpi_values::IdleKind;
 use pw_model::{Change, Reply, State};
-use pw_plan::{DomainKind, Plan, Request};
+use pw_plan::{DomainKind, Plan, Request, in_32_bits};
 
 /// The refusal for the first idle domain of the processor that can't be coordinated.
 fn unfit_refusal(plan: &Plan, cpu: u32) -> Option<Reply>

@@ -12,10 +12,10 @@ use Rattle.pw_plan.specs.declared.domain.DomainKind.TheVariants as kinds
 use Rattle.pw_plan.specs.declared.parts.Scale.{Scale}
 use Rattle.pw_plan.specs.declared.plan.Plan.{Plan}
 use Rattle.pw_plan.specs.Groups.{has_member, is_idle}
-use Rattle.pw_plan.specs.Limits.{capped as in_32_bits}
+use Rattle.pw_plan.specs.Limits.{in_32_bits}
 use Rattle.pw_plan.specs.Parts.{count_of, scale_of}
 use Rattle.pw_plan.specs.Places.{cpu_at, domain_at, domain_of, row_at}
-use Rattle.pw_plan.specs.Planning.{covers, same_kind}
+use Rattle.pw_plan.specs.Covering.{covers, same_kind}
 use Rattle.pw_plan.proofs.Found.{position-here, position-later}
 use Rattle.pw_plan.proofs.Lists.{and_both, and_first, and_second, or_first, or_second}
 use Rattle.pw_model.specs.declared.reply.Reply.{Reply}

@@ -19,7 +19,7 @@ use Rattle.pw_plan.specs.declared.request.Request.{Request}
 use Rattle.pw_plan.specs.declared.request.Request.TheVariants.{Idle, Wake, Perf, Throttle, PerfLimit, ThrottleLimit}
 use Rattle.pw_plan.specs.Groups.{has_member, is_idle, no_domain}
 use Rattle.pw_plan.specs.Places.{cpu_at, domain_at, domain_of, group_at, group_of, no_group}
-use Rattle.pw_plan.specs.Planning.{opening_by, opening_count}
+use Rattle.pw_plan.specs.Opening.{opening_by, opening_count}
 use Rattle.pw_plan.specs.Requests.{domain_bound, group_bound, opening_bound, ops_bound, set_by}
 use Rattle.pw_model.specs.declared.reply.Reply.{Reply}
 use Rattle.pw_model.specs.declared.state.State.{State}

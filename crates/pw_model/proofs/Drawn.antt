@@ -17,7 +17,7 @@ use Rattle.pw_plan.specs.declared.plan.Plan.{Plan}
 use Rattle.pw_plan.specs.declared.request.Request.TheVariants.{Idle}
 use Rattle.pw_plan.specs.Groups.{has_member, is_idle, is_link, is_software, no_domain}
 use Rattle.pw_plan.specs.Places.{cpu_at, domain_at, group_at, group_of}
-use Rattle.pw_plan.specs.Planning.{covers, same_kind}
+use Rattle.pw_plan.specs.Covering.{covers, same_kind}
 use Rattle.pw_plan.proofs.Lists.{and_both, and_first, and_second, any_at, first_place, or_first, or_second}
 use Rattle.pw_model.specs.declared.reply.Reply.{Reply}
 use Rattle.pw_model.specs.declared.state.Change.TheVariants as changes

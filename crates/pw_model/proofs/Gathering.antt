@@ -9,7 +9,7 @@ use Rattle.pw_plan.specs.declared.domain.DomainKind.TheVariants.{Perf, Throttle,
 use Rattle.pw_plan.specs.declared.plan.Plan.{Plan}
 use Rattle.pw_plan.specs.Groups.{has_member, is_idle, is_software}
 use Rattle.pw_plan.specs.Places.{domain_at}
-use Rattle.pw_plan.specs.Planning.{covers, same_kind}
+use Rattle.pw_plan.specs.Covering.{covers, same_kind}
 use Rattle.pw_plan.proofs.Lists.{and_both, and_first, and_second}
 use Rattle.pw_model.specs.declared.state.State.{State}
 use Rattle.pw_model.specs.States.{ask_of, limit_of, vote_of}

@@ -18,7 +18,7 @@ use Rattle.pw_plan.specs.Domains.{has_register}
 use Rattle.pw_plan.specs.Groups.{has_member, is_idle, is_software, no_domain}
 use Rattle.pw_plan.specs.Parts.{scale_of}
 use Rattle.pw_plan.specs.Places.{cpu_at, domain_at, domain_of}
-use Rattle.pw_plan.specs.Planning.{covers, same_kind}
+use Rattle.pw_plan.specs.Covering.{covers, same_kind}
 use Rattle.pw_plan.proofs.Lists.{and_first, and_second, or_left}
 use Rattle.pw_plan.proofs.Placing.{the_member}
 use Rattle.pw_model.specs.declared.state.Change.{Change}

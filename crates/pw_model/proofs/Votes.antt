@@ -9,7 +9,7 @@ use Rattle.pw_plan.specs.declared.domain.Child.{Child}
 use Rattle.pw_plan.specs.declared.domain.Child.TheVariants.{Cpu, Container}
 use Rattle.pw_plan.specs.declared.plan.Plan.{Plan}
 use Rattle.pw_plan.specs.Places.{children_at, container_at, cpu_at, parent_of}
-use Rattle.pw_plan.specs.Planning.{is_child}
+use Rattle.pw_plan.specs.Sound.{is_child}
 use Rattle.pw_plan.specs.Tree.{is_number}
 use Rattle.pw_model.specs.declared.state.State.{State}
 use Rattle.pw_model.specs.Containers.{child_votes, container_vote, node_vote, vote_among, vote_within}

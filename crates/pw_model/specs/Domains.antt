@@ -8,7 +8,7 @@ use Rattle.pw_plan.specs.declared.domain.DomainKind.TheVariants.{Idle}
 use Rattle.pw_plan.specs.declared.plan.Plan.{Plan}
 use Rattle.pw_plan.specs.Groups.{is_software}
 use Rattle.pw_plan.specs.Places.{domain_at}
-use Rattle.pw_plan.specs.Planning.{covers}
+use Rattle.pw_plan.specs.Covering.{covers}
 use Rattle.pw_model.specs.declared.state.State.{State}
 use Rattle.pw_model.specs.States.{vote_of, ask_of, limit_of}
 use Rattle.pw_model.specs.Containers.{greatest}

@@ -11,10 +11,10 @@ use Rattle.pw_plan.specs.declared.parts.Scale.{Scale}
 use Rattle.pw_plan.specs.declared.plan.Plan.{Plan}
 use Rattle.pw_plan.specs.declared.request.Request.{Request}
 use Rattle.pw_plan.specs.declared.request.Request.TheVariants.{Idle, Wake, Perf, Throttle, PerfLimit, ThrottleLimit}
-use Rattle.pw_plan.specs.Limits.{capped as in_32_bits}
+use Rattle.pw_plan.specs.Limits.{in_32_bits}
 use Rattle.pw_plan.specs.Parts.{count_of, scale_of}
 use Rattle.pw_plan.specs.Places.{cpu_at, domain_at, domain_of, row_at}
-use Rattle.pw_plan.specs.Planning.{covers}
+use Rattle.pw_plan.specs.Covering.{covers}
 use Rattle.pw_model.specs.declared.reply.Reply.{Reply}
 use Rattle.pw_model.specs.declared.reply.Reply.TheVariants.{NoState, Disabled, AboveLimit, NoTable, Unfit, TooSlow}
 use Rattle.pw_model.specs.declared.state.State.{State}

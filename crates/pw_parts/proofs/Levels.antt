@@ -11,7 +11,7 @@ use Rattle.std.specs.Prelude.{is_some}
 use Rattle.pw_plan.specs.Parts.{scale_of}
 use Rattle.pw_plan.specs.Groups.{has_member, is_idle, is_software, no_domain}
 use Rattle.pw_plan.specs.Places.{cpu_at, domain_at, domain_of}
-use Rattle.pw_plan.specs.Planning.{covers, same_kind}
+use Rattle.pw_plan.specs.Covering.{covers, same_kind}
 use Rattle.pw_plan.proofs.Lists.{and_both, and_first, and_second, or_left, or_right}
 use Rattle.pw_model.specs.declared.state.Change.{Change}
 use Rattle.pw_model.specs.declared.state.Change.TheVariants as changes

@@ -20,7 +20,9 @@ use Rattle.pw_plan.specs.Domains.{declared_of, dependency_in, entry_of, is_alone
 use Rattle.pw_plan.specs.inner.DomainList.{all_domains, domain_with, domains_of, is_known, led_by, members_of, name_in, named_domains, names_of}
 use Rattle.pw_plan.specs.inner.DomainList.{own_domain}
 use Rattle.pw_plan.specs.Groups.{has_member, is_idle, no_domain}
-use Rattle.pw_plan.specs.Planning.{HasDomains, covers, opening_by, opening_count, same_kind}
+use Rattle.pw_plan.specs.Covering.{covers, same_kind}
+use Rattle.pw_plan.specs.Opening.{opening_by, opening_count}
+use Rattle.pw_plan.specs.Sound.{HasDomains}
 use Rattle.pw_plan.proofs.Lists.{any_append_left, any_append_right, any_at, any_flat_map, each_append, each_flat_map, each_map, first_place, length-flat_map-le, or_left, places-each, places-has}
 use Rattle.pw_plan.proofs.Lists.{places-length, position-in_first, sum-none}
 use Rattle.pw_plan.proofs.Placing.{Registered, Scaled, Shows, all_show, leads_one, only}

@@ -9,7 +9,7 @@ use Rattle.pw_plan.specs.declared.domain.Domain.{Domain}
 use Rattle.pw_plan.specs.declared.domain.Group.{Group}
 use Rattle.pw_plan.specs.declared.parts.CpuParts.{CpuParts}
 use Rattle.pw_plan.specs.Groups.{group_with, groups_of, is_link, join_members, join_with, label_at, labels_after, labels_of, leads_group, relabel, rename}
-use Rattle.pw_plan.specs.Planning.{HasGroups}
+use Rattle.pw_plan.specs.Sound.{HasGroups}
 use Rattle.pw_plan.proofs.Lists.{each_map, places-each, places-length}
 
 pub join_with-length : (first : ℕ) (ps labels : List ℕ) → length (join_with first ps labels) ≡ length labels

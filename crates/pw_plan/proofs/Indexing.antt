@@ -14,7 +14,7 @@ use Rattle.pw_plan.specs.Groups.{no_domain}
 use Rattle.pw_plan.specs.Index.{first_membership, idle_memberships, is_unfit, membership_in}
 use Rattle.pw_plan.specs.inner.Memberships.{shows_unfit}
 use Rattle.pw_plan.specs.Parts.{ParentsFall, container_in, is_below}
-use Rattle.pw_plan.specs.Planning.{covers}
+use Rattle.pw_plan.specs.Covering.{covers}
 use Rattle.pw_plan.specs.Tree.{places_from}
 use Rattle.pw_plan.proofs.Among.{drop_head}
 use Rattle.pw_plan.proofs.Found.{position-here, position-later}

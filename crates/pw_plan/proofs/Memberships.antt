@@ -21,7 +21,7 @@ use Rattle.pw_plan.specs.Groups.{domain_in, has_member, no_domain, no_group}
 use Rattle.pw_plan.specs.Index.{IsPlaceIn, child_place, container_place, cpu_index, first_membership, group_membership, group_membership_in, idle_memberships, is_unfit, member_place, membership_in}
 use Rattle.pw_plan.specs.Orderly.{is_same}
 use Rattle.pw_plan.specs.Places.{children_at, domain_at, group_at, group_of, parent_of, IsChildPlace, IsIn}
-use Rattle.pw_plan.specs.Planning.{covers, same_kind}
+use Rattle.pw_plan.specs.Covering.{covers, same_kind}
 use Rattle.pw_plan.specs.Tree.{places_from}
 use Rattle.pw_plan.proofs.Among.{all_among, any_among}
 use Rattle.pw_plan.proofs.Found.{found, passes, position-here, position-later}

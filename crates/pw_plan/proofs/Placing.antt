@@ -17,7 +17,7 @@ use Rattle.pw_plan.specs.Parts.{cpu_in, no_cpu, scale_of}
 use Rattle.pw_plan.specs.Domains.{declared_of, dependency_in, entry_of, has_register, is_alone, is_in, unfit_by}
 use Rattle.pw_plan.specs.inner.DomainList.{all_domains, domain_with, domains_of, is_known, led_by, members_of, name_in, named_domains, names_of, own_domain}
 use Rattle.pw_plan.specs.Groups.{has_member, is_idle}
-use Rattle.pw_plan.specs.Planning.{covers, same_kind}
+use Rattle.pw_plan.specs.Covering.{covers, same_kind}
 use Rattle.pw_plan.proofs.Lists.{and_first, and_second, any_at, each_append, each_flat_map, each_map, or_first, or_second, places-only}
 
 -- # At most one element passes

@@ -16,8 +16,8 @@ use Rattle.pw_plan.specs.declared.domain.DomainKind.{DomainKind}
 use Rattle.pw_plan.specs.declared.domain.DomainKind.TheVariants.{Perf, Throttle, Idle}
 use Rattle.pw_plan.specs.Parts.{PartsFit, container_in, count_of, cpu_in, has_states, is_below, no_container, no_cpu, no_table, scale_of}
 use Rattle.pw_plan.specs.Tree.{containers_of, depth_of, line_from}
-use Rattle.pw_plan.specs.Limits.{capped, child_counts, depths, first_above, limit_passed, passed, state_counts, table_counts}
-use Rattle.pw_plan.specs.Planning.{IsSmall}
+use Rattle.pw_plan.specs.Limits.{in_32_bits, child_counts, depths, first_above, limit_passed, passed, state_counts, table_counts}
+use Rattle.pw_plan.specs.Sound.{IsSmall}
 use Rattle.pw_plan.proofs.Lines.{parent_below, line_within-None}
 
 -- # No limit is passed where none is named
@@ -37,7 +37,7 @@ none_above : (bound : ℕ) (xs : List ℕ) → first_above bound xs ≡ None →
 none_above bound [] e = tt
 none_above bound (x ∷ xs) e = step (nat_lt bound x) refl e (none_above bound xs)
   where
-    step : (b : Bool) → nat_lt bound x ≡ b → option_map capped (cond b (Some x) (find (nat_lt bound) xs)) ≡ None → (first_above bound xs ≡ None → Below bound xs) → Below bound (x ∷ xs)
+    step : (b : Bool) → nat_lt bound x ≡ b → option_map in_32_bits (cond b (Some x) (find (nat_lt bound) xs)) ≡ None → (first_above bound xs ≡ None → Below bound xs) → Below bound (x ∷ xs)
     step true h e later = cc
     step false h e later = (grind (arith, nat_tests), later e)
 

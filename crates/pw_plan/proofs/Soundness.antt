@@ -8,7 +8,8 @@ use Rattle.pw_plan.specs.declared.domain.Domain.{Domain}
 use Rattle.pw_plan.specs.declared.domain.Group.{Group}
 use Rattle.pw_plan.specs.Limits.{limit_passed}
 use Rattle.pw_plan.specs.inner.DomainList.{all_domains}
-use Rattle.pw_plan.specs.Planning.{IsPlanOf, IsSound}
+use Rattle.pw_plan.specs.Planning.{IsPlanOf}
+use Rattle.pw_plan.specs.Sound.{IsSound}
 use Rattle.pw_plan.proofs.Smallness.{is_small, limits_of}
 use Rattle.pw_plan.proofs.TreeLemmas.{is_tree}
 use Rattle.pw_plan.proofs.DomainLemmas.{has_domains}

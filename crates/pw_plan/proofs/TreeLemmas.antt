@@ -13,7 +13,7 @@ use Rattle.pw_plan.specs.declared.parts.ContainerParts.{ContainerParts}
 use Rattle.pw_plan.specs.declared.parts.CpuParts.{CpuParts}
 use Rattle.pw_plan.specs.Parts.{PartsFit, container_in, cpu_in, no_container, no_cpu}
 use Rattle.pw_plan.specs.Tree.{all_children, children_of, is_number, places_from}
-use Rattle.pw_plan.specs.Planning.{IsTree, is_child}
+use Rattle.pw_plan.specs.Sound.{IsTree, is_child}
 use Rattle.pw_plan.proofs.Lines.{parent_below}
 use Rattle.pw_plan.proofs.Lists.{and_both, each_append, places-each}
 

@@ -14,7 +14,7 @@ use Rattle.pw_plan.specs.declared.index.Membership.{Membership}
 use Rattle.pw_plan.specs.Groups.{domain_in, has_member, no_group}
 use Rattle.pw_plan.specs.Orderly.{is_same}
 use Rattle.pw_plan.specs.Parts.{container_in, cpu_in}
-use Rattle.pw_plan.specs.Planning.{covers}
+use Rattle.pw_plan.specs.Covering.{covers}
 use Rattle.pw_plan.specs.Tree.{places_from}
 
 -- the place of processor p among these members, or how many they are

@@ -5,6 +5,9 @@ pub mod Domains
 pub mod Groups
 pub mod Orderly
 pub mod Planning
+pub mod Covering
+pub mod Opening
+pub mod Sound
 pub mod Index
 pub mod Places
 pub mod Requests

@@ -11,12 +11,12 @@ use Rattle.pw_plan.specs.Parts.{count_of}
 use Rattle.pw_plan.specs.Tree.{children_of, depth_of}
 
 -- a count in 32 bits: one past their end stands at it
-abbrev pub capped : ℕ → ℕ
-capped n = min n 4294967295
+abbrev pub in_32_bits : ℕ → ℕ
+in_32_bits n = min n 4294967295
 
 -- the first of these counts that is above a bound
 abbrev pub first_above : ℕ → List ℕ → Option ℕ
-first_above bound counts = option_map capped (find (nat_lt bound) counts)
+first_above bound counts = option_map in_32_bits (find (nat_lt bound) counts)
 
 -- this limit is passed where one of the counts is above the bound, with the first such count
 abbrev pub passed : ℕ → Option ℕ → Option PlanFault

@@ -16,7 +16,7 @@ use Rattle.pw_plan.specs.Parts.{container_in, cpu_in, no_row}
 use Rattle.pw_plan.specs.Groups.{domain_in, has_member}
 unfoldable pub use Rattle.pw_plan.specs.Groups.{no_group}
 use Rattle.pw_plan.specs.Index.{is_unfit}
-use Rattle.pw_plan.specs.Planning.{covers}
+use Rattle.pw_plan.specs.Covering.{covers}
 
 abbrev pub container_at : Plan → ℕ → ContainerParts
 container_at P n = container_in P.containers n

@@ -1,22 +1,15 @@
--- What holds of every plan, of its lists alone.
-use Rattle.std.specs.Prelude.{◌≡◌, ◌<◌, ◌≤◌, ◌&&◌, ℕ, min, Bool, true, false, List, [], length, slice_index_or, Some, None, if◌then◌else◌, nat_lt, sum_by, is_some, All}
-use Rattle.std.specs.List.{list_all, position_or_len}
-use Rattle.acpi_values.specs.Idle.{rows_of}
-use Rattle.acpi_values.specs.declared.dependency.Coord.{Coord}
-use Rattle.acpi_values.specs.declared.dependency.Coord.TheVariants.{SwAll, SwAny, HwAll}
+-- When lists are the plan of their parts.
+use Rattle.std.specs.Prelude.{◌≡◌, List, length, None}
 use Rattle.pw_plan.specs.declared.parts.ContainerParts.{ContainerParts}
 use Rattle.pw_plan.specs.declared.parts.CpuParts.{CpuParts}
 use Rattle.pw_plan.specs.declared.domain.Child.{Child}
-use Rattle.pw_plan.specs.declared.domain.Child.TheVariants.{Cpu, Container}
 use Rattle.pw_plan.specs.declared.domain.Domain.{Domain}
-use Rattle.pw_plan.specs.declared.domain.DomainKind.{DomainKind}
-use Rattle.pw_plan.specs.declared.domain.DomainKind.TheVariants.{Perf, Throttle, Idle}
 use Rattle.pw_plan.specs.declared.domain.Group.{Group}
-use Rattle.pw_plan.specs.Parts.{PartsFit, container_in, cpu_in, scale_of, count_of}
-use Rattle.pw_plan.specs.Tree.{all_children, containers_of, is_number}
+use Rattle.pw_plan.specs.Parts.{PartsFit}
+use Rattle.pw_plan.specs.Tree.{all_children}
 use Rattle.pw_plan.specs.Limits.{limit_passed}
-use Rattle.pw_plan.specs.Domains.{AreDomains, has_register}
-use Rattle.pw_plan.specs.Groups.{domain_in, groups_of, is_idle, has_member}
+use Rattle.pw_plan.specs.Domains.{AreDomains}
+use Rattle.pw_plan.specs.Groups.{groups_of}
 
 -- It is the plan of its parts: they fit together and pass no limit, and the rest is made of them.
 pub record IsPlanOf (cs : List ContainerParts) (ps : List CpuParts) (children : List (List Child)) (ds : List Domain) (gs : List Group) : Type 0 where
@@ -25,75 +18,3 @@ pub record IsPlanOf (cs : List ContainerParts) (ps : List CpuParts) (children : 
   pub children_are : children ≡ all_children cs ps
   pub domains_are : AreDomains ps ds
   pub groups_are : gs ≡ groups_of ds (length ps)
-
--- # What follows for every plan
-
--- whether it is a child of container n by its own parent
-abbrev pub is_child : List ContainerParts → List CpuParts → ℕ → Child → Bool
-is_child cs ps n (Cpu p) = nat_lt p (length ps) && is_number n (cpu_in ps p).parent
-is_child cs ps n (Container m) = nat_lt m (length cs) && is_number n (container_in cs m).parent
-
--- The tree: who is listed as a child exists and names this container, and a parent stands before its children.
-pub record IsTree (cs : List ContainerParts) (ps : List CpuParts) (children : List (List Child)) : Type 0 where
-  pub lists : length children ≡ length cs
-  pub children_exist : (n : ℕ) → list_all (is_child cs ps n) (slice_index_or children n []) ≡ true
-  pub falls : (m n : ℕ) → m < length cs → (container_in cs m).parent ≡ Some n → n < m
-  pub within : (p n : ℕ) → p < length ps → (cpu_in ps p).parent ≡ Some n → n < length cs
-
--- What the limits leave room for.
-pub record IsSmall (cs : List ContainerParts) (ps : List CpuParts) : Type 0 where
-  pub containers : length cs ≤ 256
-  pub cpus : length ps ≤ 256
-  pub depth : (p : ℕ) → length (containers_of cs ps p) ≤ 8
-  pub container_rows : (n : ℕ) → length (rows_of (container_in cs n).idle) ≤ 255
-  pub cpu_rows : (p : ℕ) → length (rows_of (cpu_in ps p).idle) ≤ 255
-  pub states : (kind : DomainKind) (p : ℕ) → count_of (scale_of kind (cpu_in ps p)) ≤ 255
-  pub some_states : (kind : DomainKind) (p : ℕ) → is_some (scale_of kind (cpu_in ps p)) ≡ true → 0 < count_of (scale_of kind (cpu_in ps p))
-
-abbrev pub same_kind : DomainKind → DomainKind → Bool
-same_kind Perf Perf = true
-same_kind Throttle Throttle = true
-same_kind Idle Idle = true
-same_kind Perf Throttle = false
-same_kind Perf Idle = false
-same_kind Throttle Perf = false
-same_kind Throttle Idle = false
-same_kind Idle Perf = false
-same_kind Idle Throttle = false
-
--- whether the domain is of this kind and has the processor
-abbrev pub covers : DomainKind → ℕ → Domain → Bool
-covers kind p d = same_kind d.kind kind && has_member d.members p
-
--- on how many of so many members a domain's state is set at the start
-abbrev pub opening_by : Coord → ℕ → ℕ
-opening_by SwAll members = members
-opening_by SwAny members = min 1 members
-opening_by HwAll members = members
-
-abbrev pub opening_count : Domain → ℕ
-opening_count d = if is_idle d.kind then 0 else if nat_lt 0 d.unfit then 0 else opening_by d.coord (length d.members)
-
--- Domains: their members are processors, and who has a scale is in just one domain of that kind; who is in one has
--- the scale, and in a fit one its control register.
-pub record HasDomains (ps : List CpuParts) (ds : List Domain) : Type 0 where
-  pub members : All (λ (d : Domain). All (λ p. p < length ps) d.members) ds
-  pub sizes : All (λ (d : Domain). length d.members ≤ 256) ds
-  pub placed : (kind : DomainKind) (p : ℕ) → p < length ps → is_some (scale_of kind (cpu_in ps p)) ≡ true → position_or_len (covers kind p) ds < length ds
-  pub only : (kind : DomainKind) (d p : ℕ) → d < length ds → is_idle kind ≡ false → covers kind p (domain_in ds d) ≡ true → position_or_len (covers kind p) ds ≡ d
-  pub scaled : All (λ (d : Domain). (p : ℕ) → is_idle d.kind ≡ false → has_member d.members p ≡ true → is_some (scale_of d.kind (cpu_in ps p)) ≡ true) ds
-  pub registered : All (λ (d : Domain). (p : ℕ) → d.unfit ≡ 0 → has_member d.members p ≡ true → has_register (scale_of d.kind (cpu_in ps p)) ≡ true) ds
-  pub few : (kind : DomainKind) (p : ℕ) → p < length ps → is_some (scale_of kind (cpu_in ps p)) ≡ true → position_or_len (covers kind p) ds < 512
-  pub opening : sum_by opening_count ds ≤ 131072
-
--- Groups: their members are processors.
-pub record HasGroups (ps : List CpuParts) (gs : List Group) : Type 0 where
-  pub members : All (λ (g : Group). All (λ p. p < length ps) g.members) gs
-  pub sizes : All (λ (g : Group). length g.members ≤ 256) gs
-
--- What follows, in one.
-pub record IsSound (cs : List ContainerParts) (ps : List CpuParts) (children : List (List Child)) (ds : List Domain) (gs : List Group) : Type 0 where
-  pub tree : IsTree cs ps children
-  pub small : IsSmall cs ps
-  pub domains : HasDomains ps ds
-  pub groups : HasGroups ps gs

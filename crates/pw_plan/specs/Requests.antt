@@ -8,7 +8,7 @@ use Rattle.pw_plan.specs.declared.plan.Plan.{Plan}
 use Rattle.pw_plan.specs.declared.request.Request.{Request}
 use Rattle.pw_plan.specs.declared.request.Request.TheVariants.{Idle, Wake, Perf, Throttle, PerfLimit, ThrottleLimit}
 use Rattle.pw_plan.specs.Places.{domain_at, domain_of, group_at, group_of}
-use Rattle.pw_plan.specs.Planning.{opening_count}
+use Rattle.pw_plan.specs.Opening.{opening_count}
 
 abbrev pub cpu_of : Request → ℕ
 cpu_of (Idle p s t) = p

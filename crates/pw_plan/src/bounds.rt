@@ -1,6 +1,8 @@
 ghost use Rattle.std.specs.Prelude.{◌≡◌, ◌<◌, ◌≤◌, ◌^◌, length};
-ghost use Rattle.pw_plan.specs.Planning.{covers, opening_by};
-ghost use Rattle.pw_plan.specs.Planning.{opening_count, same_kind};
+ghost use Rattle.pw_plan.specs.Covering.{covers};
+ghost use Rattle.pw_plan.specs.Opening.{opening_by};
+ghost use Rattle.pw_plan.specs.Covering.{same_kind};
+ghost use Rattle.pw_plan.specs.Opening.{opening_count};
 ghost use Rattle.pw_plan.specs.Requests.{set_by};
 
 use crate::domain::{Domain, DomainKind};

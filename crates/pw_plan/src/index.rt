@@ -7,7 +7,7 @@ ghost use Rattle.pw_plan.specs.Index.{index_under, member_place, membership_in};
 ghost use Rattle.pw_plan.specs.inner.Memberships.{shows_unfit};
 ghost use Rattle.pw_plan.specs.Orderly.{is_same};
 ghost use Rattle.pw_plan.specs.Parts.{container_in, cpu_in, is_below};
-ghost use Rattle.pw_plan.specs.Planning.{covers};
+ghost use Rattle.pw_plan.specs.Covering.{covers};
 
 use crate::bounds::covers;
 use crate::domain::{Child, Domain, DomainKind, Group};

@@ -22,6 +22,7 @@ pub use domain::{Child, Domain, DomainKind, Group};
 pub use fault::PlanFault;
 pub use index::{CpuIndex, Membership};
 pub use laws::domains_are_known;
+pub use limits::in_32_bits;
 pub use parts::{ContainerParts, CpuParts, Scale};
 pub use parts_check::parts_ok;
 pub use plan::Plan;

@@ -1,6 +1,6 @@
 ghost use Rattle.std.specs.Prelude.{◌≡◌, ◌<◌, ◌≤◌, ◌∷◌, [], length};
 ghost use Rattle.pw_plan.specs.Parts.{ParentsFall};
-ghost use Rattle.pw_plan.specs.Limits.{capped, child_counts, depths, first_above};
+ghost use Rattle.pw_plan.specs.Limits.{in_32_bits, child_counts, depths, first_above};
 ghost use Rattle.pw_plan.specs.Limits.{limit_passed, table_counts};
 ghost use Rattle.pw_plan.specs.Tree.{children_of, depth_of};
 
@@ -10,8 +10,8 @@ use crate::parts::{ContainerParts, CpuParts};
 use crate::tree::{container_in, is_number};
 
 /// A count in 32 bits. One that is greater stands at their end.
-pub fn capped(count: usize) -> u32
-    ensures { result ≡ capped count }
+pub fn in_32_bits(count: usize) -> u32
+    ensures { result ≡ in_32_bits count }
 {
     if count < u32::MAX as usize {
         count as u32
@@ -25,7 +25,7 @@ fn above(bound: usize, count: usize) -> Option<u32>
     ensures { result ≡ first_above bound (count ∷ []) }
 {
     if bound < count {
-        Some(capped(count))
+        Some(in_32_bits(count))
     } else {
         None
     }
@@ -56,7 +56,7 @@ fn deep(containers: &[ContainerParts]) -> Option<u32>
     for node in 0..containers.len() {
         let depth = depth_of(containers, node as u32);
         if depth > 8 {
-            return Some(capped(depth));
+            return Some(in_32_bits(depth));
         }
     }
     None
@@ -92,7 +92,7 @@ fn crowded(containers: &[ContainerParts], cpus: &[CpuParts]) -> Option<u32>
     for node in 0..containers.len() {
         let count = child_count(containers, cpus, node as u32);
         if count > 255 {
-            return Some(capped(count));
+            return Some(in_32_bits(count));
         }
     }
     None
@@ -105,21 +105,21 @@ fn long(containers: &[ContainerParts], cpus: &[CpuParts]) -> Option<u32>
     for container in containers {
         let count = container.idle.states().len();
         if count > 255 {
-            return Some(capped(count));
+            return Some(in_32_bits(count));
         }
     }
     for cpu in cpus {
         let idle = cpu.idle.states().len();
         if idle > 255 {
-            return Some(capped(idle));
+            return Some(in_32_bits(idle));
         }
         let perf = cpu.state_count(DomainKind::Perf);
         if perf > 255 {
-            return Some(capped(perf));
+            return Some(in_32_bits(perf));
         }
         let throttle = cpu.state_count(DomainKind::Throttle);
         if throttle > 255 {
-            return Some(capped(throttle));
+            return Some(in_32_bits(throttle));
         }
     }
     None

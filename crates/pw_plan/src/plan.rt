@@ -1,6 +1,7 @@
 ghost use Rattle.pw_plan.specs.Index.{IsIndexed};
 ghost use Rattle.pw_plan.specs.Orderly.{IsOrderly};
-ghost use Rattle.pw_plan.specs.Planning.{IsPlanOf, IsSound};
+ghost use Rattle.pw_plan.specs.Planning.{IsPlanOf};
+ghost use Rattle.pw_plan.specs.Sound.{IsSound};
 
 use crate::bounds::{opening_count, set_by};
 use crate::domain::{Child, Domain, DomainKind, Group};

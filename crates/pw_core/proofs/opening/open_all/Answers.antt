@@ -4,7 +4,7 @@ use Rattle.std.proofs.lemmas.List.Sums.{sum_by-drop_more}
 use Rattle.acpi_values.specs.declared.operation.Op.{Op}
 use Rattle.pw_base.specs.Room.{Bounded}
 use Rattle.pw_plan.specs.Groups.{no_domain}
-use Rattle.pw_plan.specs.Planning.{opening_count}
+use Rattle.pw_plan.specs.Opening.{opening_count}
 use Rattle.pw_plan.proofs.Ranges.{pushed_flat_map}
 use Rattle.pw_model.specs.Operations.{opening_ops, opening_ops_of}
 use Rattle.pw_model.proofs.Bounds.{opening_of-length}

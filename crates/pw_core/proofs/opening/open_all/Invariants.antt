@@ -1,7 +1,7 @@
 use Rattle.std.proofs.Common.{◌≡◌, ◌≤◌, ◌+◌, ◌-◌, ◌++◌, length, drop}
 use Rattle.std.specs.Prelude.{sum_by}
 use Rattle.std.specs.List.{flat_map, range_with_len}
-use Rattle.pw_plan.specs.Planning.{opening_count}
+use Rattle.pw_plan.specs.Opening.{opening_count}
 use Rattle.pw_model.specs.Operations.{opening_ops, opening_ops_of}
 use Rattle.pw_core.proofs.opening.open_all.Given as goal
 

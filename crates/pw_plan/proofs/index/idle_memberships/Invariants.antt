@@ -1,7 +1,7 @@
 use Rattle.std.proofs.Common.{◌≡◌, ◌++◌, map, drop}
 use Rattle.pw_plan.specs.declared.domain.DomainKind.TheVariants.{Idle}
 use Rattle.pw_plan.specs.Index.{idle_memberships, membership_in}
-use Rattle.pw_plan.specs.Planning.{covers}
+use Rattle.pw_plan.specs.Covering.{covers}
 use Rattle.pw_plan.specs.Tree.{places_from}
 use Rattle.pw_plan.proofs.index.idle_memberships.Given as goal
 

@@ -3,7 +3,7 @@ use Rattle.std.specs.List.{slice_get}
 use Rattle.pw_plan.specs.declared.domain.DomainKind.TheVariants.{Perf, Throttle, Idle}
 use Rattle.pw_plan.specs.declared.index.CpuIndex.{CpuIndex}
 use Rattle.pw_plan.specs.Index.{first_membership, membership_in}
-use Rattle.pw_plan.specs.Planning.{covers}
+use Rattle.pw_plan.specs.Covering.{covers}
 use Rattle.pw_plan.proofs.Memberships.{covers_has, first_idle, index_none, index_some, member_is, no_domain_of, membership_is}
 use Rattle.pw_plan.proofs.plan.Plan.domain_of.Goals as goal
 

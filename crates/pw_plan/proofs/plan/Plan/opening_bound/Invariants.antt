@@ -1,6 +1,6 @@
 use Rattle.std.proofs.Common.{◌≡◌, ◌+◌, drop}
 use Rattle.std.specs.Prelude.{sum_by}
-use Rattle.pw_plan.specs.Planning.{opening_count}
+use Rattle.pw_plan.specs.Opening.{opening_count}
 use Rattle.pw_plan.specs.Requests.{opening_bound}
 use Rattle.pw_plan.proofs.plan.Plan.opening_bound.Given as goal
 
