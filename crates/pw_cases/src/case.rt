@@ -1,5 +1,5 @@
 use crate::bytes::{block_of, put_bytes};
-use pw_base::{MemoryFile, MemoryFiles, MemorySink};
+use pw_base::{Memory, MemoryFile, MemoryFiles, MemorySink};
 use pw_cli::run;
 use std::alloc::Global;
 
@@ -83,20 +83,17 @@ impl Case {
         }
     }
 
-    fn files(&self, alloc: Global) -> Option<MemoryFiles> {
+    fn files(&self, alloc: Global) -> Result<MemoryFiles, Memory> {
         let mut held = Vec::new(alloc);
-        let a = MemoryFile::new(String::from_str(alloc, "a").ok()?, self.a.clone().ok()?);
-        held.push(a).ok()?;
-        let b = MemoryFile::new(String::from_str(alloc, "b").ok()?, self.b.clone().ok()?);
-        held.push(b).ok()?;
-        let c = MemoryFile::new(String::from_str(alloc, "c").ok()?, self.c.clone().ok()?);
-        held.push(c).ok()?;
-        Some(MemoryFiles::new(held, Vec::new(alloc), self.piece.max(1)))
+        held.push(MemoryFile::new(String::from_str(alloc, "a")?, self.a.clone()?))?;
+        held.push(MemoryFile::new(String::from_str(alloc, "b")?, self.b.clone()?))?;
+        held.push(MemoryFile::new(String::from_str(alloc, "c")?, self.c.clone()?))?;
+        Ok(MemoryFiles::new(held, Vec::new(alloc), self.piece.max(1)))
     }
 
     /// What came of the run: `as it must be`, or what else.
     pub fn run(&self, alloc: Global, status: u8) -> Option<&'static str> {
-        let mut files = self.files(alloc)?;
+        let mut files = self.files(alloc).ok()?;
         let mut out = sink(alloc)?;
         let mut err = sink(alloc)?;
         let outcome = run(alloc, self.words.as_slice(), &mut files, &mut out, &mut err);
