@@ -1,13 +1,13 @@
-//! Blocks: one of each kind read and written, the faults of headers and terms, and reads in pieces
+//! Blocks: one of each kind read and written, and reads in pieces
 //! (ACPI 6.5, 5.2.6 and 5.2.11).
 
 ghost use Rattle.std.specs.Prelude.{Bool, false, ℕ, List, Option, None};
 
 use aml_block::{
-    Block, BlockFault, HeaderFault, Signature, Term, encode_block, is_writable_block, parse, read,
-    read_all, write,
+    Block, BlockFault, Signature, Term, encode_block, is_writable_block, parse, read, read_all,
+    write,
 };
-use aml_data::{Data, DataFault, Width};
+use aml_data::{Data, Width};
 use pw_base::{Failed, Files, MemorySink};
 use std::test::*;
 
@@ -89,75 +89,6 @@ fn a_block_is_read_and_written(rt: HostRuntime) -> Result<(), Fail> {
     assert!(rt; write(alloc, &block, &mut sink).is_ok());
     assert_eq!(rt; sink.written(), NAMED.as_slice());
     Ok(())
-}
-
-#[test]
-fn first_faults_of_blocks(rt: HostRuntime) {
-    let rows: [(&[u8], BlockFault); 11] = [
-        (
-            b"SSDT*\x00\x00\x00\x02 POWER POWERTAB\x01\x00\x00\x00PWR \x01\x00\x00",
-            BlockFault::Header {
-                why: HeaderFault::Short,
-            },
-        ),
-        (
-            b"SSDT*\x00\x00\x00\x02 POWER POWERTAB\x01\x00\x00\x00PWR \x01\x00\x00\x00\x08_PPC",
-            BlockFault::Header {
-                why: HeaderFault::Length,
-            },
-        ),
-        (
-            b"SSDT$\x00\x00\x00\x02qPOWER POWERTAB\x01\x00\x00\x00PWR \x01\x00\x00\x00",
-            BlockFault::Header {
-                why: HeaderFault::Sum,
-            },
-        ),
-        (
-            b"SSDT%\x00\x00\x00\x02qPOWER POWERTAB\x01\x00\x00\x00PWR \x01\x00\x00\x00",
-            BlockFault::Header {
-                why: HeaderFault::Length,
-            },
-        ),
-        (
-            b"PSDT%\x00\x00\x00\x02sPOWER POWERTAB\x01\x00\x00\x00PWR \x01\x00\x00\x00",
-            BlockFault::Header {
-                why: HeaderFault::Signature,
-            },
-        ),
-        (
-            b"SSDT%\x00\x00\x00\x02\xCCPOWER POWERTAB\x01\x00\x00\x00PWR \x01\x00\x00\x00\xA3",
-            BlockFault::BadTerm {
-                at: 36,
-                opcode: 0xA3,
-            },
-        ),
-        (
-            b"SSDT,\x00\x00\x00\x02\xD3POWER POWERTAB\x01\x00\x00\x00PWR \x01\x00\x00\x00[\x82\x06DEV0\xA3",
-            BlockFault::BadTerm {
-                at: 43,
-                opcode: 0xA3,
-            },
-        ),
-        (
-            b"SSDT%\x00\x00\x00\x02\x14POWER POWERTAB\x01\x00\x00\x00PWR \x01\x00\x00\x00[",
-            BlockFault::Data(DataFault::Short { at: 37 }),
-        ),
-        (
-            b"SSDT(\x00\x00\x00\x02\x08POWER POWERTAB\x01\x00\x00\x00PWR \x01\x00\x00\x00\x08\\\x00\x00",
-            BlockFault::Data(DataFault::BadName { at: 38 }),
-        ),
-        (
-            b"SSDT*\x00\x00\x00\x02\x15POWER POWERTAB\x01\x00\x00\x00PWR \x01\x00\x00\x00\x08_PPC\x0B",
-            BlockFault::Data(DataFault::Short { at: 42 }),
-        ),
-        (
-            b"SSDT+\x00\x00\x00\x02wPOWER POWERTAB\x01\x00\x00\x00PWR \x01\x00\x00\x00[\x82\x06DEV0",
-            BlockFault::Data(DataFault::BadLength { at: 38 }),
-        ),
-    ];
-    for (bytes, why) in rows {
-        assert_eq!(rt; parse(rt.alloc(), bytes).err(), Some(why), "{bytes:?}");
-    }
 }
 
 #[test]

@@ -1,7 +1,6 @@
-//! Terms of the profile: their bytes, what is written of them, and the first faults (ACPI 6.5, 20.2.5).
+//! Terms of the profile: their bytes, and what is written of them (ACPI 6.5, 20.2.5).
 
-use aml_data::DataFault;
-use aml_terms::{TermFault, encode_terms, is_writable_terms, terms_of, written_terms_len};
+use aml_terms::{encode_terms, is_writable_terms, terms_of, written_terms_len};
 use std::alloc::Global;
 
 /// 33 Scopes in one another, each named by the root.
@@ -105,95 +104,4 @@ fn terms_are_written_in_their_shortest_form(rt: HostRuntime) {
     }
     let (_, levels) = NESTED.as_slice().split_at(5);
     assert!(rt; are_rewritten(rt.alloc(), levels, levels));
-}
-
-#[test]
-fn first_faults_of_terms(rt: HostRuntime) {
-    let rows: [(&[u8], TermFault); 23] = [
-        (b"\x5B", TermFault::Data(DataFault::Short { at: 1 })),
-        (b"\x10", TermFault::Data(DataFault::Short { at: 1 })),
-        (b"\x5B\x82", TermFault::Data(DataFault::Short { at: 2 })),
-        (b"\x10\x41", TermFault::Data(DataFault::Short { at: 2 })),
-        (b"\x10\x71", TermFault::Data(DataFault::BadLength { at: 1 })),
-        (
-            b"\x14\x03\x00",
-            TermFault::Data(DataFault::BadLength { at: 1 }),
-        ),
-        (
-            b"\x08\x00\x00",
-            TermFault::Data(DataFault::BadName { at: 1 }),
-        ),
-        (
-            b"\x5B\x82\x02\x00",
-            TermFault::Data(DataFault::BadName { at: 3 }),
-        ),
-        (
-            b"\x5B\x82\x03\\\x00",
-            TermFault::Data(DataFault::BadName { at: 4 }),
-        ),
-        (
-            b"\x5B\x83\x03^\x00",
-            TermFault::Data(DataFault::BadName { at: 4 }),
-        ),
-        (
-            b"\x5B\x83\x07CPU0\x00\x00",
-            TermFault::Data(DataFault::Short { at: 9 }),
-        ),
-        (
-            b"\x06_AAA\x00",
-            TermFault::Data(DataFault::BadName { at: 5 }),
-        ),
-        (b"\x15_AAA\x06", TermFault::Data(DataFault::Short { at: 6 })),
-        (b"\x5B\x01MUT0", TermFault::Data(DataFault::Short { at: 6 })),
-        (
-            b"\x5B\x80OPRG\x01\xFF",
-            TermFault::Data(DataFault::BadLead { at: 7, byte: 0xFF }),
-        ),
-        (
-            b"\x5B\x80OPRG\x01\x5B\x30",
-            TermFault::Data(DataFault::BadLead { at: 7, byte: 0x5B }),
-        ),
-        (
-            b"\x10\x07\\\x00\x08_PA_B\x00",
-            TermFault::Data(DataFault::Short { at: 8 }),
-        ),
-        (
-            b"\x10\x04\x00\x5B\x02EVT0",
-            TermFault::Data(DataFault::Short { at: 5 }),
-        ),
-        (
-            b"\xA3",
-            TermFault::BadTerm {
-                at: 0,
-                opcode: 0xA3,
-            },
-        ),
-        (
-            b"\x5B\x31",
-            TermFault::BadTerm {
-                at: 0,
-                opcode: 0x5B31,
-            },
-        ),
-        (
-            b"\x08_PPC\x00\xA3",
-            TermFault::BadTerm {
-                at: 6,
-                opcode: 0xA3,
-            },
-        ),
-        (
-            b"\x10\x05\x00\x5B\x13\x00",
-            TermFault::BadTerm {
-                at: 3,
-                opcode: 0x5B13,
-            },
-        ),
-        (&NESTED, TermFault::Data(DataFault::TooDeep { at: 145 })),
-    ];
-    for (bytes, why) in rows {
-        assert!(rt; bytes.len() < 1000);
-        let fault = terms_of(rt.alloc(), bytes, bytes.len()).err();
-        assert_eq!(rt; fault, Some(why), "{bytes:?}");
-    }
 }
