@@ -26,6 +26,10 @@ LOADS = {
     "throttle": STEPS,
     "perf-limit": STEPS,
     "throttle-limit": STEPS,
+    "node-vote": STEPS,
+    "group-vote": STEPS,
+    "domain-ask": STEPS,
+    "domain-limit": STEPS,
 }
 
 # How many processors, and how many idle domains each declares.
