@@ -13,7 +13,10 @@ use aml_terms::{encode_terms, is_writable_terms, written_terms_len};
 use pw_base::{Memory, Sink, put_all};
 use std::alloc::Global;
 
-/// The place of the checksum (ACPI 6.5, 5.2.6).
+/// The place of the length (ACPI 6.5, 5.2.6).
+const LENGTH: usize = 4;
+
+/// The place of the checksum.
 const CHECKSUM: usize = 9;
 
 /// Whether a block can be written: each of its terms can, and together with the header they have at
@@ -49,12 +52,12 @@ fn fields_fit(header: &Header)
     } = *header;
 }
 
-/// Appends a header with this length and checksum 0.
-fn put_header(header: &Header, whole: u32, out: &mut Vec<u8>) -> Result<(), Memory>
-    ensures { OnOk result (out.new.items ≡ out.old.items ++ written_header header.now whole 0) }
+/// Appends a header with length 0 and checksum 0.
+fn put_header(header: &Header, out: &mut Vec<u8>) -> Result<(), Memory>
+    ensures { OnOk result (out.new.items ≡ out.old.items ++ written_header header.now 0 0) }
 {
     out.extend_from_slice(&signature_bytes(header.signature))?;
-    out.extend_from_slice(&whole.to_le_bytes())?;
+    out.extend_from_slice(&[0; 4])?;
     out.push(header.revision)?;
     out.push(0)?;
     out.extend_from_slice(&header.oem_id)?;
@@ -78,11 +81,14 @@ fn block_bytes(alloc: Global, block: &Block) -> Result<Vec<u8>, Memory>
     requires { IsWritableBlock block.now }
     ensures { IfOk result (λ bytes. bytes.items ≡ written_block block.now) }
 {
-    let terms = block.terms.as_slice();
-    let whole = HEADER_SIZE + written_terms_len(terms) as usize;
-    let mut bytes = Vec::with_capacity(alloc, whole)?;
-    put_header(&block.header, whole as u32, &mut bytes)?;
-    encode_terms(alloc, terms, &mut bytes)?;
+    let mut bytes = Vec::new(alloc);
+    put_header(&block.header, &mut bytes)?;
+    encode_terms(alloc, block.terms.as_slice(), &mut bytes)?;
+    let [a, b, c, d] = (bytes.len() as u32).to_le_bytes();
+    bytes[LENGTH] = a;
+    bytes[LENGTH + 1] = b;
+    bytes[LENGTH + 2] = c;
+    bytes[LENGTH + 3] = d;
     let checksum = checksum_of(sum_of(bytes.as_slice()));
     bytes[CHECKSUM] = checksum;
     Ok(bytes)

@@ -13,7 +13,12 @@ pub fn encode_blocks(alloc: Global, blocks: &[Block]) -> Result<Vec<u8>, Memory>
 {
     let mut bytes = Vec::new(alloc);
     for block in blocks {
-        bytes.extend_from_slice(encode_block(alloc, block)?.as_slice())?;
+        let written = encode_block(alloc, block)?;
+        if bytes.is_empty() {
+            bytes = written;
+        } else {
+            bytes.extend_from_slice(written.as_slice())?;
+        }
     }
     Ok(bytes)
 }
