@@ -21,32 +21,32 @@ fn block_of(alloc: Global, signature: &[u8], revision: u8, body: &[u8]) -> Resul
     parse(alloc, &bytes).map_err(|_| Fail::from("no block"))
 }
 
-/// Blocks of these bodies.
-fn blocks_of(alloc: Global, bodies: &[&[u8]]) -> Result<Vec<Block>, Fail> {
+/// The widths of the integers in a block of this signature and revision, and in an SSDT of revision 2
+/// behind it.
+fn widths(
+    alloc: Global,
+    signature: &[u8],
+    revision: u8,
+) -> Result<(Option<Width>, Option<Width>), Fail> {
     let mut blocks = Vec::new(alloc);
-    for body in bodies {
-        blocks.push(block_of(alloc, b"SSDT", 2, body)?)?;
-    }
-    Ok(blocks)
+    blocks.push(block_of(alloc, signature, revision, b"\x08AAAA\xFF")?)?;
+    blocks.push(block_of(alloc, b"SSDT", 2, b"\x08BBBB\xFF")?)?;
+    let Ok(space) = Space::build(alloc, blocks.as_slice()) else {
+        return Err("no space".into());
+    };
+    let placed = space.placed();
+    Ok((
+        placed.first().map(|p| p.width),
+        placed.last().map(|p| p.width),
+    ))
 }
 
 #[test]
 fn integers_have_the_width_of_the_first_dsdt(rt: HostRuntime) -> Result<(), Fail> {
-    let alloc = rt.alloc();
-    let rows: [(&[u8], u8, Width, Width); 3] = [
-        (b"SSDT", 1, Width::W32, Width::W64),
-        (b"DSDT", 1, Width::W32, Width::W32),
-        (b"DSDT", 2, Width::W64, Width::W64),
-    ];
-    for (signature, revision, first, second) in rows {
-        let blocks = [
-            block_of(alloc, signature, revision, b"\x08AAAA\xFF")?,
-            block_of(alloc, b"SSDT", 2, b"\x08BBBB\xFF")?,
-        ];
-        let space = Space::build(alloc, &blocks).map_err(|_| Fail::from("no space"))?;
-        assert_eq!(rt; space.placed().first().map(|p| p.width), Some(first));
-        assert_eq!(rt; space.placed().last().map(|p| p.width), Some(second));
-    }
+    let (narrow, wide) = (Some(Width::W32), Some(Width::W64));
+    assert_eq!(rt; widths(rt.alloc(), b"SSDT", 1)?, (narrow, wide));
+    assert_eq!(rt; widths(rt.alloc(), b"DSDT", 1)?, (narrow, narrow));
+    assert_eq!(rt; widths(rt.alloc(), b"DSDT", 2)?, (wide, wide));
     Ok(())
 }
 
@@ -57,27 +57,55 @@ fn seg_of(name: [u8; 4]) -> Result<Seg, Fail> {
     }
 }
 
+fn path_of(alloc: Global, name: [u8; 4]) -> Result<FullPath, Fail> {
+    let seg = seg_of(name)?;
+    Ok(FullPath {
+        segs: List::from_vec(Vec::from_slice(alloc, &[seg])?),
+    })
+}
+
+/// The number of the object at this path of one segment.
+fn found(alloc: Global, space: &Space, name: [u8; 4]) -> Result<Option<usize>, Fail> {
+    let path = path_of(alloc, name)?;
+    Ok(space.find(&path).map(|p| p.index))
+}
+
+/// The number of the object of this segment below object 1.
+fn below(space: &Space, name: [u8; 4]) -> Result<Option<usize>, Fail> {
+    let seg = seg_of(name)?;
+    if space.placed().len() < 2 {
+        return Err("one object".into());
+    }
+    Ok(space.find_below(1, seg).map(|p| p.index))
+}
+
+/// How long the path of object 2 is.
+fn length_of(alloc: Global, space: &Space) -> Result<usize, Fail> {
+    if space.placed().len() < 3 {
+        return Err("two objects".into());
+    }
+    let mut path = Room::new(alloc, space.path_length(2))?;
+    space.fill_path(2, &mut path);
+    Ok(path.as_slice().len())
+}
+
 #[test]
 fn objects_are_found_by_path_and_by_segment(rt: HostRuntime) -> Result<(), Fail> {
     let alloc = rt.alloc();
-    let blocks = blocks_of(alloc, &[b"\x08AAAA\x00\x5B\x82\x0BDEV0\x08BBBB\x01"])?;
-    let space = Space::build(alloc, &blocks).map_err(|_| Fail::from("no space"))?;
-    let mut segs = Vec::new(alloc);
-    segs.push(seg_of(*b"DEV0")?)?;
-    let device = FullPath {
-        segs: List::from_vec(segs),
+    let block = block_of(
+        alloc,
+        b"SSDT",
+        2,
+        b"\x08AAAA\x00\x5B\x82\x0BDEV0\x08BBBB\x01",
+    )?;
+    let blocks = [block];
+    let Ok(space) = Space::build(alloc, &blocks) else {
+        return Err("no space".into());
     };
-    let device = space.find(&device).map(|p| p.index);
-    assert_eq!(rt; device, Some(1));
-    if space.placed().len() != 3 {
-        return Err("three objects".into());
-    }
-    let within = space.find_below(1, seg_of(*b"BBBB")?).map(|p| p.index);
-    assert_eq!(rt; within, Some(2));
-    assert!(rt; space.find_below(1, seg_of(*b"AAAA")?).is_none());
-    let mut path = Room::new(alloc, space.path_length(2))?;
-    space.fill_path(2, &mut path);
-    assert_eq!(rt; path.as_slice().len(), 2);
+    assert_eq!(rt; found(alloc, &space, *b"DEV0")?, Some(1));
+    assert_eq!(rt; below(&space, *b"BBBB")?, Some(2));
+    assert_eq!(rt; below(&space, *b"AAAA")?, None);
+    assert_eq!(rt; length_of(alloc, &space)?, 2);
     assert_eq!(rt; space.longest_path(), 2);
     Ok(())
 }
