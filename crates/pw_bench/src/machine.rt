@@ -2,7 +2,6 @@ use acpi_values::{
     CDependency, Coord, Dependency, EntryMethod, IdleKind, IdleRow, IdleTable, Register,
 };
 use aml_data::{FullPath, Seg};
-use anyhow::{Context, anyhow};
 use pw_base::List;
 use pw_plan::{ContainerParts, CpuParts, Plan, Scale, parts_ok};
 use std::alloc::Global;
@@ -19,7 +18,7 @@ fn digit(number: u32) -> u8 {
     }
 }
 
-fn path(alloc: Global, letter: u8, number: u32) -> anyhow::Result<FullPath> {
+fn path(alloc: Global, letter: u8, number: u32) -> Option<FullPath> {
     let text = [
         letter,
         digit(number / 256),
@@ -27,8 +26,8 @@ fn path(alloc: Global, letter: u8, number: u32) -> anyhow::Result<FullPath> {
         digit(number),
     ];
     let mut segs = Vec::new(alloc);
-    segs.push(Seg::new(text).context("a segment")?)?;
-    Ok(FullPath {
+    segs.push(Seg::new(text)?).ok()?;
+    Some(FullPath {
         segs: List::from_vec(segs),
     })
 }
@@ -54,25 +53,25 @@ fn fixed(address: u64) -> EntryMethod {
 }
 
 /// Three low power idle states of a processor, or two C states.
-fn cpu_table(alloc: Global, kind: IdleKind) -> anyhow::Result<IdleTable> {
+fn cpu_table(alloc: Global, kind: IdleKind) -> Option<IdleTable> {
     let mut rows = Vec::new(alloc);
-    rows.push(row(10, 0, fixed(1)))?;
-    rows.push(row(50, 1, fixed(2)))?;
+    rows.push(row(10, 0, fixed(1))).ok()?;
+    rows.push(row(50, 1, fixed(2))).ok()?;
     if kind == IdleKind::Lpi {
-        rows.push(row(200, 2, fixed(3)))?;
+        rows.push(row(200, 2, fixed(3))).ok()?;
     }
-    Ok(IdleTable {
+    Some(IdleTable {
         kind,
         rows: List::from_vec(rows),
     })
 }
 
 /// A container with two states, that enable those of the one around it.
-fn container(alloc: Global, number: u32, parent: Option<u32>) -> anyhow::Result<ContainerParts> {
+fn container(alloc: Global, number: u32, parent: Option<u32>) -> Option<ContainerParts> {
     let mut rows = Vec::new(alloc);
-    rows.push(row(100, 1, EntryMethod::Integer(0x10)))?;
-    rows.push(row(500, 2, EntryMethod::Integer(0x20)))?;
-    Ok(ContainerParts {
+    rows.push(row(100, 1, EntryMethod::Integer(0x10))).ok()?;
+    rows.push(row(500, 2, EntryMethod::Integer(0x20))).ok()?;
+    Some(ContainerParts {
         path: path(alloc, b'C', number)?,
         parent,
         idle: IdleTable {
@@ -83,12 +82,12 @@ fn container(alloc: Global, number: u32, parent: Option<u32>) -> anyhow::Result<
 }
 
 /// Four states, which the processors of a cluster share.
-fn scale(alloc: Global, number: u32, port: u64) -> anyhow::Result<Scale> {
+fn scale(alloc: Global, number: u32, port: u64) -> Option<Scale> {
     let mut controls = Vec::new(alloc);
     for control in 0x10..0x14 {
-        controls.push(control)?;
+        controls.push(control).ok()?;
     }
-    Ok(Scale {
+    Some(Scale {
         controls: List::from_vec(controls),
         register: Some(Register {
             space: 1,
@@ -107,7 +106,7 @@ fn scale(alloc: Global, number: u32, port: u64) -> anyhow::Result<Scale> {
 }
 
 /// So many entries of `_CSD`, about the deeper C state and the domains from one on.
-fn entries(alloc: Global, first: u32, count: u32) -> anyhow::Result<List<CDependency>> {
+fn entries(alloc: Global, first: u32, count: u32) -> Option<List<CDependency>> {
     let mut csd = Vec::new(alloc);
     for place in 0..count {
         csd.push(CDependency {
@@ -115,9 +114,10 @@ fn entries(alloc: Global, first: u32, count: u32) -> anyhow::Result<List<CDepend
             coord: Coord::SwAll,
             processors: CLUSTER,
             index: 1,
-        })?;
+        })
+        .ok()?;
     }
-    Ok(List::from_vec(csd))
+    Some(List::from_vec(csd))
 }
 
 fn cpu(
@@ -126,8 +126,8 @@ fn cpu(
     kind: IdleKind,
     parent: Option<u32>,
     csd: List<CDependency>,
-) -> anyhow::Result<CpuParts> {
-    Ok(CpuParts {
+) -> Option<CpuParts> {
+    Some(CpuParts {
         path: path(alloc, b'P', number)?,
         parent,
         idle: cpu_table(alloc, kind)?,
@@ -138,22 +138,15 @@ fn cpu(
     })
 }
 
-fn planned(
-    alloc: Global,
-    containers: Vec<ContainerParts>,
-    cpus: Vec<CpuParts>,
-) -> anyhow::Result<Plan> {
+fn planned(alloc: Global, containers: Vec<ContainerParts>, cpus: Vec<CpuParts>) -> Option<Plan> {
     if !parts_ok(containers.as_slice(), cpus.as_slice()) {
-        return Err(anyhow!("the parts don't fit together"));
+        return None;
     }
-    match Plan::new(alloc, containers, cpus) {
-        Ok(plan) => Ok(plan),
-        Err(_) => Err(anyhow!("no such plan, or no memory")),
-    }
+    Plan::new(alloc, containers, cpus).ok()
 }
 
 /// Containers in chains of this depth, for each eight of so many processors one.
-fn chains(alloc: Global, cpus: u32, depth: u32) -> anyhow::Result<Vec<ContainerParts>> {
+fn chains(alloc: Global, cpus: u32, depth: u32) -> Option<Vec<ContainerParts>> {
     let mut containers = Vec::new(alloc);
     for number in 0..(cpus / CLUSTER).wrapping_mul(depth) {
         let outermost = depth == 0 || number % depth == 0;
@@ -162,39 +155,45 @@ fn chains(alloc: Global, cpus: u32, depth: u32) -> anyhow::Result<Vec<ContainerP
         } else {
             number.checked_sub(1)
         };
-        containers.push(container(alloc, number, parent)?)?;
+        containers.push(container(alloc, number, parent)?).ok()?;
     }
-    Ok(containers)
+    Some(containers)
 }
 
 /// The plan of so many processors with low power idle states in clusters of eight, each in a chain of containers of this depth.
-pub fn nested(alloc: Global, cpus: u32, depth: u32) -> anyhow::Result<Plan> {
+pub fn nested(alloc: Global, cpus: u32, depth: u32) -> Option<Plan> {
     let mut processors = Vec::new(alloc);
     for number in 0..cpus {
         let innermost = (number / CLUSTER + 1).wrapping_mul(depth).checked_sub(1);
         let csd = entries(alloc, 0, 0)?;
-        processors.push(cpu(alloc, number, IdleKind::Lpi, innermost, csd)?)?;
+        processors
+            .push(cpu(alloc, number, IdleKind::Lpi, innermost, csd)?)
+            .ok()?;
     }
     planned(alloc, chains(alloc, cpus, depth)?, processors)
 }
 
 /// The plan of so many processors with C states, in idle domains of eight.
-pub fn coupled(alloc: Global, cpus: u32) -> anyhow::Result<Plan> {
+pub fn coupled(alloc: Global, cpus: u32) -> Option<Plan> {
     let mut processors = Vec::new(alloc);
     for number in 0..cpus {
         let csd = entries(alloc, number / CLUSTER, 1)?;
-        processors.push(cpu(alloc, number, IdleKind::Cst, None, csd)?)?;
+        processors
+            .push(cpu(alloc, number, IdleKind::Cst, None, csd)?)
+            .ok()?;
     }
     planned(alloc, Vec::new(alloc), processors)
 }
 
 /// How many domains the plan has of so many processors that each declare so many idle domains.
-pub fn domains_of(alloc: Global, cpus: u32, count: u32) -> anyhow::Result<usize> {
+pub fn domains_of(alloc: Global, cpus: u32, count: u32) -> Option<usize> {
     let mut processors = Vec::new(alloc);
     for number in 0..cpus {
         let csd = entries(alloc, 0, count)?;
-        processors.push(cpu(alloc, number, IdleKind::Cst, None, csd)?)?;
+        processors
+            .push(cpu(alloc, number, IdleKind::Cst, None, csd)?)
+            .ok()?;
     }
     let plan = planned(alloc, Vec::new(alloc), processors)?;
-    Ok(plan.domains.as_slice().len())
+    Some(plan.domains.as_slice().len())
 }

@@ -2,13 +2,12 @@ ghost use Rattle.pw_model.specs.States.{IsState};
 
 use crate::machine::{coupled, nested};
 use crate::records::{domain_asks, group_votes, node_votes};
-use anyhow::anyhow;
 use pw_core::{Ops, State};
 use pw_plan::{Plan, Request};
 use std::alloc::Global;
 
 /// What is asked for at each step, by one processor after the other.
-#[derive(Clone, Copy, Debug, PartialEq, Eq)]
+#[derive(Clone, Copy, PartialEq, Eq)]
 pub enum Load {
     /// Nothing: what the loop itself takes.
     Nothing,
@@ -54,7 +53,7 @@ impl Load {
     }
 
     /// The plan of so many processors that this load is of.
-    fn plan(self, alloc: Global, cpus: u32) -> anyhow::Result<Plan> {
+    fn plan(self, alloc: Global, cpus: u32) -> Option<Plan> {
         match self {
             Load::CState | Load::GroupVote => coupled(alloc, cpus),
             Load::NestedIdle => nested(alloc, cpus, 8),
@@ -114,25 +113,19 @@ fn step(plan: &Plan, load: Load, cpus: u32, steps: u32, state: &mut State, ops: 
 }
 
 /// Makes so many steps of a state of the plan, and tells how many operations they had, modulo 2^64.
-fn state_steps(
-    alloc: Global,
-    plan: &Plan,
-    cpus: u32,
-    load: Load,
-    steps: u32,
-) -> anyhow::Result<u64> {
+fn state_steps(alloc: Global, plan: &Plan, cpus: u32, load: Load, steps: u32) -> Option<u64> {
     let Ok(mut state) = State::open(alloc, plan) else {
-        return Err(anyhow!("no memory"));
+        return None;
     };
     let Ok(mut ops) = Ops::new(alloc, 256) else {
-        return Err(anyhow!("no memory"));
+        return None;
     };
-    Ok(step(plan, load, cpus, steps, &mut state, &mut ops))
+    Some(step(plan, load, cpus, steps, &mut state, &mut ops))
 }
 
 /// Makes a machine of so many processors and so many steps on it, or in one of its records, and tells how
 /// many operations they had, modulo 2^64; of a container, the sum of its states.
-pub fn steps_of(alloc: Global, cpus: u32, load: Load, steps: u32) -> anyhow::Result<u64> {
+pub fn steps_of(alloc: Global, cpus: u32, load: Load, steps: u32) -> Option<u64> {
     let plan = load.plan(alloc, cpus)?;
     match load {
         Load::NodeVote => node_votes(alloc, &plan, steps),
