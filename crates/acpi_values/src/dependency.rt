@@ -1,5 +1,5 @@
 /// How a domain's members come to one state: CoordType (ACPI 6.5, 8.3).
-#[derive(Clone, Copy, Debug, PartialEq, Eq)]
+#[derive(Clone, Copy)]
 pub enum Coord {
     /// 0xFC: software coordinates, and sets the state on every member.
     SwAll,
@@ -11,7 +11,7 @@ pub enum Coord {
 
 /// What a processor declares of its performance or throttling domain: `_PSD` or `_TSD`
 /// (ACPI 6.5, 8.4.5.5 and 8.4.4.4).
-#[derive(Clone, Copy, Debug, PartialEq, Eq)]
+#[derive(Clone, Copy)]
 pub struct Dependency {
     /// The number of the domain.
     pub domain: u32,
@@ -21,7 +21,7 @@ pub struct Dependency {
 }
 
 /// What a processor declares of an idle domain: an entry of `_CSD` (ACPI 6.5, 8.4.1.2).
-#[derive(Clone, Copy, Debug, PartialEq, Eq)]
+#[derive(Clone, Copy)]
 pub struct CDependency {
     /// The number of the domain.
     pub domain: u32,

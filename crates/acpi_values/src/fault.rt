@@ -7,7 +7,7 @@ use std::alloc::{AllocError, AllocFailed};
 
 /// A place in an object: the element of the package, and the element within that one, both counted
 /// from 1. 0 stands for the whole.
-#[derive(Clone, Copy, Debug, PartialEq, Eq)]
+#[derive(Clone, Copy)]
 pub struct Place {
     pub outer: u32,
     pub inner: u32,
@@ -29,14 +29,14 @@ pub enum Why {
 }
 
 /// The first place at which an object has no meaning.
-#[derive(Clone, Copy, Debug, PartialEq, Eq)]
+#[derive(Clone, Copy)]
 pub struct Shape {
     pub place: Place,
     pub why: Why,
 }
 
 /// Why an object couldn't be read.
-#[derive(Clone, Copy, Debug, PartialEq, Eq)]
+#[derive(Clone, Copy)]
 pub enum ReadFault {
     /// It has no meaning, at this place first.
     Shape { place: Place, why: Why },

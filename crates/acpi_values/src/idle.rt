@@ -3,7 +3,7 @@ use crate::register::Register;
 use pw_base::List;
 
 /// A C state: an element of `_CST` (ACPI 6.5, 8.4.1.1).
-#[derive(Clone, Copy, Debug, PartialEq, Eq)]
+#[derive(Clone, Copy)]
 pub struct CState {
     pub register: Register,
     /// The type of the state: 1 for C1, and so on.
@@ -15,7 +15,7 @@ pub struct CState {
 }
 
 /// Which states a processor or container may idle in.
-#[derive(Clone, Copy, Debug, PartialEq, Eq)]
+#[derive(Clone, Copy)]
 pub enum IdleKind {
     /// Low power idle states of `_LPI`.
     Lpi,
@@ -26,7 +26,7 @@ pub enum IdleKind {
 }
 
 /// A state to idle in, as coordination sees it.
-#[derive(Clone, Copy, Debug, PartialEq, Eq)]
+#[derive(Clone, Copy)]
 pub struct IdleRow {
     pub enabled: bool,
     /// The worst time to wake, in microseconds.

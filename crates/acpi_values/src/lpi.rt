@@ -2,7 +2,7 @@ use crate::register::Register;
 use pw_base::List;
 
 /// How a low power idle state is entered (ACPI 6.5, 8.4.3.3).
-#[derive(Clone, Copy, Debug, PartialEq, Eq)]
+#[derive(Clone, Copy)]
 pub enum EntryMethod {
     /// By this register.
     Register(Register),

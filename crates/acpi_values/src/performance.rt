@@ -2,7 +2,7 @@ use crate::register::Register;
 use pw_base::List;
 
 /// A performance state: an entry of `_PSS`, the first being the fastest (ACPI 6.5, 8.4.5.2).
-#[derive(Clone, Copy, Debug, PartialEq, Eq)]
+#[derive(Clone, Copy)]
 pub struct PState {
     /// In MHz.
     pub frequency: u32,
@@ -19,7 +19,7 @@ pub struct PState {
 }
 
 /// A throttling state: an entry of `_TSS`, the first being the fastest (ACPI 6.5, 8.4.4.2).
-#[derive(Clone, Copy, Debug, PartialEq, Eq)]
+#[derive(Clone, Copy)]
 pub struct TState {
     /// The percentage of the full frequency, 1 to 100.
     pub percent: u32,
@@ -34,14 +34,14 @@ pub struct TState {
 }
 
 /// The registers of `_PCT` or `_PTC` (ACPI 6.5, 8.4.5.1 and 8.4.4.1).
-#[derive(Clone, Copy, Debug, PartialEq, Eq)]
+#[derive(Clone, Copy)]
 pub struct ControlPair {
     pub control: Register,
     pub status: Register,
 }
 
 /// An element of `_CPC` behind the first two: a number, or the register that holds it.
-#[derive(Clone, Copy, Debug, PartialEq, Eq)]
+#[derive(Clone, Copy)]
 pub enum CpcEntry {
     Number(u64),
     Register(Register),

@@ -5,7 +5,7 @@ ghost use Rattle.acpi_values.specs.Registers.{wrong_tag};
 
 /// A register, as the Generic Register Descriptor gives it (ACPI 6.5, 5.2.3.2 and 6.4.3.7).
 /// The register whose fields are all 0 is the null register, which stands for none.
-#[derive(Clone, Copy, Debug, PartialEq, Eq)]
+#[derive(Clone, Copy, PartialEq, Eq)]
 pub struct Register {
     /// The address space: 0 memory, 1 ports, 10 the platform communication channel, 127 the
     /// processor's own fixed hardware, and so on.
@@ -20,7 +20,7 @@ pub struct Register {
 }
 
 /// Why bytes are no register.
-#[derive(Clone, Copy, Debug, PartialEq, Eq)]
+#[derive(Clone, Copy)]
 pub enum RegisterFault {
     /// There aren't 17 bytes, but so many.
     Length { found: usize },

@@ -5,7 +5,7 @@ use aml_terms::Term;
 use pw_base::CompactList;
 
 /// Which table a block is.
-#[derive(Clone, Copy, Debug, PartialEq, Eq)]
+#[derive(Clone, Copy)]
 pub enum Signature {
     /// The differentiated system description table.
     Dsdt,
@@ -14,7 +14,7 @@ pub enum Signature {
 }
 
 /// What the header of a block says beside its length and checksum (ACPI 6.5, 5.2.6).
-#[derive(Clone, Copy, Debug, PartialEq, Eq)]
+#[derive(Clone, Copy)]
 pub struct Header {
     pub signature: Signature,
     pub revision: u8,

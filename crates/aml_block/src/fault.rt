@@ -11,7 +11,7 @@ use std::alloc::{AllocError, AllocFailed};
 use thiserror::Error;
 
 /// What is wrong with the header: the first of these that holds.
-#[derive(Clone, Copy, Debug, PartialEq, Eq, Error)]
+#[derive(Clone, Copy, Debug, Error)]
 pub enum HeaderFault {
     /// More than 4,194,304 bytes.
     #[error("large")]
@@ -31,7 +31,7 @@ pub enum HeaderFault {
 }
 
 /// Why there is no block: the first fault from left to right. Places count from the first byte.
-#[derive(Clone, Copy, Debug, PartialEq, Eq, Error)]
+#[derive(Clone, Copy, Debug, Error)]
 pub enum BlockFault {
     /// The header is wrong.
     #[error("header {why}")]
@@ -117,7 +117,7 @@ impl From<FileFault> for BlockFault {
 }
 
 /// Why a block isn't written whole.
-#[derive(Clone, Copy, Debug, PartialEq, Eq)]
+#[derive(Clone, Copy)]
 pub enum WriteFault {
     /// The sink failed.
     Sink,

@@ -9,7 +9,7 @@ use pw_base::{Failed, Files};
 use std::alloc::{AllocError, Global};
 
 /// Why a file wasn't read.
-#[derive(Clone, Copy, Debug, PartialEq, Eq)]
+#[derive(Clone, Copy)]
 pub enum FileFault {
     /// A read failed, or there is no such file.
     ReadFault,

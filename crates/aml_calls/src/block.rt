@@ -101,7 +101,7 @@ fn files_are_read_in_pieces(rt: HostRuntime) -> Result<(), Fail> {
     }
     for fails in [1, 2, 20, 43] {
         let fault = read(rt.alloc(), &mut in_pieces(1, fails), "one.aml").err();
-        assert_eq!(rt; fault, Some(BlockFault::ReadFault));
+        assert!(rt; matches!(fault, Some(BlockFault::ReadFault)));
     }
     Ok(())
 }

@@ -8,7 +8,7 @@ use std::alloc::{AllocError, AllocFailed};
 
 /// Why bytes aren't terms: the first fault from left to right. Places count from the first byte of the
 /// block.
-#[derive(Clone, Copy, Debug, PartialEq, Eq)]
+#[derive(Clone, Copy)]
 pub enum TermFault {
     /// A name, a length, a constant or an object in a term is at fault, or a term nests too deep; or
     /// memory ran out.

@@ -18,7 +18,7 @@ pub const RUNNING: Vote = Vote {
 };
 
 /// A container whose vote was computed before.
-#[derive(Clone, Copy, Debug)]
+#[derive(Clone, Copy)]
 pub struct Known {
     pub node: u32,
     pub vote: Vote,

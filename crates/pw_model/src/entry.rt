@@ -1,7 +1,7 @@
 use pw_plan::Request;
 
 /// A request that was made, as a history keeps it.
-#[derive(Clone, Copy, Debug, PartialEq, Eq)]
+#[derive(Clone, Copy)]
 pub struct HistoryEntry {
     /// Who made it.
     pub seat: u32,

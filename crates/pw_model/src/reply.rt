@@ -1,7 +1,7 @@
 use acpi_values::Chain;
 
 /// What a request is answered.
-#[derive(Clone, Copy, Debug, PartialEq, Eq)]
+#[derive(Clone, Copy)]
 pub enum Reply {
     /// The processor idles: its own state, and those of its containers upwards as far as they are
     /// above 0. Of a processor with C states it is the C state alone, 0 where it comes to none.

@@ -2,7 +2,7 @@ use pw_base::List;
 
 /// What a processor or a container votes: the state in which it idles, 0 where it runs, and the wake
 /// latency that it bears.
-#[derive(Clone, Copy, Debug, PartialEq, Eq)]
+#[derive(Clone, Copy)]
 pub struct Vote {
     /// Counted from 1, 0 where it runs.
     pub state: u8,
@@ -25,7 +25,7 @@ pub struct State {
 }
 
 /// The states that asks and limits speak of.
-#[derive(Clone, Copy, Debug, PartialEq, Eq)]
+#[derive(Clone, Copy)]
 pub enum ScaleKind {
     /// Performance states: `_PSS` (ACPI 6.5, 8.4.5.2).
     Perf,
@@ -34,7 +34,7 @@ pub enum ScaleKind {
 }
 
 /// What an accepted request changes: one entry of one list, or nothing.
-#[derive(Clone, Copy, Debug, PartialEq, Eq)]
+#[derive(Clone, Copy)]
 pub enum Change {
     Nothing,
     Vote {

@@ -2,14 +2,14 @@ use acpi_values::Coord;
 use pw_base::List;
 
 /// What stands right below a container.
-#[derive(Clone, Copy, Debug, PartialEq, Eq)]
+#[derive(Clone, Copy)]
 pub enum Child {
     Cpu(u32),
     Container(u32),
 }
 
 /// What the members of a domain share.
-#[derive(Clone, Copy, Debug, PartialEq, Eq)]
+#[derive(Clone, Copy)]
 pub enum DomainKind {
     /// A performance state.
     Perf,

@@ -5,7 +5,7 @@ use pw_base::Memory;
 use std::alloc::{AllocError, AllocFailed};
 
 /// Why parts make no plan.
-#[derive(Clone, Copy, Debug, PartialEq, Eq)]
+#[derive(Clone, Copy)]
 pub enum PlanFault {
     /// A limit is passed: 1 containers (256), 2 processors (256), 3 depth of containers (8),
     /// 4 children of one container (255), 5 states of one table (255). The number is the count of

@@ -1,5 +1,5 @@
 /// What a processor, or the platform in its name, asks of the coordinator.
-#[derive(Clone, Copy, Debug, PartialEq, Eq)]
+#[derive(Clone, Copy)]
 pub enum Request {
     /// It goes idle in this state, counted from 1, and bears this wake latency of its own state and of
     /// its containers' in microseconds; 4294967295 bears any.
