@@ -1,0 +1,40 @@
+-- What is chosen may be chosen.
+use Rattle.std.proofs.Common.{◌≡◌, ◌<◌, ◌≤◌, ℕ, true, length, inl, inr, arith}
+use Rattle.acpi_values.specs.Idle.{rows_of}
+use Rattle.acpi_values.specs.declared.idle.IdleTable.{IdleTable}
+use Rattle.pw_plan.specs.Limits.{in_32_bits}
+use Rattle.pw_plan.specs.Places.{row_at}
+use Rattle.pw_model.specs.Containers.{greatest}
+use Rattle.pw_model.proofs.Greatest.{greatest-le, greatest-passes}
+use Rattle.std.proofs.lemmas.Bool.{cases_lt}
+use Rattle.std.proofs.lemmas.Grind.{common_steps}
+use Rattle.pw_governor.specs.Choices.{IsLawful, Suits, is_lawful, choice}
+
+passing : (t : IdleTable) (tolerance residency s : ℕ) → 0 < s → s ≤ length (rows_of t) → is_lawful tolerance residency (row_at t s) ≡ true → Suits t tolerance residency s
+passing t tolerance residency s from to e = record {
+  from = omega arith;
+  to = to;
+  enabled = grind (arith, common_steps);
+  wakes = grind (arith, common_steps);
+  pays = grind (arith, common_steps);
+}
+
+-- of tests that pass one above the other
+lawful-greatest : (t : IdleTable) (tolerance residency s : ℕ) → s ≤ length (rows_of t) → (0 < s → is_lawful tolerance residency (row_at t s) ≡ true) → IsLawful t tolerance residency s
+lawful-greatest t tolerance residency s to passes = elim (cases_lt 0 s) [
+  | inl lt ↦ inr (passing t tolerance residency s lt to (passes lt))
+  | inr ge ↦ inl (omega arith)
+]
+
+-- no more states are numbered than there are
+few : (n : ℕ) → in_32_bits n ≤ n
+few n = omega arith
+
+pub choice_lawful : (t : IdleTable) (tolerance residency : ℕ) → IsLawful t tolerance residency (choice t tolerance residency)
+unfolding choice
+choice_lawful t tolerance residency =
+    let test = λ (i : ℕ). is_lawful tolerance residency (row_at t i) in
+    let n = in_32_bits (length (rows_of t)) in
+    let below = greatest-le test n in
+    let all = few (length (rows_of t)) in
+    lawful-greatest t tolerance residency (greatest test n) (omega arith) (greatest-passes test n)

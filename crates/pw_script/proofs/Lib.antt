@@ -1,0 +1,13 @@
+pub mod Counts
+pub mod Cutting
+mod Examples
+pub mod Existing
+pub mod Leading
+pub mod Lined
+pub mod Making
+pub mod Naming
+pub mod Noticing
+pub mod Orders
+pub mod Printed
+pub mod Spacing
+pub mod Values

@@ -1,0 +1,6 @@
+pub mod Lines
+pub mod Forms
+pub mod Reading
+pub mod Lawful
+pub mod HistoryText
+pub mod inner

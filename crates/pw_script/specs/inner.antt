@@ -1,0 +1,4 @@
+pub mod Behind
+pub mod Cuts
+pub mod Looking
+pub mod Openings

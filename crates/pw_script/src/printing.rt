@@ -1,0 +1,274 @@
+ghost use Rattle.std.specs.Prelude.{◌≡◌, ◌≤◌, ◌∷◌, ◌++◌, [], is_ok, map, take, true};
+ghost use Rattle.std.specs.Prelude.{Err, OnOk};
+ghost use Rattle.std.specs.List.{AllByRecursion};
+ghost use Rattle.pw_base.specs.Outside.{GrewByPart, KeepsSink, Rose};
+ghost use Rattle.pw_text.specs.Puts.{PutsText};
+ghost use Rattle.pw_plan.specs.Requests.{cpu_of, opening_bound};
+ghost use Rattle.pw_model.specs.States.{IsState, opening as opening_state};
+ghost use Rattle.pw_model.specs.History.{StatesRequest, after_entry};
+ghost use Rattle.pw_model.specs.Operations.{opening_ops};
+ghost use Rattle.pw_script.specs.declared.printing.PrintFault.TheVariants as faults;
+ghost use Rattle.pw_script.specs.HistoryText.{entry_lines, fault_words, history_text, lines_from, op_line};
+ghost use Rattle.pw_script.specs.HistoryText.{opening_lines, reply_words, request_line, text_of};
+ghost use Rattle.pw_script.specs.inner.Behind.{head_text};
+ghost use Rattle.pw_script.specs.inner.Openings.{opened, opening_line};
+
+use crate::operations::{put_cpu, put_ops};
+use crate::words::{put_fault, put_labelled, put_reply, put_request};
+use acpi_values::Op;
+use pw_base::{Failed, Memory, Sink};
+use pw_core::{Ops, State};
+use pw_model::{HistoryEntry, Reply};
+use pw_plan::{Plan, Request};
+use pw_text::{Page, put_number};
+use std::alloc::Global;
+
+/// Why a history wasn't printed whole.
+#[derive(Clone, Copy)]
+pub enum PrintFault {
+    /// The sink failed.
+    Sink,
+    /// Want of memory.
+    Memory,
+}
+
+impl From<Failed> for PrintFault {
+    ghost from_gives = { λ _ e. e ≡ faults.Sink };
+
+    fn from(_e: Failed) -> PrintFault {
+        PrintFault::Sink
+    }
+}
+
+impl From<Memory> for PrintFault {
+    ghost from_gives = { λ _ e. e ≡ faults.Memory };
+
+    fn from(_e: Memory) -> PrintFault {
+        PrintFault::Memory
+    }
+}
+
+/// How many operations a request has at most.
+const MOST_OF_A_REQUEST: u32 = 256;
+
+/// Puts the number of an entry, and what was asked.
+fn put_head<K: Sink>(
+    page: &mut Page,
+    sink: &mut K,
+    plan: &Plan,
+    number: u64,
+    request: Request,
+) -> Result<(), Failed>
+    ensures { PutsText K.Sink sink.old sink.new page.old page.new
+        (head_text plan.now number request) (is_ok result) }
+{
+    put_number(page, sink, number)?;
+    page.put(sink, b" ")?;
+    put_cpu(page, sink, plan, request.cpu())?;
+    put_request(page, sink, request)?;
+    page.put(sink, b" ->")
+}
+
+/// Puts the lines of an entry that was answered.
+fn put_answered<K: Sink>(
+    page: &mut Page,
+    sink: &mut K,
+    plan: &Plan,
+    number: u64,
+    request: Request,
+    reply: Reply,
+    ops: &[Op],
+) -> Result<(), Failed>
+    ensures { PutsText K.Sink sink.old sink.new page.old page.new
+        (text_of (request_line plan.now number (cpu_of request) request (reply_words reply)
+        ∷ map (op_line plan.now) ops.now)) (is_ok result) }
+{
+    put_head(page, sink, plan, number, request)?;
+    put_reply(page, sink, reply)?;
+    page.put(sink, b"\n")?;
+    put_ops(page, sink, plan, ops)
+}
+
+/// Puts the lines of an entry that a fault ended after so many operations.
+fn put_faulted<K: Sink>(
+    page: &mut Page,
+    sink: &mut K,
+    plan: &Plan,
+    number: u64,
+    request: Request,
+    done: u32,
+    ops: &[Op],
+) -> Result<(), Failed>
+    ensures { PutsText K.Sink sink.old sink.new page.old page.new
+        (text_of (request_line plan.now number (cpu_of request) request (fault_words done)
+        ∷ map (op_line plan.now) ops.now)) (is_ok result) }
+{
+    put_head(page, sink, plan, number, request)?;
+    put_fault(page, sink, done)?;
+    page.put(sink, b"\n")?;
+    put_ops(page, sink, plan, ops)
+}
+
+/// Puts the lines of an entry that was asked in this state, and leaves the state after it.
+#[tactic(auto, using(crate::proofs::Printed::bound_small, crate::proofs::Printed::entry_has))]
+fn put_entry<K: Sink>(
+    page: &mut Page,
+    sink: &mut K,
+    plan: &Plan,
+    state: &mut State,
+    ops: &mut Ops,
+    number: u64,
+    entry: &HistoryEntry,
+) -> Result<(), Failed>
+    requires entry { StatesRequest plan.now entry.now }
+    requires fits { IsState plan.now state.old }
+    requires room { 256 ≤ ops.old.capacity }
+    ensures text { PutsText K.Sink sink.old sink.new page.old page.new
+        (text_of (entry_lines plan.now state.old number entry.now)) (is_ok result) }
+    ensures after { state.new ≡ after_entry plan.now state.old entry.now }
+    ensures fits { IsState plan.now state.new }
+    ensures room { ops.new.capacity ≡ ops.old.capacity }
+{
+    let request = entry.request();
+    ops.clear();
+    if entry.fault == 0 {
+        let reply = state.step(plan, request, ops);
+        return put_answered(page, sink, plan, number, request, reply, ops.list());
+    }
+    state.operations(plan, request, ops);
+    let done = entry.fault - 1;
+    put_faulted(
+        page,
+        sink,
+        plan,
+        number,
+        request,
+        done,
+        first_of(ops.list(), done),
+    )
+}
+
+/// So many first operations, all where there are fewer.
+#[tactic(auto, using(crate::proofs::Spacing::take_of_least))]
+fn first_of(ops: &[Op], count: u32) -> &[Op]
+    ensures { result.now ≡ take count ops.now }
+{
+    let count = (count as usize).min(ops.len());
+    &ops[..count]
+}
+
+/// Puts the lines of entries, numbered from 1, of which the first was asked in this state.
+fn put_entries<K: Sink>(
+    page: &mut Page,
+    sink: &mut K,
+    plan: &Plan,
+    state: &mut State,
+    ops: &mut Ops,
+    entries: &[HistoryEntry],
+) -> Result<(), Failed>
+    requires entries { AllByRecursion (StatesRequest plan.now) entries.now }
+    requires fits { IsState plan.now state.old }
+    requires room { 256 ≤ ops.old.capacity }
+    ensures { PutsText K.Sink sink.old sink.new page.old page.new
+        (text_of (lines_from plan.now state.old 1 entries.now)) (is_ok result) }
+{
+    let mut number = 1;
+    let mut left = entries;
+    while let [entry, rest @ ..] = left {
+        put_entry(page, sink, plan, state, ops, number, entry)?;
+        number += 1;
+        left = rest;
+    }
+    Ok(())
+}
+
+/// Puts that the plan was opened, or how many operations were done when a register failed.
+fn put_open_line<K: Sink>(page: &mut Page, sink: &mut K, opening: Option<u32>) -> Result<(), Failed>
+    ensures { PutsText K.Sink sink.old sink.new page.old page.new
+        (opening_line opening) (is_ok result) }
+{
+    match opening {
+        None => page.put(sink, b"open"),
+        Some(done) => put_labelled(page, sink, b"open -> register fault after ", done),
+    }
+}
+
+/// The operations at the start that were done.
+fn opened(ops: &[Op], opening: Option<u32>) -> &[Op]
+    ensures { result.now ≡ opened opening ops.now }
+{
+    match opening {
+        None => ops,
+        Some(done) => first_of(ops, done),
+    }
+}
+
+/// Puts the lines of the opening, which has these operations.
+fn put_opening<K: Sink>(
+    page: &mut Page,
+    sink: &mut K,
+    plan: &Plan,
+    opening: Option<u32>,
+    ops: &[Op],
+) -> Result<(), Failed>
+    requires { ops.now ≡ opening_ops plan.now }
+    ensures { PutsText K.Sink sink.old sink.new page.old page.new
+        (text_of (opening_lines plan.now opening)) (is_ok result) }
+{
+    put_open_line(page, sink, opening)?;
+    page.put(sink, b"\n")?;
+    put_ops(page, sink, plan, opened(ops, opening))
+}
+
+/// Puts the text of a history, by way of a page, and hands all of it to the sink.
+fn put_history<K: Sink>(
+    page: &mut Page,
+    sink: &mut K,
+    plan: &Plan,
+    state: &mut State,
+    ops: &mut Ops,
+    opening: Option<u32>,
+    entries: &[HistoryEntry],
+) -> Result<(), Failed>
+    requires entries { AllByRecursion (StatesRequest plan.now) entries.now }
+    requires opened { state.old ≡ opening_state plan.now }
+    requires fits { IsState plan.now state.old }
+    requires none { ops.old.elements ≡ [] }
+    requires room { 256 ≤ ops.old.capacity }
+    requires opening { opening_bound plan.now ≤ ops.old.capacity }
+    ensures text { PutsText K.Sink sink.old sink.new page.old page.new
+        (history_text plan.now opening entries.now) (is_ok result) }
+    ensures empty { OnOk result (page.new ≡ []) }
+{
+    state.opening(plan, ops);
+    put_opening(page, sink, plan, opening, ops.list())?;
+    put_entries(page, sink, plan, state, ops, entries)?;
+    page.flush(sink)
+}
+
+/// Prints the text of a history: the opening with its operations, and each entry with its reply and its
+/// operations. `opening` is how many operations were done where the opening was ended by a fault. Memory is
+/// taken before the sink sees a byte.
+pub fn print_history<K: Sink>(
+    alloc: Global,
+    plan: &Plan,
+    opening: Option<u32>,
+    entries: &[HistoryEntry],
+    out: &mut K,
+) -> Result<(), PrintFault>
+    requires { AllByRecursion (StatesRequest plan.now) entries.now }
+    ensures keeps { KeepsSink K.told K.faults out.old out.new }
+    ensures whole { OnOk result (K.told out.old ≡ true →
+        K.written out.new ≡ K.written out.old ++ history_text plan.now opening entries.now) }
+    // Whatever fails, the sink has a beginning of the text.
+    ensures part { K.told out.old ≡ true →
+        GrewByPart (K.written out.old) (K.written out.new) (history_text plan.now opening entries.now) }
+    ensures sink { result ≡ Err faults.Sink → Rose (K.faults out.old) (K.faults out.new) }
+    ensures memory { result ≡ Err faults.Memory → out.new ≡ out.old }
+{
+    let mut page = Page::new(alloc)?;
+    let mut state = State::open(alloc, plan)?;
+    let mut ops = Ops::new(alloc, plan.opening_bound().max(MOST_OF_A_REQUEST))?;
+    put_history(&mut page, out, plan, &mut state, &mut ops, opening, entries)?;
+    Ok(())
+}
