@@ -1,0 +1,12 @@
+pub mod Firsts
+pub mod Cuts
+pub mod Words
+pub mod Readers
+pub mod Determined
+pub mod Completions
+pub mod Beginnings
+pub mod Alike
+pub mod Nexts
+pub mod Narrow
+pub mod Ends
+pub mod Scripted
