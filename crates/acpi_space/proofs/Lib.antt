@@ -2,6 +2,7 @@ pub mod Seen
 pub mod Trees
 pub mod Known
 pub mod TermSteps
+pub mod Lookups
 mod Rising
 mod Ranges
 mod Naming

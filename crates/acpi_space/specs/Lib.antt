@@ -5,4 +5,5 @@ pub mod MethodNames
 pub mod Steps
 pub mod Namespace
 pub mod Standing
+pub mod Lookup
 pub mod inner

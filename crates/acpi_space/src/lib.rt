@@ -3,6 +3,7 @@
 
 mod building;
 mod fault;
+mod labels;
 mod laws;
 mod object;
 mod space;

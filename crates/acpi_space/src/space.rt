@@ -1,12 +1,14 @@
-ghost use Rattle.std.specs.Prelude.{◌≡◌, ◌⊎◌, ◌≤◌, ◌<◌, [], ◌∷◌, ◌++◌, length, get_or, Contains, IfOk, IfErr, MatchOption};
+ghost use Rattle.std.specs.Prelude.{◌≡◌, ◌⊎◌, ◌≤◌, ◌<◌, [], ◌∷◌, ◌++◌, length, map, get_or, Contains, IfOk, IfErr, MatchOption};
 ghost use Rattle.std.specs.List.{All, Any};
 ghost use Rattle.acpi_space.specs.Distinct.{IsDistinct};
 ghost use Rattle.acpi_space.specs.Namespace.{Entry as entry_of, dsdt_width, entries_in, places_of};
+ghost use Rattle.acpi_space.specs.Lookup.{label_around};
 ghost use Rattle.acpi_space.specs.Standing.{AreObjects, IsFaultIn, IsFound};
 ghost use Rattle.acpi_space.specs.inner.Standing.{entries_at, IsIndex};
 
 use crate::building::{Building, number_at};
 use crate::fault::SpaceFault;
+use crate::labels::{around_places, at_objects};
 use crate::object::Placed;
 use crate::terms::place_terms;
 use crate::tree::Tree;
@@ -187,5 +189,26 @@ impl<'a> Space<'a> {
             longest = longest.max(self.tree.depth(placed.name));
         }
         longest
+    }
+
+    /// Of each object, the label of the innermost object around it that has one. The work grows with the
+    /// places that are known, however many objects have labels.
+    pub fn labels_around(
+        &self,
+        alloc: Global,
+        labels: &[Option<u32>],
+    ) -> Result<Vec<Option<u32>>, Memory>
+        requires { length labels.now ≡ length self.now }
+        ensures { IfOk result (λ r. r.items ≡ map (λ (e : entry_of). label_around self.now labels.now e.path) self.now) }
+    {
+        self.tree.facts();
+        let around = around_places(
+            alloc,
+            &self.tree,
+            self.placed.as_slice(),
+            self.index.as_slice(),
+            labels,
+        )?;
+        at_objects(alloc, self.placed.as_slice(), around.as_slice())
     }
 }

@@ -323,6 +323,13 @@ impl Tree {
         path.reverse();
     }
 
+    /// How many places there are.
+    pub(crate) fn count(&self) -> usize
+        ensures { result ≡ length self.now }
+    {
+        self.names.len() + 1
+    }
+
     /// What holds of each tree.
     pub(crate) fn facts(&self)
         ensures distinct { IsDistinct self.now }
