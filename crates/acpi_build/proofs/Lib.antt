@@ -1,0 +1,15 @@
+pub mod Each
+mod Counting
+mod Found
+pub mod Orders
+mod Sorting
+pub mod Keeping
+pub mod Parents
+pub mod Planned
+mod Who
+mod Innermost
+mod Labelled
+mod Yielding
+mod Sourced
+mod Causes
+mod Countability

@@ -1,0 +1,9 @@
+pub mod Building
+pub mod Names
+pub mod Finding
+pub mod Tables
+pub mod Machine
+pub mod Planning
+pub mod Meaning
+pub mod Sources
+pub mod inner

@@ -1,0 +1,4 @@
+-- What only proofs use.
+pub mod Answers
+pub mod Labels
+pub mod Fitting

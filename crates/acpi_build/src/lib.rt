@@ -1,0 +1,23 @@
+//! The plan of a machine from the objects of its definition blocks: its containers and processors, their
+//! tables, and notes of what counts as absent (ACPI 6.5, 8.4).
+#![tactic(auto)]
+
+mod depths;
+mod fault;
+mod finding;
+mod idle;
+mod laws;
+mod machine;
+mod names;
+mod note;
+mod planning;
+mod scales;
+mod tables;
+
+pub use fault::BuildFault;
+pub use laws::{
+    blocks_are_countable, notes_have_causes, one_plan, parents_are_innermost,
+    processors_and_containers, tables_are_meant,
+};
+pub use note::{Note, NoteKind};
+pub use planning::plan;

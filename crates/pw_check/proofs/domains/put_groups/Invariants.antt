@@ -1,0 +1,15 @@
+use Rattle.std.proofs.Common.{◌≡◌, ◌+◌, ◌++◌, ℕ, List, true, length}
+use Rattle.pw_text.specs.Puts.{PutsText}
+use Rattle.pw_check.specs.Lines.{numbered}
+use Rattle.pw_check.specs.CheckText.{group_line}
+use Rattle.pw_check.proofs.domains.put_groups.Given as goal
+
+abbrev pub invariant-loop-left : goal.invariant-loop-left
+invariant-loop-left g l = record {
+  so_far : (done : List ℕ) × PutsText g.K.Sink l.initial.sink l.sink l.initial.page l.page done true
+      × (done ++ numbered group_line l.number l.left ≡ numbered group_line 0 l.groups);
+  count : l.number + length l.left ≡ length l.groups;
+}
+
+abbrev pub decreases-loop-left : goal.decreases-loop-left
+decreases-loop-left g l = length l.left

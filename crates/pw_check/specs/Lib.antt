@@ -1,0 +1,3 @@
+pub mod Lines
+pub mod CheckText
+pub mod Refusals
