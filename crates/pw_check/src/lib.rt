@@ -9,5 +9,5 @@ mod printing;
 mod refusing;
 mod words;
 
-pub use printing::{PrintFault, put_check};
+pub use printing::print_check;
 pub use refusing::put_refusal;

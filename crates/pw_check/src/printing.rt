@@ -2,42 +2,17 @@ ghost use Rattle.std.specs.Prelude.{◌≡◌, ◌++◌, [], is_ok, true};
 ghost use Rattle.std.specs.Prelude.{Err, OnOk};
 ghost use Rattle.pw_base.specs.Outside.{GrewByPart, KeepsSink, Rose};
 ghost use Rattle.pw_text.specs.Puts.{PutsText};
-ghost use Rattle.pw_check.specs.declared.printing.PrintFault.TheVariants as faults;
+ghost use Rattle.pw_text.specs.declared.fault.PrintFault.TheVariants as faults;
 ghost use Rattle.pw_check.specs.CheckText.{check_text};
 
 use crate::domains::{put_domains, put_groups};
 use crate::machine::{put_containers, put_cpus};
 use crate::noting::{put_note_count, put_notes};
 use acpi_build::Note;
-use pw_base::{Failed, Memory, Sink};
+use pw_base::{Failed, Sink};
 use pw_plan::Plan;
-use pw_text::Page;
+use pw_text::{Page, PrintFault};
 use std::alloc::Global;
-
-/// Why a text wasn't printed whole.
-#[derive(Clone, Copy)]
-pub enum PrintFault {
-    /// The sink failed.
-    Sink,
-    /// Want of memory.
-    Memory,
-}
-
-impl From<Failed> for PrintFault {
-    ghost from_gives = { λ _ e. e ≡ faults.Sink };
-
-    fn from(_e: Failed) -> PrintFault {
-        PrintFault::Sink
-    }
-}
-
-impl From<Memory> for PrintFault {
-    ghost from_gives = { λ _ e. e ≡ faults.Memory };
-
-    fn from(_e: Memory) -> PrintFault {
-        PrintFault::Memory
-    }
-}
 
 /// Puts all lines, by way of a page.
 fn put_lines<K: Sink>(
@@ -75,7 +50,7 @@ fn put_whole<K: Sink>(
 
 /// Puts what `check` prints of a plan and its notes: a line for each container, processor, domain, group and note,
 /// and one for the number of notes. Memory is taken before the sink sees a byte.
-pub fn put_check<K: Sink>(
+pub fn print_check<K: Sink>(
     alloc: Global,
     plan: &Plan,
     notes: &[Note],

@@ -1,5 +1,5 @@
--- Texts that are put in three parts, or one for each element of a list.
-use Rattle.std.proofs.Common.{◌≡◌, ◌+◌, ◌<◌, ℕ, Bool, true, false, List, [], ◌∷◌, ◌++◌, map, refl, ap, ◌∙◌, Result, IsErr, is_ok, take, drop, get_or, length, sym, append_assoc, add-one}
+-- Texts that are put one for each element of a list.
+use Rattle.std.proofs.Common.{◌≡◌, ◌+◌, ◌<◌, ℕ, Bool, true, false, List, [], ◌∷◌, ◌++◌, map, refl, ap, ◌∙◌, Result, IsErr, is_ok, take, drop, get_or, length, add-one}
 use Rattle.std.specs.List.{flat_map}
 use Rattle.std.proofs.lemmas.List.Folds.{flat_map-map}
 use Rattle.pw_base.specs.declared.sink.Sink.{Ghosts as Sink}
@@ -9,11 +9,6 @@ use Rattle.pw_text.proofs.Joined.{flat_map-in_parts, flat_map-take-suc}
 use Rattle.pw_text.proofs.Putting.{PutsText-as, PutsText-stop, PutsText-then}
 
 module _ {S : Type 0} {K : Sink S} where
-  -- the first of three failed to be put
-  pub stop_at_first : {A E : Type 0} {a b : S} {waited waits first : List ℕ} (second third : List ℕ) (r : Result A E) → IsErr r
-      → PutsText K a b waited waits first false → PutsText K a b waited waits ((first ++ second) ++ third) (is_ok r)
-  stop_at_first {first = first} second third r failed p = PutsText-as ((first ++ second) ++ third) (sym (append_assoc first second third)) (PutsText-stop (second ++ third) r failed p)
-
   -- one more element was put behind those before it
   pub each_more : {X : Type 0} {a b c : S} {waited left waits : List ℕ} (f : X → List ℕ) (xs : List X) (i : ℕ) (x : X) → i < length xs
       → x ≡ get_or xs i x → PutsText K a b waited left (flat_map f (take i xs)) true

@@ -2,9 +2,11 @@
 #![tactic(auto)]
 
 mod buffers;
+mod printing;
 mod show;
 mod strings;
 mod values;
 
+pub use printing::print_space;
 pub use show::{put_line, put_space};
 pub use values::put_value;

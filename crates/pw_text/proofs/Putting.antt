@@ -95,3 +95,8 @@ module _ {S : Type 0} {K : Sink S} where
   pub PutsText-as : {a b : S} {waited waits text : List ℕ} {done : Bool} (said : List ℕ)
       → text ≡ said → PutsText K a b waited waits text done → PutsText K a b waited waits said done
   PutsText-as {a} {b} {waited} {waits} {text} {done} said e p = subst (λ t. PutsText K a b waited waits t done) e p
+
+  -- the first of three failed to be put
+  pub stop_at_first : {A E : Type 0} {a b : S} {waited waits first : List ℕ} (second third : List ℕ) (r : Result A E) → IsErr r
+      → PutsText K a b waited waits first false → PutsText K a b waited waits ((first ++ second) ++ third) (is_ok r)
+  stop_at_first {first = first} second third r failed p = PutsText-as ((first ++ second) ++ third) (sym (append_assoc first second third)) (PutsText-stop (second ++ third) r failed p)

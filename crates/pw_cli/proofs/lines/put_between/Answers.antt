@@ -1,6 +1,6 @@
 use Rattle.std.proofs.Common.{decimal}
 use Rattle.pw_text.proofs.Putting.{PutsText-stop, PutsText-then}
-use Rattle.pw_show.proofs.Chains.{stop_at_first}
+use Rattle.pw_text.proofs.Putting.{stop_at_first}
 use Rattle.pw_cli.proofs.lines.put_between.Goals as goal
 
 pub returns-in_err-put : goal.returns-in_err-put

@@ -1,6 +1,6 @@
 use Rattle.std.proofs.Common.{codes}
 use Rattle.pw_text.proofs.Putting.{PutsText-stop, PutsText-then}
-use Rattle.pw_show.proofs.Chains.{stop_at_first}
+use Rattle.pw_text.proofs.Putting.{stop_at_first}
 use Rattle.pw_cli.specs.Lines.{fault_words}
 use Rattle.pw_cli.proofs.lines.put_fault_line.Goals as goal
 

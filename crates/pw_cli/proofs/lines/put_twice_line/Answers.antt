@@ -1,7 +1,7 @@
 use Rattle.std.proofs.Common.{codes}
 use Rattle.pw_text.specs.Text.{place_text}
 use Rattle.pw_text.proofs.Putting.{PutsText-stop, PutsText-then}
-use Rattle.pw_show.proofs.Chains.{stop_at_first}
+use Rattle.pw_text.proofs.Putting.{stop_at_first}
 use Rattle.pw_cli.proofs.lines.put_twice_line.Goals as goal
 
 pub returns-in_err-put : goal.returns-in_err-put

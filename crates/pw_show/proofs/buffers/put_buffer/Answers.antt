@@ -1,7 +1,6 @@
 use Rattle.std.proofs.Common.{codes, map}
-use Rattle.pw_text.proofs.Putting.{PutsText-stop, PutsText-then}
+use Rattle.pw_text.proofs.Putting.{PutsText-stop, PutsText-then, stop_at_first}
 use Rattle.pw_show.specs.Values.{byte_digits, separated}
-use Rattle.pw_show.proofs.Chains.{stop_at_first}
 use Rattle.pw_show.proofs.buffers.put_buffer.Goals as goal
 
 pub returns-in_err-put_head : goal.returns-in_err-put_head

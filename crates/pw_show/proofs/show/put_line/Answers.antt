@@ -1,8 +1,7 @@
 use Rattle.std.proofs.Common.{codes}
-use Rattle.pw_text.proofs.Putting.{PutsText-stop, PutsText-then}
+use Rattle.pw_text.proofs.Putting.{PutsText-stop, PutsText-then, stop_at_first}
 use Rattle.acpi_space.specs.Things.{thing}
 use Rattle.pw_show.specs.Show.{object_text}
-use Rattle.pw_show.proofs.Chains.{stop_at_first}
 use Rattle.pw_show.proofs.show.put_line.Goals as goal
 
 pub returns-in_err-put_place : goal.returns-in_err-put_place

@@ -1,8 +1,7 @@
 use Rattle.std.proofs.Common.{codes}
 use Rattle.std.specs.List.{flat_map}
-use Rattle.pw_text.proofs.Putting.{PutsText-stop, PutsText-then}
+use Rattle.pw_text.proofs.Putting.{PutsText-stop, PutsText-then, stop_at_first}
 use Rattle.pw_show.specs.Values.{escaped}
-use Rattle.pw_show.proofs.Chains.{stop_at_first}
 use Rattle.pw_show.proofs.strings.put_string.Goals as goal
 
 pub returns-in_err-put : goal.returns-in_err-put

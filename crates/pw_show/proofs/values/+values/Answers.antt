@@ -2,9 +2,9 @@ use Rattle.std.proofs.Common.{◌≡◌, ◌<◌, List, codes, take, length, map
 use Rattle.std.proofs.Math.Seq.{take-length}
 use Rattle.std.specs.List.{flat_map}
 use Rattle.aml_data.specs.declared.data.Data.{Data}
-use Rattle.pw_text.proofs.Putting.{PutsText-as, PutsText-stop, PutsText-then}
+use Rattle.pw_text.proofs.Putting.{PutsText-as, PutsText-stop, PutsText-then, stop_at_first}
 use Rattle.pw_show.specs.Values.{behind, separated, value_text}
-use Rattle.pw_show.proofs.Chains.{each_more, each_stop, separated-first, stop_at_first}
+use Rattle.pw_show.proofs.Chains.{each_more, each_stop, separated-first}
 use Rattle.pw_show.proofs.values.+values.Goals as goal
 
 pub put_behind_comma-returns-in_err-put : goal.put_behind_comma-returns-in_err-put

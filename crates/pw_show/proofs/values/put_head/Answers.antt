@@ -1,6 +1,5 @@
 use Rattle.std.proofs.Common.{codes, decimal}
-use Rattle.pw_text.proofs.Putting.{PutsText-stop, PutsText-then}
-use Rattle.pw_show.proofs.Chains.{stop_at_first}
+use Rattle.pw_text.proofs.Putting.{PutsText-stop, PutsText-then, stop_at_first}
 use Rattle.pw_show.proofs.values.put_head.Goals as goal
 
 pub returns-in_err-put : goal.returns-in_err-put
