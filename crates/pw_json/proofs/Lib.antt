@@ -1,0 +1,6 @@
+pub mod Characters
+pub mod Joining
+pub mod Listed
+pub mod NoFloat
+pub mod Putting
+pub mod Told
