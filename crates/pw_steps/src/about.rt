@@ -2,144 +2,188 @@ ghost use Rattle.std.specs.Prelude.{◌<◌, length};
 
 use crate::records::{Note, domain_record, group_record, node_record};
 use crate::request::request_of;
-use crate::words::{number_at, u32_at};
 use acpi_values::Coord;
+use pw_machines::{u32_at, word_at};
 use pw_plan::{Child, Domain, DomainKind, Plan};
 use std::alloc::Global;
 
-/// What a line that is no request asks for: of the plan `domains`, `domain N`, `groups`, `group N`,
-/// `children N`, `bound REQUEST`, `has REQUEST`, `opening bound`; of a record `node record N`,
+/// What a line that is no request asks for: `plan`; `bound REQUEST`, `has REQUEST`, `opening bound`; of the
+/// plan `domains`, `domain N`, `groups`, `group N`, `children N`; of a record `node record N`,
 /// `domain record N`, `group record N`.
-pub fn about(alloc: Global, plan: &Plan, notes: &[Note], words: &[&str]) -> Option<String> {
-    match (*words.first()?, words.get(1).copied()) {
-        ("plan", None) => String::from_str(alloc, "made").ok(),
-        ("domains", None) => {
-            let count = plan.domains.as_slice().len();
-            format!(in alloc; "{count}").ok()
-        }
-        ("groups", None) => {
-            let count = plan.groups.as_slice().len();
-            format!(in alloc; "{count}").ok()
-        }
-        ("opening", Some("bound")) => {
+pub fn put_about(
+    text: &mut String,
+    alloc: Global,
+    plan: &Plan,
+    notes: &[Note],
+    line: &str,
+) -> Option<()> {
+    let (key, rest) = line.split_once(" ").unwrap_or((line, ""));
+    if let Some(number) = rest.strip_prefix("record ") {
+        return put_record(text, alloc, plan, notes, key, number.parse::<u32>().ok()?);
+    }
+    match key {
+        "plan" => text.push_str("made").ok(),
+        "opening" => {
             let bound = plan.opening_bound();
-            format!(in alloc; "{bound}").ok()
+            write!(text, "{bound}").ok()
         }
-        ("node", Some("record")) => node_text(alloc, plan, notes, u32_at(words, 2)?),
-        ("domain", Some("record")) => domain_text(alloc, plan, notes, u32_at(words, 2)?),
-        ("group", Some("record")) => group_text(alloc, plan, notes, u32_at(words, 2)?),
-        ("bound", Some(_)) => {
-            let request = request_of(words.get(1..)?)?;
-            let bound = plan.ops_bound(&request);
-            format!(in alloc; "{bound}").ok()
+        "bound" => {
+            let bound = plan.ops_bound(&request_of(rest)?);
+            write!(text, "{bound}").ok()
         }
-        ("has", Some(_)) => {
-            let has = plan.has(&request_of(words.get(1..)?)?);
-            format!(in alloc; "{has}").ok()
+        "has" => {
+            let has = plan.has(&request_of(rest)?);
+            write!(text, "{has}").ok()
         }
-        ("children", Some(_)) => children_text(alloc, plan, u32_at(words, 1)?),
-        ("domain", Some(_)) => {
-            let place = usize::try_from(number_at(words, 1)?).ok()?;
-            shared_text(alloc, plan.domains.as_slice().get(place)?)
-        }
-        ("group", Some(_)) => {
-            let place = usize::try_from(number_at(words, 1)?).ok()?;
-            let group = plan.groups.as_slice().get(place)?;
-            numbers_text(alloc, "members", group.members.as_slice())
+        _ => put_part(text, plan, key, u32_at(line, 1)),
+    }
+}
+
+/// A part of the plan, or with no number how many there are.
+fn put_part(text: &mut String, plan: &Plan, key: &str, number: Option<u32>) -> Option<()> {
+    match key {
+        "domains" => put_count(text, plan.domains.as_slice().len()),
+        "groups" => put_count(text, plan.groups.as_slice().len()),
+        "children" => put_children(text, plan, number?),
+        "domain" => put_domain(text, plan.domains.as_slice().get(number? as usize)?),
+        "group" => {
+            let group = plan.groups.as_slice().get(number? as usize)?;
+            put_numbers(text, "members", group.members.as_slice())
         }
         _ => None,
     }
 }
 
-/// A word, and numbers behind it.
-fn numbers_text(alloc: Global, word: &str, numbers: &[u32]) -> Option<String> {
-    let mut text = String::from_str(alloc, word).ok()?;
-    for number in numbers {
-        text.push_str(format!(in alloc; " {number}").ok()?.as_str())
-            .ok()?;
-    }
-    Some(text)
+fn put_count(text: &mut String, count: usize) -> Option<()> {
+    write!(text, "{count}").ok()
 }
 
-fn children_text(alloc: Global, plan: &Plan, node: u32) -> Option<String> {
+/// A word, and numbers behind it.
+fn put_numbers(text: &mut String, word: &str, numbers: &[u32]) -> Option<()> {
+    text.push_str(word).ok()?;
+    for number in numbers {
+        write!(text, " {number}").ok()?;
+    }
+    Some(())
+}
+
+fn put_children(text: &mut String, plan: &Plan, node: u32) -> Option<()> {
     if node as usize >= plan.containers.as_slice().len() {
         return None;
     }
-    let mut text = String::from_str(alloc, "children").ok()?;
+    text.push_str("children").ok()?;
     for child in plan.children_of(node) {
-        let piece = match *child {
-            Child::Cpu(cpu) => format!(in alloc; " cpu {cpu}").ok()?,
-            Child::Container(below) => format!(in alloc; " container {below}").ok()?,
-        };
-        text.push_str(piece.as_str()).ok()?;
+        match *child {
+            Child::Cpu(cpu) => write!(text, " cpu {cpu}").ok()?,
+            Child::Container(below) => write!(text, " container {below}").ok()?,
+        }
     }
-    Some(text)
+    Some(())
 }
 
 /// `perf 3 SW_ANY members 1 3`, an idle domain with its index, and why it is unfit.
-fn shared_text(alloc: Global, domain: &Domain) -> Option<String> {
-    let kind = match domain.kind {
+fn put_domain(text: &mut String, domain: &Domain) -> Option<()> {
+    let (index, unfit) = (domain.index, domain.unfit);
+    text.push_str(kind_text(domain.kind)).ok()?;
+    match domain.number {
+        None => text.push_str(" -").ok()?,
+        Some(number) => write!(text, " {number}").ok()?,
+    }
+    let coord = coord_text(domain.coord);
+    write!(text, " index {index} {coord} ").ok()?;
+    put_numbers(text, "members", domain.members.as_slice())?;
+    write!(text, " unfit {unfit}").ok()
+}
+
+fn kind_text(kind: DomainKind) -> &'static str {
+    match kind {
         DomainKind::Perf => "perf",
         DomainKind::Throttle => "throttle",
         DomainKind::Idle => "idle",
-    };
-    let coord = match domain.coord {
+    }
+}
+
+fn coord_text(coord: Coord) -> &'static str {
+    match coord {
         Coord::SwAll => "SW_ALL",
         Coord::SwAny => "SW_ANY",
         Coord::HwAll => "HW_ALL",
-    };
-    let number = match domain.number {
-        None => String::from_str(alloc, "-").ok()?,
-        Some(number) => format!(in alloc; "{number}").ok()?,
-    };
-    let index = domain.index;
-    let unfit = domain.unfit;
-    let members = numbers_text(alloc, "members", domain.members.as_slice())?;
-    format!(in alloc; "{kind} {number} index {index} {coord} {members} unfit {unfit}").ok()
+    }
+}
+
+fn put_record(
+    text: &mut String,
+    alloc: Global,
+    plan: &Plan,
+    notes: &[Note],
+    key: &str,
+    number: u32,
+) -> Option<()> {
+    match key {
+        "node" => put_node(text, alloc, plan, notes, number),
+        "domain" => put_scaled(text, alloc, plan, notes, number),
+        "group" => put_group(text, alloc, plan, notes, number),
+        _ => None,
+    }
 }
 
 /// The state and the tolerance of the container, and of each child.
-fn node_text(alloc: Global, plan: &Plan, notes: &[Note], node: u32) -> Option<String> {
+fn put_node(
+    text: &mut String,
+    alloc: Global,
+    plan: &Plan,
+    notes: &[Note],
+    node: u32,
+) -> Option<()> {
     if node as usize >= plan.containers.as_slice().len() {
         return None;
     }
     let record = node_record(alloc, plan, notes, node)?;
     let (state, tolerance) = (record.state(), record.tolerance());
-    let mut text = format!(in alloc; "state {state} bears {tolerance} children").ok()?;
+    write!(text, "state {state} bears {tolerance} children").ok()?;
     for child in 0..u32::try_from(plan.children_of(node).len()).ok()? {
         let (state, tolerance) = (record.child(child), record.child_tolerance(child));
-        text.push_str(format!(in alloc; " {state}:{tolerance}").ok()?.as_str())
-            .ok()?;
+        write!(text, " {state}:{tolerance}").ok()?;
     }
-    Some(text)
+    Some(())
 }
 
 /// What each member asks for, its limit, and where it stands.
-fn domain_text(alloc: Global, plan: &Plan, notes: &[Note], domain: u32) -> Option<String> {
+fn put_scaled(
+    text: &mut String,
+    alloc: Global,
+    plan: &Plan,
+    notes: &[Note],
+    domain: u32,
+) -> Option<()> {
     let shared = plan.domains.as_slice().get(domain as usize)?;
     if shared.kind == DomainKind::Idle {
         return None;
     }
     let record = domain_record(alloc, plan, notes, domain)?;
-    let mut text = String::from_str(alloc, "members").ok()?;
+    text.push_str("members").ok()?;
     for member in 0..u32::try_from(shared.members.as_slice().len()).ok()? {
         let (ask, limit) = (record.own_ask(member), record.own_limit(member));
         let stands = record.standing(member);
-        text.push_str(format!(in alloc; " {ask}:{limit}:{stands}").ok()?.as_str())
-            .ok()?;
+        write!(text, " {ask}:{limit}:{stands}").ok()?;
     }
-    Some(text)
+    Some(())
 }
 
 /// What each member votes for, and its C state.
-fn group_text(alloc: Global, plan: &Plan, notes: &[Note], group: u32) -> Option<String> {
+fn put_group(
+    text: &mut String,
+    alloc: Global,
+    plan: &Plan,
+    notes: &[Note],
+    group: u32,
+) -> Option<()> {
     let joined = plan.groups.as_slice().get(group as usize)?;
     let record = group_record(alloc, plan, notes, group)?;
-    let mut text = String::from_str(alloc, "members").ok()?;
+    text.push_str("members").ok()?;
     for member in 0..u32::try_from(joined.members.as_slice().len()).ok()? {
         let (vote, level) = (record.own_vote(member), record.c_state(plan, member));
-        text.push_str(format!(in alloc; " {vote}:{level}").ok()?.as_str())
-            .ok()?;
+        write!(text, " {vote}:{level}").ok()?;
     }
-    Some(text)
+    Some(())
 }

@@ -7,12 +7,11 @@
 mod about;
 mod case;
 mod chains;
-mod machine;
 mod records;
 mod request;
+mod run;
 mod text;
 mod walk;
-mod words;
 
 use case::came;
 use std::{fs, io};

@@ -20,15 +20,11 @@ pub enum Note {
         state: u8,
         tolerance: u32,
     },
-    Ask {
+    Scale {
         domain: u32,
         member: u32,
         index: u8,
-    },
-    Limit {
-        domain: u32,
-        member: u32,
-        index: u8,
+        is_limit: bool,
     },
     Member {
         group: u32,
@@ -138,22 +134,16 @@ pub fn domain_record(alloc: Global, plan: &Plan, notes: &[Note], domain: u32) ->
 {
     let mut held = DomainRec::open(alloc, plan, domain).ok()?;
     for note in notes {
-        match *note {
-            Note::Ask {
-                domain: of,
-                member,
-                index,
-            } if of == domain => {
-                ask(plan, domain, &mut held, member, index, false)?;
+        if let Note::Scale {
+            domain: of,
+            member,
+            index,
+            is_limit,
+        } = *note
+        {
+            if of == domain {
+                ask(plan, domain, &mut held, member, index, is_limit)?;
             }
-            Note::Limit {
-                domain: of,
-                member,
-                index,
-            } if of == domain => {
-                ask(plan, domain, &mut held, member, index, true)?;
-            }
-            _ => {}
         }
     }
     Some(held)

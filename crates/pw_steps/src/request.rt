@@ -1,27 +1,31 @@
-use crate::words::u32_at;
+use pw_machines::{u32_at, word_at};
 use pw_model::HistoryEntry;
 use pw_plan::Request;
 
 /// The request of a line: `idle CPU STATE`, with a tolerance behind it or without, `wake CPU`,
 /// `perf CPU INDEX`, `throttle CPU INDEX`, `plimit CPU N`, `tlimit CPU N`, or that of a history's entry,
 /// `entry CPU CODE ARGUMENT TOLERANCE`.
-pub fn request_of(words: &[&str]) -> Option<Request> {
-    let cpu = u32_at(words, 1)?;
-    if *words.first()? == "wake" {
-        return Some(Request::Wake { cpu });
-    }
-    let number = u32_at(words, 2)?;
-    match *words.first()? {
+pub fn request_of(line: &str) -> Option<Request> {
+    let cpu = u32_at(line, 1)?;
+    let number = u32_at(line, 2);
+    match word_at(line, 0)? {
         "idle" => Some(Request::Idle {
             cpu,
-            state: number,
-            tolerance: u32_at(words, 3).unwrap_or(u32::MAX),
+            state: number?,
+            tolerance: u32_at(line, 3).unwrap_or(u32::MAX),
         }),
+        "wake" => Some(Request::Wake { cpu }),
+        "entry" => stated(cpu, number?, u32_at(line, 3)?, u32_at(line, 4)?),
+        word => scaled(word, cpu, number?),
+    }
+}
+
+fn scaled(word: &str, cpu: u32, number: u32) -> Option<Request> {
+    match word {
         "perf" => Some(Request::Perf { cpu, index: number }),
         "throttle" => Some(Request::Throttle { cpu, index: number }),
         "plimit" => Some(Request::PerfLimit { cpu, n: number }),
         "tlimit" => Some(Request::ThrottleLimit { cpu, n: number }),
-        "entry" => stated(cpu, number, u32_at(words, 3)?, u32_at(words, 4)?),
         _ => None,
     }
 }

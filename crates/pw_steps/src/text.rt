@@ -1,80 +1,76 @@
 use acpi_values::{Chain, Op, Register};
 use pw_model::Reply;
-use std::alloc::Global;
 
 /// What a request is answered, and what it operates: `entered 3 1; enter 0 [127,32,0,3,0x13] 3 1`.
-pub fn outcome_text(alloc: Global, reply: &Reply, ops: &[Op]) -> Option<String> {
-    let mut text = reply_text(alloc, reply)?;
-    for op in ops {
-        text.push_str("; ").ok()?;
-        text.push_str(op_text(alloc, op)?.as_str()).ok()?;
-    }
-    Some(text)
+pub fn put_outcome(text: &mut String, reply: &Reply, ops: &[Op]) -> Option<()> {
+    put_reply(text, reply)?;
+    put_ops(text, ops)
 }
 
-/// Operations alone, `nothing` for none.
-pub fn ops_text(alloc: Global, ops: &[Op]) -> Option<String> {
-    let mut text = String::new(alloc);
+/// Operations, each behind `; ` where it isn't the first.
+pub fn put_ops(text: &mut String, ops: &[Op]) -> Option<()> {
     for op in ops {
         if !text.is_empty() {
             text.push_str("; ").ok()?;
         }
-        text.push_str(op_text(alloc, op)?.as_str()).ok()?;
+        put_op(text, op)?;
     }
-    if text.is_empty() {
-        text.push_str("nothing").ok()?;
-    }
-    Some(text)
+    Some(())
 }
 
-fn reply_text(alloc: Global, reply: &Reply) -> Option<String> {
+fn put_reply(text: &mut String, reply: &Reply) -> Option<()> {
     match reply {
         Reply::Entered { chain } => {
-            let states = chain_text(alloc, chain)?;
-            format!(in alloc; "entered{states}").ok()
+            text.push_str("entered").ok()?;
+            put_chain(text, chain)
         }
-        Reply::Running => String::from_str(alloc, "running").ok(),
-        Reply::Stands { index } => format!(in alloc; "stands {index}").ok(),
-        Reply::NoState { count } => format!(in alloc; "refused no state, count {count}").ok(),
-        Reply::Disabled => String::from_str(alloc, "refused disabled").ok(),
-        Reply::AboveLimit { limit } => format!(in alloc; "refused above limit {limit}").ok(),
-        Reply::NoTable => String::from_str(alloc, "refused no table").ok(),
-        Reply::Unfit { domain, why } => {
-            format!(in alloc; "refused unfit domain {domain} why {why}").ok()
-        }
-        Reply::TooSlow { latency } => format!(in alloc; "refused latency {latency}").ok(),
+        Reply::Running => text.push_str("running").ok(),
+        Reply::Stands { index } => write!(text, "stands {index}").ok(),
+        _ => put_refusal(text, reply),
+    }
+}
+
+fn put_refusal(text: &mut String, reply: &Reply) -> Option<()> {
+    text.push_str("refused ").ok()?;
+    match reply {
+        Reply::NoState { count } => write!(text, "no state, count {count}").ok(),
+        Reply::Disabled => text.push_str("disabled").ok(),
+        Reply::AboveLimit { limit } => write!(text, "above limit {limit}").ok(),
+        Reply::NoTable => text.push_str("no table").ok(),
+        Reply::Unfit { domain, why } => write!(text, "unfit domain {domain} why {why}").ok(),
+        Reply::TooSlow { latency } => write!(text, "latency {latency}").ok(),
+        _ => None,
     }
 }
 
 /// Each state behind a space.
-fn chain_text(alloc: Global, chain: &Chain) -> Option<String> {
-    let mut text = String::new(alloc);
+fn put_chain(text: &mut String, chain: &Chain) -> Option<()> {
     for state in chain.states.get(..chain.len as usize)? {
-        text.push_str(format!(in alloc; " {state}").ok()?.as_str())
-            .ok()?;
+        write!(text, " {state}").ok()?;
     }
-    Some(text)
+    Some(())
 }
 
-fn op_text(alloc: Global, op: &Op) -> Option<String> {
+fn put_op(text: &mut String, op: &Op) -> Option<()> {
     match op {
         Op::Set {
             cpu,
             register,
             value,
         } => {
-            let register = register_text(alloc, register)?;
-            format!(in alloc; "set {cpu} {register} 0x{value:x}").ok()
+            write!(text, "set {cpu} ").ok()?;
+            put_register(text, register)?;
+            write!(text, " 0x{value:x}").ok()
         }
         Op::Enter { cpu, composite } => {
-            let register = register_text(alloc, &composite.register)?;
-            let states = chain_text(alloc, &composite.states)?;
-            format!(in alloc; "enter {cpu} {register}{states}").ok()
+            write!(text, "enter {cpu} ").ok()?;
+            put_register(text, &composite.register)?;
+            put_chain(text, &composite.states)
         }
     }
 }
 
-fn register_text(alloc: Global, register: &Register) -> Option<String> {
+fn put_register(text: &mut String, register: &Register) -> Option<()> {
     let Register {
         space,
         width,
@@ -82,5 +78,5 @@ fn register_text(alloc: Global, register: &Register) -> Option<String> {
         access,
         address,
     } = *register;
-    format!(in alloc; "[{space},{width},{offset},{access},0x{address:x}]").ok()
+    write!(text, "[{space},{width},{offset},{access},0x{address:x}]").ok()
 }

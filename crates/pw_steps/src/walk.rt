@@ -25,6 +25,37 @@ fn parent_of(plan: &Plan, child: Child) -> Option<u32>
     }
 }
 
+/// What a vote does in a container's record: its state before and after, and the latency that it bears.
+#[derive(Clone, Copy)]
+struct Voted {
+    before: u8,
+    after: u8,
+    tolerance: u32,
+}
+
+/// Votes for a child in the record of this container, which was told these notes.
+fn vote_noted(
+    alloc: Global,
+    plan: &Plan,
+    notes: &[Note],
+    node: u32,
+    child: u32,
+    state: u8,
+    tolerance: u32,
+) -> Option<Voted>
+    requires { node < length plan.now.containers }
+{
+    let mut record = node_record(alloc, plan, notes, node)?;
+    let before = record.state();
+    let after = vote(plan, node, &mut record, child, state, tolerance)?;
+    let tolerance = record.tolerance();
+    Some(Voted {
+        before,
+        after,
+        tolerance,
+    })
+}
+
 /// Tells the records of a processor's containers what it votes, from its parent upwards to the first
 /// that runs before and after, and gives the chain of their states above 0.
 fn climb(
@@ -47,9 +78,7 @@ fn climb(
             return Some(chain);
         };
         let place = u32::try_from(plan.place_of(child)?).ok()?;
-        let mut record = node_record(alloc, plan, notes.as_slice(), node)?;
-        let before = record.state();
-        let after = vote(plan, node, &mut record, place, state, tolerance)?;
+        let came = vote_noted(alloc, plan, notes.as_slice(), node, place, state, tolerance)?;
         notes
             .push(Note::Child {
                 node,
@@ -58,16 +87,40 @@ fn climb(
                 tolerance,
             })
             .ok()?;
-        if after > 0 {
-            chain = extended(chain, after)?;
-        } else if before == 0 {
+        if came.after > 0 {
+            chain = extended(chain, came.after)?;
+        } else if came.before == 0 {
             return Some(chain);
         }
         child = Child::Container(node);
-        state = after;
-        tolerance = record.tolerance();
+        state = came.after;
+        tolerance = came.tolerance;
     }
     None
+}
+
+/// The C state that a vote of a member brings it to in the record of its group.
+fn joined(
+    alloc: Global,
+    plan: &Plan,
+    notes: &[Note],
+    group: u32,
+    member: u32,
+    state: u8,
+    ops: &mut Ops,
+) -> Option<u8> {
+    if group as usize >= plan.groups.as_slice().len() {
+        return None;
+    }
+    let members = plan.group(group as usize).members.as_slice();
+    if member as usize >= members.len() || (ops.spare() as usize) < members.len() {
+        return None;
+    }
+    if state as usize > plan.cpu(members[member as usize]).idle.states().len() {
+        return None;
+    }
+    let mut record = group_record(alloc, plan, notes, group)?;
+    Some(record.vote_ops(plan, member, state, ops))
 }
 
 /// A processor with C states votes in its group, and where it has none enters what it votes for.
@@ -87,18 +140,7 @@ fn group_idle(
     };
     let group = u32::try_from(at.place).ok()?;
     let member = u32::try_from(at.member).ok()?;
-    if at.place >= plan.groups.as_slice().len() {
-        return None;
-    }
-    let members = plan.group(at.place).members.as_slice();
-    if at.member >= members.len() || (ops.spare() as usize) < members.len() {
-        return None;
-    }
-    if state as usize > plan.cpu(members[at.member]).idle.states().len() {
-        return None;
-    }
-    let mut record = group_record(alloc, plan, notes.as_slice(), group)?;
-    let level = record.vote_ops(plan, member, state, ops);
+    let level = joined(alloc, plan, notes.as_slice(), group, member, state, ops)?;
     notes
         .push(Note::Member {
             group,
@@ -138,70 +180,159 @@ fn group_wake(plan: &Plan, notes: &mut Vec<Note>, cpu: u32) -> Option<()> {
         .ok()
 }
 
-/// An ask or a limit in the record of the processor's domain.
-fn settle(
+/// Where a processor stands in its domain of this kind.
+fn member_of(plan: &Plan, kind: DomainKind, cpu: u32) -> Option<(u32, u32)> {
+    let at = plan.domain_of(kind, cpu)?;
+    Some((
+        u32::try_from(at.place).ok()?,
+        u32::try_from(at.member).ok()?,
+    ))
+}
+
+/// The limit of a member in the record of this domain.
+fn limit_of(alloc: Global, plan: &Plan, notes: &[Note], domain: u32, member: u32) -> Option<u8> {
+    let shared = plan.domains.as_slice().get(domain as usize)?;
+    if shared.kind == DomainKind::Idle || member as usize >= shared.members.as_slice().len() {
+        return None;
+    }
+    let record = domain_record(alloc, plan, notes, domain)?;
+    Some(record.own_limit(member))
+}
+
+/// Where a member stands that asks for a state, or has a limit, in the record of this domain.
+fn standing(
+    alloc: Global,
+    plan: &Plan,
+    notes: &[Note],
+    domain: u32,
+    member: u32,
+    index: u8,
+    is_limit: bool,
+    ops: &mut Ops,
+) -> Option<u8> {
+    if domain as usize >= plan.domains.as_slice().len() {
+        return None;
+    }
+    let shared = plan.domain(domain as usize);
+    let members = shared.members.as_slice();
+    if shared.kind == DomainKind::Idle
+        || member as usize >= members.len()
+        || (ops.spare() as usize) < members.len()
+    {
+        return None;
+    }
+    if index as usize >= plan.cpu(members[member as usize]).state_count(shared.kind) {
+        return None;
+    }
+    let mut record = domain_record(alloc, plan, notes, domain)?;
+    Some(if is_limit {
+        record.limit_ops(plan, member, index, ops)
+    } else {
+        record.ask_ops(plan, member, index, ops)
+    })
+}
+
+/// Sets an ask or a limit in the record of a domain, and notes it.
+fn settled(
+    alloc: Global,
+    plan: &Plan,
+    notes: &mut Vec<Note>,
+    domain: u32,
+    member: u32,
+    index: u8,
+    is_limit: bool,
+    ops: &mut Ops,
+) -> Option<Reply> {
+    let stands = standing(
+        alloc,
+        plan,
+        notes.as_slice(),
+        domain,
+        member,
+        index,
+        is_limit,
+        ops,
+    )?;
+    notes
+        .push(Note::Scale {
+            domain,
+            member,
+            index,
+            is_limit,
+        })
+        .ok()?;
+    Some(Reply::Stands {
+        index: u32::from(stands),
+    })
+}
+
+/// An ask in the record of the processor's domain.
+fn ask(
     alloc: Global,
     plan: &Plan,
     notes: &mut Vec<Note>,
     kind: DomainKind,
     cpu: u32,
     number: u32,
-    is_limit: bool,
     ops: &mut Ops,
 ) -> Option<Reply> {
-    let at = plan.domain_of(kind, cpu)?;
-    let domain = u32::try_from(at.place).ok()?;
-    let member = u32::try_from(at.member).ok()?;
-    if at.place >= plan.domains.as_slice().len() {
-        return None;
-    }
-    let shared = plan.domain(at.place);
-    let members = shared.members.as_slice();
-    if shared.kind == DomainKind::Idle
-        || at.member >= members.len()
-        || (ops.spare() as usize) < members.len()
-    {
-        return None;
-    }
-    let count = plan.cpu(members[at.member]).state_count(shared.kind);
-    let mut record = domain_record(alloc, plan, notes.as_slice(), domain)?;
-    if is_limit {
-        let last = u32::try_from(count.checked_sub(1)?).ok()?;
-        let index = u8::try_from(number.min(last)).ok()?;
-        if index as usize >= count {
-            return None;
-        }
-        let stands = record.limit_ops(plan, member, index, ops);
-        notes
-            .push(Note::Limit {
-                domain,
-                member,
-                index,
-            })
-            .ok()?;
-        return Some(Reply::Stands {
-            index: u32::from(stands),
-        });
-    }
-    let limit = u32::from(record.own_limit(member));
+    let (domain, member) = member_of(plan, kind, cpu)?;
+    let limit = u32::from(limit_of(alloc, plan, notes.as_slice(), domain, member)?);
     if number < limit {
         return Some(Reply::AboveLimit { limit });
     }
     let index = u8::try_from(number).ok()?;
-    if index as usize >= count {
-        return None;
+    settled(alloc, plan, notes, domain, member, index, false, ops)
+}
+
+/// A limit in the record of the processor's domain.
+fn limit(
+    alloc: Global,
+    plan: &Plan,
+    notes: &mut Vec<Note>,
+    kind: DomainKind,
+    cpu: u32,
+    number: u32,
+    ops: &mut Ops,
+) -> Option<Reply>
+    requires { cpu < length plan.now.cpus }
+{
+    let (domain, member) = member_of(plan, kind, cpu)?;
+    let last = plan.cpu(cpu).state_count(kind).checked_sub(1)?;
+    let index = u8::try_from((number as usize).min(last)).ok()?;
+    settled(alloc, plan, notes, domain, member, index, true, ops)
+}
+
+fn idle(
+    alloc: Global,
+    plan: &Plan,
+    notes: &mut Vec<Note>,
+    cpu: u32,
+    state: u32,
+    tolerance: u32,
+    ops: &mut Ops,
+) -> Option<Reply>
+    requires { cpu < length plan.now.cpus }
+{
+    let own = u8::try_from(state).ok()?;
+    if plan.cpu(cpu).idle.kind == IdleKind::Cst {
+        return group_idle(alloc, plan, notes, cpu, own, ops);
     }
-    let stands = record.ask_ops(plan, member, index, ops);
-    notes
-        .push(Note::Ask {
-            domain,
-            member,
-            index,
-        })
-        .ok()?;
-    Some(Reply::Stands {
-        index: u32::from(stands),
-    })
+    let chain = climb(alloc, plan, notes, cpu, own, tolerance)?;
+    enter(plan, cpu, chain, ops)
+}
+
+fn wake(alloc: Global, plan: &Plan, notes: &mut Vec<Note>, cpu: u32) -> Option<Reply>
+    requires { cpu < length plan.now.cpus }
+{
+    match plan.cpu(cpu).idle.kind {
+        IdleKind::Cst => group_wake(plan, notes, cpu)?,
+        IdleKind::Lpi => {
+            climb(alloc, plan, notes, cpu, 0, u32::MAX)?;
+        }
+        IdleKind::Absent => {}
+    }
+    Some(Reply::Running)
 }
 
 /// What the records answer to a request, which were told these notes. It appends the operations, and
@@ -219,49 +350,17 @@ pub fn walked(
     if let Some(reply) = fixed_answer(plan, &request) {
         return Some(reply);
     }
+    let (perf, throttle) = (DomainKind::Perf, DomainKind::Throttle);
     match request {
         Request::Idle {
             cpu,
             state,
             tolerance,
-        } => {
-            let own = u8::try_from(state).ok()?;
-            if plan.cpu(cpu).idle.kind == IdleKind::Cst {
-                return group_idle(alloc, plan, notes, cpu, own, ops);
-            }
-            let chain = climb(alloc, plan, notes, cpu, own, tolerance)?;
-            enter(plan, cpu, chain, ops)
-        }
-        Request::Wake { cpu } => {
-            match plan.cpu(cpu).idle.kind {
-                IdleKind::Cst => group_wake(plan, notes, cpu)?,
-                IdleKind::Lpi => {
-                    climb(alloc, plan, notes, cpu, 0, u32::MAX)?;
-                }
-                IdleKind::Absent => {}
-            }
-            Some(Reply::Running)
-        }
-        Request::Perf { cpu, index } => {
-            settle(alloc, plan, notes, DomainKind::Perf, cpu, index, false, ops)
-        }
-        Request::Throttle { cpu, index } => {
-            settle(
-                alloc,
-                plan,
-                notes,
-                DomainKind::Throttle,
-                cpu,
-                index,
-                false,
-                ops,
-            )
-        }
-        Request::PerfLimit { cpu, n } => {
-            settle(alloc, plan, notes, DomainKind::Perf, cpu, n, true, ops)
-        }
-        Request::ThrottleLimit { cpu, n } => {
-            settle(alloc, plan, notes, DomainKind::Throttle, cpu, n, true, ops)
-        }
+        } => idle(alloc, plan, notes, cpu, state, tolerance, ops),
+        Request::Wake { cpu } => wake(alloc, plan, notes, cpu),
+        Request::Perf { cpu, index } => ask(alloc, plan, notes, perf, cpu, index, ops),
+        Request::Throttle { cpu, index } => ask(alloc, plan, notes, throttle, cpu, index, ops),
+        Request::PerfLimit { cpu, n } => limit(alloc, plan, notes, perf, cpu, n, ops),
+        Request::ThrottleLimit { cpu, n } => limit(alloc, plan, notes, throttle, cpu, n, ops),
     }
 }
