@@ -1,9 +1,8 @@
 -- How far the blocks under names were read, and what one more adds.
-use Rattle.std.proofs.Common.{◌≡◌, ◌≢◌, ◌≤◌, ◌<◌, ℕ, zero, suc, ◌+◌, ◌-◌, List, [], ◌∷◌, ◌++◌, length, map, drop}
+use Rattle.std.proofs.Common.{◌≡◌, ◌≢◌, ◌≤◌, ◌<◌, ℕ, zero, suc, ◌+◌, ◌-◌, List, [], ◌∷◌, ◌++◌, length, drop}
 use Rattle.std.proofs.Common.{get_or, take, Bool, true, Option, refl, sym, ap, subst, ◌∙◌, arith, append_assoc}
-use Rattle.std.specs.Prelude.{All, String}
-use Rattle.std.specs.String.{string_bytes}
-use Rattle.std.specs.declared.alloc.Global.{Global}
+use Rattle.std.specs.Prelude.{All}
+use Rattle.std.specs.Borrow.{Bor}
 use Rattle.std.proofs.lemmas.List.{append-nil, length-append, drop_more, take_at}
 use Rattle.std.proofs.lemmas.List.Elements.{All-append}
 use Rattle.std.proofs.Math.ListN.{drop_of_length-le}
@@ -17,7 +16,8 @@ use Rattle.pw_blocks.specs.declared.reading.TheConstants.{LARGEST_SUM}
 use Rattle.pw_blocks.specs.declared.fault.BlocksFault.{BlocksFault}
 use Rattle.pw_blocks.specs.declared.fault.BlocksFault.TheVariants.{Large}
 use Rattle.pw_blocks.specs.Causes.{numbered}
-use Rattle.pw_blocks.specs.Held.{IsBlock, HasFault, AreBlocks, no_block, one_block, IsFirstFault, in_this, too_large, behind_this, HoldBlocks, FailFirst, HoldBefore, IsCauseOf, name_at, RoseIfUnread}
+use Rattle.pw_blocks.specs.Held.{IsBlock, HasFault, AreBlocks, no_block, one_block, IsFirstFault, in_this, too_large, behind_this}
+use Rattle.pw_blocks.specs.Held.{HoldBlocks, FailFirst, HoldBefore, IsCauseOf, name_at, names_of, RoseIfUnread}
 
 -- These blocks were read, of so many bytes, and these names are left: what stands under these stands behind those.
 pub record SoFar (holds : List ℕ → Option (List ℕ)) (Told : Type 0) (names rest : List (List ℕ)) (done : List Block) (total : ℕ) : Type 0 where
@@ -53,10 +53,11 @@ one_more {holds} {Told} {names} {rest} {done} {total} {size} name block so is ca
 }
 
 -- all names are done
-pub all_done : {holds : List ℕ → Option (List ℕ)} {Told : Type 0} {names : List (List ℕ)} {done : List Block} {total : ℕ} (words : List (String Global)) (i : ℕ)
-    → SoFar holds Told names (map string_bytes (drop i words)) done total → length words ≤ i → Told → HoldBlocks holds names done
+pub all_done : {holds : List ℕ → Option (List ℕ)} {Told : Type 0} {names : List (List ℕ)} {done : List Block} {total : ℕ}
+    (words : List (Bor (List ℕ))) (i : ℕ)
+    → SoFar holds Told names (names_of (drop i words)) done total → length words ≤ i → Told → HoldBlocks holds names done
 all_done {holds} {names = names} {done = done} {total = total} words i so end = λ t.
-    (let none = ap (map string_bytes) (drop_of_length-le words {i = i} end) in
+    (let none = ap names_of (drop_of_length-le words {i = i} end) in
     let all = so.parts ∙ ap (λ r. so.front ++ r) none in
     subst2 (HoldBlocks holds) (sym all) (append-nil done) (so.found t [] [] no_block))
 
@@ -114,12 +115,14 @@ pub held_before : {S : Type 0} (told : S → Bool) (holds : S → List ℕ → O
     → KeepsFiles told holds faults a b → (told b ≡ true → P (holds b name)) → told a ≡ true → P (holds a name)
 held_before told holds faults a b name P keeps known = λ t. subst P (keeps.same_content name) (known (keeps.same_told ∙ t))
 
--- the next of the names that are left
-pub at_next : {holds : List ℕ → Option (List ℕ)} {Told : Type 0} {names : List (List ℕ)} {done : List Block} {total : ℕ} (words : List (String Global))
-    (i : ℕ) (word : String Global) (name : List ℕ)
-    → SoFar holds Told names (map string_bytes (drop i words)) done total → i < length words → word ≡ get_or words i word → name ≡ string_bytes word
-    → SoFar holds Told names (name ∷ map string_bytes (drop (i + 1) words)) done total
-at_next {holds} {Told} {names} {done} {total} words i word name so inside is named =
-    let left = ap (map string_bytes) (drop_more words i word inside) ∙ ap (λ w. string_bytes w ∷ map string_bytes (drop (i + 1) words)) (sym is)
-    ∙ ap (λ n. n ∷ map string_bytes (drop (i + 1) words)) (sym named) in
-    subst (λ (l : List (List ℕ)). SoFar holds Told names l done total) left so
+-- the name that is read next
+abbrev pub name_here : List (Bor (List ℕ)) → ℕ → List ℕ
+name_here words i = (get_or words i (record { ref_ptr = (0, 0); now = [] })).now
+
+-- it is the first of those that are left
+pub at_next : {holds : List ℕ → Option (List ℕ)} {Told : Type 0} {names : List (List ℕ)} {done : List Block} {total : ℕ}
+    (words : List (Bor (List ℕ))) (i : ℕ) → SoFar holds Told names (names_of (drop i words)) done total → i < length words
+    → SoFar holds Told names (name_here words i ∷ names_of (drop (i + 1) words)) done total
+at_next {holds} {Told} {names} {done} {total} words i so inside =
+    subst (λ (l : List (List ℕ)). SoFar holds Told names l done total)
+    (ap names_of (drop_more words i (record { ref_ptr = (0, 0); now = [] }) inside)) so

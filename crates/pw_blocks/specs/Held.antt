@@ -1,6 +1,7 @@
 -- The definition blocks that files hold under names, in the order of the names, and what is first at fault there.
 use Rattle.std.specs.Prelude.{◌≡◌, ◌≤◌, ◌<◌, ℕ, ◌+◌, ◌-◌, List, [], ◌∷◌, length, take, get_or, map, Option, Some, None}
 use Rattle.std.specs.List.{sum_by}
+use Rattle.std.specs.Borrow.{Bor}
 use Rattle.pw_base.specs.Outside.{Rose}
 use Rattle.aml_data.specs.Decoded.{AreBytes}
 use Rattle.aml_block.specs.declared.block.Block.{Block}
@@ -11,6 +12,10 @@ use Rattle.aml_block.specs.Faults.{BlockFails}
 use Rattle.pw_blocks.specs.declared.reading.TheConstants.{LARGEST_SUM}
 use Rattle.pw_blocks.specs.declared.fault.BlocksFault.{BlocksFault}
 use Rattle.pw_blocks.specs.declared.fault.BlocksFault.TheVariants.{Block as in_block, Large, ReadFault, Memory}
+
+-- the bytes of each name
+abbrev pub names_of : List (Bor (List ℕ)) → List (List ℕ)
+names_of names = map (λ n. n.now) names
 
 -- What is held spells this block, by so many bytes.
 pub record IsBlock (held : Option (List ℕ)) (block : Block) (size : ℕ) : Type 0 where

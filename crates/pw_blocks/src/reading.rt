@@ -1,8 +1,7 @@
-ghost use Rattle.std.specs.Prelude.{◌≡◌, ◌≢◌, ◌≤◌, ◌+◌, true, length, map, All, IfOk, IfErr};
+ghost use Rattle.std.specs.Prelude.{◌≡◌, ◌≢◌, ◌≤◌, ◌+◌, true, length, All, IfOk, IfErr};
 ghost use Rattle.pw_base.specs.Outside.{Rose, KeepsFiles};
 ghost use Rattle.aml_block.specs.Written.{IsWritableBlock};
-ghost use Rattle.std.specs.String.{string_bytes};
-ghost use Rattle.pw_blocks.specs.Held.{IsBlock, HasFault, HoldBlocks, IsCauseOf, IsOwn, RoseIfUnread};
+ghost use Rattle.pw_blocks.specs.Held.{IsBlock, HasFault, HoldBlocks, IsCauseOf, IsOwn, RoseIfUnread, names_of};
 
 use crate::fault::{BlocksFault, fault_in};
 use aml_block::{Block, BlockFault, LARGEST, parse, read_all};
@@ -38,26 +37,26 @@ fn read_counted<F: Files>(
 pub fn read_blocks<F: Files>(
     alloc: Global,
     files: &mut F,
-    names: &[String],
+    names: &[&str],
 ) -> Result<Vec<Block>, BlocksFault>
     ensures keeps { KeepsFiles F.told F.holds F.faults files.old files.new }
     // It is a read fault only where a read of the very file failed of which it has the number.
     ensures failed { IfErr result (λ f.
-        RoseIfUnread (map string_bytes names.now) f (F.faults files.old) (F.faults files.new)) }
+        RoseIfUnread (names_of names.now) f (F.faults files.old) (F.faults files.new)) }
     // What is read is what the files hold under the names.
     ensures found { IfOk result (λ blocks. F.told files.old ≡ true →
-        HoldBlocks (F.holds files.old) (map string_bytes names.now) blocks.items) }
+        HoldBlocks (F.holds files.old) (names_of names.now) blocks.items) }
     // What is read can be written.
     ensures writable { IfOk result (λ blocks. All IsWritableBlock blocks.items) }
     // Otherwise it is the first fault; a read fault says which file, and that those before it hold blocks.
     ensures fault { IfErr result (λ f. F.told files.old ≡ true →
-        IsCauseOf (F.holds files.old) (map string_bytes names.now) f) }
+        IsCauseOf (F.holds files.old) (names_of names.now) f) }
     ensures own { IfErr result IsOwn }
 {
     let mut blocks = Vec::new(alloc);
     let mut total = 0;
     for name in names {
-        let (block, size) = match read_counted(alloc, files, name.as_str()) {
+        let (block, size) = match read_counted(alloc, files, name) {
             Ok(read) => read,
             Err(fault) => return Err(fault_in(blocks.len() + 1, fault)),
         };

@@ -1,4 +1,1 @@
 pub mod Complete
-pub mod Ending
-pub mod Repeats
-pub mod Sent

@@ -1,1 +1,9 @@
-pub mod Tasks
+pub mod Walked
+pub mod Levels
+pub mod Getters
+pub mod Kept
+pub mod Subcommands
+pub mod Bounds
+pub mod Present
+pub mod Lines
+pub mod Asking

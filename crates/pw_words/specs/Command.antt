@@ -1,20 +1,16 @@
 -- What a command says of the words.
-use Rattle.std.specs.Prelude.{ℕ, List}
+use Rattle.std.specs.Prelude.{List, map}
+use Rattle.std.specs.Borrow.{Bor}
+use Rattle.clap.specs.Words.{Text}
 use Rattle.pw_words.specs.declared.command.Command.{Command}
-use Rattle.pw_words.specs.declared.command.Command.TheVariants.{Show, Rewrite}
-use Rattle.pw_words.specs.Words.{texts, AskFor, Task}
-use Rattle.pw_words.specs.Words.Task.{to_show, to_rewrite}
+use Rattle.pw_words.specs.declared.command.Command.TheVariants.{OnBlocks}
+use Rattle.pw_words.specs.Words.{Asked}
+use Rattle.pw_words.specs.Words.Asked.{on_blocks}
+
+-- the bytes of each slice
+abbrev pub slice_texts : List (Bor Text) → List Text
+slice_texts slices = map (λ s. s.now) slices
 
 -- what it asks for
-abbrev pub asked_task : Command → Task
-asked_task (Show blocks) = to_show
-asked_task (Rewrite blocks) = to_rewrite
-
--- the names of the files
-abbrev pub asked_names : Command → List (List ℕ)
-asked_names (Show blocks) = texts blocks.now
-asked_names (Rewrite blocks) = texts blocks.now
-
--- the command is that of the words
-abbrev pub MeansWords : Command → List (List ℕ) → Type 0
-MeansWords command words = AskFor words (asked_task command) (asked_names command)
+abbrev pub asked_of : Command → Asked
+asked_of (OnBlocks task blocks) = on_blocks task (slice_texts blocks.items)

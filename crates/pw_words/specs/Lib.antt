@@ -1,2 +1,5 @@
-pub mod Words
+pub mod App
 pub mod Command
+pub mod inner
+pub mod Stated
+pub mod Words

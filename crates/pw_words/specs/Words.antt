@@ -1,28 +1,115 @@
--- The words of a command line, without the program's name.
-use Rattle.std.specs.Prelude.{◌≡◌, ◌≤◌, ℕ, List, ◌∷◌, length, map, codes, String}
+-- The words of a command line, without the program's name, and what they ask for.
+use Rattle.std.specs.Prelude.{◌≡◌, ◌≤◌, ◌==◌, ◌&&◌, Bool, true, false, not, String}
+use Rattle.std.specs.Prelude.{List, [], ◌∷◌, ◌++◌, length, map, Option, Some, None, codes, if◌then◌else◌}
+use Rattle.std.specs.List.{filter}
+use Rattle.std.specs.Option.{option_map_or}
+use Rattle.std.specs.Str.{bytes_eq}
 use Rattle.std.specs.String.{string_bytes}
 use Rattle.std.specs.declared.alloc.Global.{Global}
+use Rattle.clap.specs.Words.{Row, Text, all_of}
+use Rattle.pw_words.specs.Stated.{Enters, IsTaken, is_used}
+use Rattle.pw_words.specs.declared.command.Task.{Task}
+use Rattle.pw_words.specs.declared.command.Task.TheVariants.{Show, ShowAsJson, Rewrite, Check}
 
 -- the bytes of each word
-abbrev pub texts : List (String Global) → List (List ℕ)
+abbrev pub texts : List (String Global) → List Text
 texts words = map string_bytes words
 
--- what is asked for of the blocks in files
-pub data Task : Type 0 where
-  to_show : Task
-  to_rewrite : Task
+-- what is asked for
+pub data Asked : Type 0 where
+  -- a task, of the blocks in the files of these names
+  on_blocks : Task → List Text → Asked
 
--- the word that asks for it
-abbrev pub task_word : Task → List ℕ
-task_word to_show = codes "show"
-task_word to_rewrite = codes "rewrite"
+-- # The table of commands
 
--- `show BLOCK..`, `rewrite BLOCK..`: the words ask for this of the blocks in the files of these names, 1 to 64 of them
-pub record AskFor (words : List (List ℕ)) (task : Task) (blocks : List (List ℕ)) : Type 0 where
-  pub are : words ≡ task_word task ∷ blocks
-  pub some : 1 ≤ length blocks
-  pub few : length blocks ≤ 64
+-- the word that names the task's command
+abbrev pub task_name : Task → Text
+task_name Show = codes "show"
+task_name ShowAsJson = codes "show"
+task_name Rewrite = codes "rewrite"
+task_name Check = codes "check"
+
+-- the flag that tells the task from others of its command
+abbrev pub task_flags : Task → List Text
+task_flags ShowAsJson = codes "--json" ∷ []
+task_flags _ = []
+
+-- a word that begins with a hyphen, the byte 45
+abbrev pub is_dashed : Text → Bool
+is_dashed [] = false
+is_dashed (c ∷ rest) = c == 45
+
+abbrev pub is_bare : Text → Bool
+is_bare word = not (is_dashed word)
+
+-- no word begins with a hyphen
+abbrev pub are_bare : List Text → Bool
+are_bare [] = true
+are_bare (word ∷ rest) = if is_dashed word then false else are_bare rest
+
+-- 1 to 64 names of files, of which none begins with a hyphen
+pub record AreFiles (files : List Text) : Type 0 where
+  pub bare : are_bare files ≡ true
+  pub some : 1 ≤ length files
+  pub few : length files ≤ 64
+
+-- The words are a line of the table: `show BLOCK..`, `show --json BLOCK..`, `rewrite BLOCK..`, `check BLOCK..`.
+abbrev pub IsLine : List Text → Asked → Type 0
+IsLine words (on_blocks task blocks) = (words ≡ task_name task ∷ task_flags task ++ blocks) × AreFiles blocks
+
+-- # Plain words: those whose flags may stand anywhere behind the first word
+
+-- the flag of the command that the word names
+abbrev pub flag_of : Text → Option Text
+flag_of word = if bytes_eq word (codes "show") then Some (codes "--json") else None
+
+-- these are no words, or the flag of the command, once
+abbrev pub are_flags_of : Text → List Text → Bool
+are_flags_of word [] = true
+are_flags_of word (flag ∷ []) = option_map_or (bytes_eq flag) (flag_of word) false
+are_flags_of word (flag ∷ again ∷ rest) = false
+
+-- The first word doesn't begin with a hyphen, and each further word that does is a flag of its command, which is there once.
+abbrev pub is_plain : List Text → Bool
+is_plain [] = true
+is_plain (word ∷ rest) = is_bare word && are_flags_of word (filter is_dashed rest)
+
+-- the words with those that begin with a hyphen moved behind the first
+abbrev pub moved : List Text → List Text
+moved [] = []
+moved (word ∷ rest) = word ∷ filter is_dashed rest ++ filter is_bare rest
+
+-- # Other words
+
+-- the matches say whether the flag was given that tells the task from others of its command
+abbrev pub SayTask : List Row → Task → Type 0
+SayTask rows Show = is_used (codes "json") rows ≡ false
+SayTask rows ShowAsJson = is_used (codes "json") rows ≡ true
+SayTask rows _ = Unit {0}
+
+-- the subcommand by which it is asked for
+abbrev pub command_name : Asked → Text
+command_name (on_blocks task blocks) = task_name task
+
+-- the matches of the subcommand have what is asked for: the task and the names of the files
+abbrev pub Say : List Row → Asked → Type 0
+Say rows (on_blocks task blocks) = SayTask rows task × (all_of (codes "blocks") rows ≡ Some blocks)
+
+-- `clap` takes the words, and states this of them: the subcommand, its flag and its arguments.
+pub record AreStated (words : List Text) (asked : Asked) : Type 0 where
+  pub rows : List Row
+  pub taken : IsTaken words
+  pub command : Enters words (command_name asked) rows
+  pub said : Say rows asked
+
+-- # What words ask for
+
+-- Plain words ask for what their line of the table does, once their flags are moved behind the first word. Other words ask for
+-- what `clap` states of them.
+pub record AskFor (words : List Text) (asked : Asked) : Type 0 where
+  pub plain : is_plain words ≡ true → IsLine (moved words) asked
+  pub other : is_plain words ≡ false → AreStated words asked
 
 -- the words are a command
-abbrev pub IsCommand : List (List ℕ) → Type 0
-IsCommand words = (task : Task) × (blocks : List (List ℕ)) × AskFor words task blocks
+abbrev pub IsCommand : List Text → Type 0
+IsCommand words = (asked : Asked) × AskFor words asked

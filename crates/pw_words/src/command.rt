@@ -1,54 +1,67 @@
-ghost use Rattle.std.specs.Prelude.{◌≡◌, ◌≤◌, ◌∷◌, length, MatchOption};
-ghost use Rattle.pw_words.specs.Words.{texts, task_word, IsCommand, Task};
-ghost use Rattle.pw_words.specs.Command.{asked_names, MeansWords};
+ghost use Rattle.std.specs.Prelude.{◌≡◌, false, MatchResult};
+ghost use Rattle.pw_words.specs.Command.{asked_of};
+ghost use Rattle.pw_words.specs.Stated.{IsRefused, IsTaken};
+ghost use Rattle.pw_words.specs.Words.{AskFor, IsCommand, is_plain, texts};
+ghost use Rattle.pw_words.specs.declared.command.WordsFault.TheVariants.{Memory, Refused};
+
+use crate::matches::stated;
+use crate::order::in_order;
+use std::alloc::{AllocError, Global};
+
+/// What can be asked for of the definition blocks in files.
+#[derive(Clone, Copy)]
+pub enum Task {
+    /// `show BLOCK..`: a line for each object that they place.
+    Show,
+    /// `show --json BLOCK..`: the same as JSON.
+    ShowAsJson,
+    /// `rewrite BLOCK..`: the blocks in their shortest spelling.
+    Rewrite,
+    /// `check BLOCK..`: the plan of the machine that they describe, with notes.
+    Check,
+}
 
 /// What the words of a command line ask for.
-#[derive(Clone, Copy)]
+#[derive(Drop)]
 pub enum Command<'a> {
-    /// `show BLOCK..`: a line for each object that the definition blocks in these files place.
-    Show { blocks: &'a [String] },
-    /// `rewrite BLOCK..`: the definition blocks in these files in their shortest spelling.
-    Rewrite { blocks: &'a [String] },
+    /// A task, of the definition blocks in the files of these names, 1 to 64 of them.
+    OnBlocks { task: Task, blocks: Vec<&'a str> },
 }
 
-impl<'a> Command<'a> {
-    /// The names of the files whose blocks it asks for.
-    pub fn blocks(self) -> &'a [String]
-        ensures { texts result.now ≡ asked_names self.entry }
-    {
-        match self {
-            Command::Show { blocks } => blocks,
-            Command::Rewrite { blocks } => blocks,
-        }
+/// Why words give no command.
+#[derive(Clone, Copy)]
+pub enum WordsFault {
+    /// They are none.
+    Refused,
+    /// Want of memory.
+    Memory,
+}
+
+impl From<AllocError> for WordsFault {
+    ghost from_gives = { λ _ e. e ≡ Memory };
+
+    fn from(_e: AllocError) -> WordsFault {
+        WordsFault::Memory
     }
 }
 
-/// So many blocks at most are named in one command: this project's own limit.
-const MOST_BLOCKS: usize = 64;
-
-/// The command that a word asks for of the blocks in files.
-fn command_on<'a>(word: &str, blocks: &'a [String]) -> Option<Command<'a>>
-    requires some { 1 ≤ length blocks.now }
-    requires few { length blocks.now ≤ 64 }
-    ensures { MatchOption result ((task : Task) → word.now ≡ task_word task → ⊥)
-        (λ c. MeansWords c (word.now ∷ texts blocks.now)) }
+/// The command of these words, which leave out the program's name. `room` is for the words in the
+/// order in which they are read, and what it held is gone.
+pub fn command_of<'w, 'a>(
+    alloc: Global,
+    words: &'w [String],
+    room: &'a mut Vec<&'w str>,
+) -> Result<Command<'a>, WordsFault>
+where
+    'w: 'a,
+    // It is the command that they ask for, and words that are one are not refused.
+    ensures read { MatchResult result (λ c. AskFor (texts words.now) (asked_of c))
+        (λ e. e ≡ Refused → IsCommand (texts words.now) → ⊥) }
+    // Words that aren't plain are refused exactly where `clap` has an error for them, and so only
+    // where it doesn't state that it takes them.
+    ensures taken { is_plain (texts words.now) ≡ false → MatchResult result
+        (λ _. IsTaken (texts words.now)) (λ e. e ≡ Refused → IsRefused (texts words.now)) }
 {
-    match word {
-        "show" => Some(Command::Show { blocks }),
-        "rewrite" => Some(Command::Rewrite { blocks }),
-        _ => None,
-    }
-}
-
-/// The command of these words, which leave out the program's name. It takes no memory.
-pub fn command_of(words: &[String]) -> Option<Command<'_>>
-    ensures { MatchOption result (IsCommand (texts words.now) → ⊥) (λ c. MeansWords c (texts words.now)) }
-{
-    match words {
-        [word, blocks @ ..] if !blocks.is_empty() && blocks.len() <= MOST_BLOCKS => command_on(
-            word.as_str(),
-            blocks,
-        ),
-        _ => None,
-    }
+    *room = in_order(alloc, words)?;
+    stated(alloc, room.as_slice())
 }

@@ -1,8 +1,11 @@
-//! Words of a command line to a command.
+//! Words of a command line to a command, by `clap`.
 #![tactic(auto)]
 
+mod app;
 mod command;
 mod laws;
+mod matches;
+mod order;
 
-pub use command::{Command, command_of};
-pub use laws::one_task;
+pub use command::{Command, Task, WordsFault, command_of};
+pub use laws::{few_blocks, one_command, other_words, taken_words, usual_line};

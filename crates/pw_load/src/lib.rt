@@ -1,0 +1,14 @@
+//! What a command works on, step by step: the blocks of files, their objects, the plan of the machine.
+//! Each step says why it fails, and the status.
+#![tactic(auto)]
+
+mod lines;
+mod loading;
+mod placing;
+mod planning;
+mod refusal;
+mod say;
+
+pub use loading::load;
+pub use placing::place;
+pub use planning::make_plan;

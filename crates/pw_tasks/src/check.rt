@@ -1,0 +1,73 @@
+ghost use Rattle.std.specs.Prelude.{◌≡◌, [], All};
+ghost use Rattle.pw_base.specs.Outside.{KeepsSink};
+ghost use Rattle.aml_block.specs.Written.{IsWritableBlock};
+ghost use Rattle.acpi_space.specs.Distinct.{IsDistinct};
+ghost use Rattle.acpi_space.specs.Namespace.{places_of};
+ghost use Rattle.acpi_build.specs.Tables.{AreCountable};
+ghost use Rattle.pw_words.specs.declared.command.Task.TheVariants as tasks;
+ghost use Rattle.pw_ends.specs.Seen.{outputs_seen};
+ghost use Rattle.pw_ends.specs.Ends.{Did};
+ghost use Rattle.pw_tasks.specs.Tasks.{checking, work_over};
+
+use acpi_build::blocks_are_countable;
+use acpi_space::Space;
+use aml_block::Block;
+use pw_base::Sink;
+use pw_check::print_check;
+use pw_ends::printed;
+use pw_load::{make_plan, place};
+use pw_text::Page;
+use std::alloc::Global;
+use std::mem::forget;
+
+/// Does `check` over objects: the plan of the machine that they tell of, and its notes.
+fn check_space<K: Sink>(
+    alloc: Global,
+    space: &Space<'_>,
+    page: &mut Page,
+    out: &mut K,
+    err: &mut K,
+) -> u8
+    requires empty { page.old ≡ [] }
+    requires countable { AreCountable space.now }
+    ensures keeps_out { KeepsSink K.told K.faults out.old out.new }
+    ensures keeps_err { KeepsSink K.told K.faults err.old err.new }
+    ensures did { Did (checking space.now)
+        (outputs_seen K.Sink out.old err.old) (outputs_seen K.Sink out.new err.new) result }
+{
+    match make_plan(alloc, space, page, err) {
+        Err(status) => status,
+        Ok((plan, notes)) => {
+            let outcome = print_check(alloc, &plan, &notes, out);
+            printed(err, outcome)
+        }
+    }
+}
+
+/// Does `check` over blocks: the plan of the machine that their objects tell of, with its notes
+/// (ACPI 6.5, 8.4). The page is empty, and for the error output. It says the status.
+pub fn check<K: Sink>(
+    alloc: Global,
+    blocks: &[Block],
+    page: &mut Page,
+    out: &mut K,
+    err: &mut K,
+) -> u8
+    requires empty { page.old ≡ [] }
+    requires writable { All IsWritableBlock blocks.now }
+    ensures keeps_out { KeepsSink K.told K.faults out.old out.new }
+    ensures keeps_err { KeepsSink K.told K.faults err.old err.new }
+    ensures did { Did (work_over tasks.Check blocks.now)
+        (outputs_seen K.Sink out.old err.old) (outputs_seen K.Sink out.new err.new) result }
+{
+    blocks_are_countable();
+    match place(alloc, blocks, page, err) {
+        Err(status) => status,
+        Ok(space) => {
+            let status = check_space(alloc, &space, page, out, err);
+            // The process ends now: to give the objects back takes up to a quarter of its time.
+            forget(space);
+            status
+        }
+    }
+}

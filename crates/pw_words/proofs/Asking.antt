@@ -1,0 +1,167 @@
+-- What words ask for: one thing at most, of 1 to 64 files, and which words ask for something.
+use Rattle.std.proofs.Common.{◌≡◌, ◌∙◌, ◌∷◌, ◌++◌, ◌&&◌, ◌↔◌, Bool, cond, true, false, refl, sym, ap, ap₂, subst, List, []}
+use Rattle.std.proofs.Common.{codes, true≢false}
+use Rattle.std.specs.Prelude.{MatchResult, Result, if◌then◌else◌}
+use Rattle.std.specs.List.{filter}
+use Rattle.std.specs.Str.{bytes_eq}
+use Rattle.std.proofs.lemmas.Result.{MatchResult-weaker}
+use Rattle.clap.specs.Walk.{Row, Text, all_of}
+use Rattle.pw_words.specs.declared.command.Command.{Command}
+use Rattle.pw_words.specs.declared.command.Task.{Task}
+use Rattle.pw_words.specs.declared.command.Task.TheVariants.{Show, ShowAsJson, Rewrite, Check}
+use Rattle.pw_words.specs.declared.command.WordsFault.{WordsFault}
+use Rattle.pw_words.specs.declared.command.WordsFault.TheVariants.{Refused}
+use Rattle.pw_words.specs.Command.{asked_of}
+use Rattle.pw_words.specs.Stated.{Enters, IsRefused, IsTaken, is_used}
+use Rattle.pw_words.specs.Words.{AreFiles, AreStated, AskFor, Asked, IsCommand, IsLine, Say, SayTask, are_bare, are_flags_of, command_name}
+use Rattle.pw_words.specs.Words.{is_bare, is_dashed, is_plain, moved, task_flags, task_name}
+use Rattle.pw_words.specs.Words.Asked.{on_blocks}
+use Rattle.pw_words.specs.inner.Reading.{Reads, given}
+use Rattle.pw_words.proofs.Bounds.{HasFew}
+use Rattle.pw_words.proofs.Getters.{inside}
+use Rattle.pw_words.proofs.Lines.{line_stated, plain_line}
+use Rattle.pw_words.proofs.Present.{files_met, rows_met, stated_of}
+use Rattle.pw_words.proofs.Subcommands.{met}
+use Rattle.pw_words.proofs.Walked.{bare_parts}
+
+-- ---- one thing
+
+-- the task that is asked for by a subcommand, with its flag or without
+abbrev task_by : Text → Bool → Task
+task_by name json = if bytes_eq name (codes "rewrite") then Rewrite
+    else (if bytes_eq name (codes "check") then Check else (if json then ShowAsJson else Show))
+
+is_task : (task : Task) (rows : List Row) → SayTask rows task → task_by (task_name task) (is_used (codes "json") rows) ≡ task
+is_task Show rows said = ap (task_by (codes "show")) said
+is_task ShowAsJson rows said = ap (task_by (codes "show")) said
+is_task Rewrite rows said = refl
+is_task Check rows said = refl
+
+one_said : (a b : Asked) (rows : List Row) → command_name a ≡ command_name b → Say rows a → Say rows b → a ≡ b
+one_said (on_blocks s us) (on_blocks t vs) rows same p q =
+    let task = sym (is_task s rows p.0) ∙ ap (λ n. task_by n (is_used (codes "json") rows)) same ∙ is_task t rows q.0 in
+    ap₂ on_blocks task (inside us vs (sym p.1 ∙ q.1))
+
+module _ (words : List Text) where
+  name_entered : {m n : Text} {p q : List Row} → Enters words m p → Enters words n q → m ≡ n
+  name_entered {m} {n} {p} {q} e f = ap (λ (x : Text × List Row). x.0) (inside (m, p) (n, q) (sym e ∙ f))
+
+  rows_entered : {m n : Text} {p q : List Row} → Enters words m p → Enters words n q → p ≡ q
+  rows_entered {m} {n} {p} {q} e f = ap (λ (x : Text × List Row). x.1) (inside (m, p) (n, q) (sym e ∙ f))
+
+one_stated : (words : List Text) (a b : Asked) → AreStated words a → AreStated words b → a ≡ b
+one_stated words a b p q =
+    one_said a b q.rows (name_entered words p.command q.command)
+    (subst (λ (rows : List Row). Say rows a) (rows_entered words p.command q.command) p.said) q.said
+
+-- ---- plain words and others
+
+-- by whether the words are plain
+by_plainness : {A : Type 0} (words : List Text) → (is_plain words ≡ true → A) → (is_plain words ≡ false → A) → A
+by_plainness {A} words plain other = go (is_plain words) refl
+  where
+    go : (b : Bool) → is_plain words ≡ b → A
+    go true e = plain e
+    go false e = other e
+
+plain_asks : (words : List Text) (asked : Asked) → is_plain words ≡ true → IsLine (moved words) asked → AskFor words asked
+plain_asks words asked plain line = record { plain = λ e. line; other = λ e. absurd (true≢false (sym plain ∙ e)) }
+
+other_asks : (words : List Text) (asked : Asked) → is_plain words ≡ false → AreStated words asked → AskFor words asked
+other_asks words asked other stated = record { plain = λ e. absurd (true≢false (sym e ∙ other)); other = λ e. stated }
+
+pub one_asked : (words : List Text) (a b : Asked) → AskFor words a → AskFor words b → a ≡ b
+one_asked words a b p q = by_plainness words
+    (λ e. one_stated (moved words) a b (line_stated (moved words) a (p.plain e)) (line_stated (moved words) b (q.plain e)))
+    (λ e. one_stated words a b (p.other e) (q.other e))
+
+few_stated : (words : List Text) (task : Task) (blocks : List Text) → AreStated words (on_blocks task blocks) → HasFew blocks
+few_stated words task blocks h =
+    let m = met words h.taken in
+    let files = files_met m in
+    let rows : rows_met m ≡ h.rows = rows_entered words m.command h.command in
+    subst HasFew (inside files.0 blocks (sym files.1 ∙ ap (all_of (codes "blocks")) rows ∙ h.said.1)) files.2
+
+pub few_asked : (words : List Text) (task : Task) (blocks : List Text) → AskFor words (on_blocks task blocks) → HasFew blocks
+few_asked words task blocks p =
+    by_plainness words (λ e. ((p.plain e).1.some, (p.plain e).1.few)) (λ e. few_stated words task blocks (p.other e))
+
+pub taken_other : (words : List Text) → is_plain words ≡ false → IsCommand words ↔ IsTaken words
+taken_other words other = (
+  (λ c. (c.1.other other).taken),
+  (λ taken. (let s = stated_of words taken in (s.0, other_asks words s.0 other s.1))),
+)
+
+-- ---- reading
+
+-- what `clap` states of plain words whose flags were moved is a line
+stated_line : (words : List Text) (asked : Asked) → is_plain words ≡ true → AreStated (moved words) asked → IsLine (moved words) asked
+stated_line words asked plain stated =
+    let line = plain_line words plain stated.taken in
+    subst (IsLine (moved words)) (one_stated (moved words) line.0 asked (line_stated (moved words) line.0 line.1) stated) line.1
+
+as_plain : (words : List Text) (r : Result Command WordsFault) → is_plain words ≡ true → Reads (given words) r → Reads (moved words) r
+as_plain words r plain h = subst (λ (w : List Text). Reads w r) (ap (λ b. cond b (moved words) words) plain) h
+
+as_other : (words : List Text) (r : Result Command WordsFault) → is_plain words ≡ false → Reads (given words) r → Reads words r
+as_other words r other h = subst (λ (w : List Text). Reads w r) (ap (λ b. cond b (moved words) words) other) h
+
+abbrev ReadsWords : List Text → Result Command WordsFault → Type 0
+ReadsWords words r = MatchResult r (λ c. AskFor words (asked_of c)) (λ e. e ≡ Refused → IsCommand words → ⊥)
+
+pub reads : (words : List Text) (r : Result Command WordsFault) → Reads (given words) r → ReadsWords words r
+reads words r h = by_plainness words
+    (λ plain. MatchResult-weaker r (as_plain words r plain h)
+    (λ c stated. plain_asks words (asked_of c) plain (stated_line words (asked_of c) plain stated))
+    (λ e refused is asks. (refused is).untaken (line_stated (moved words) asks.0 (asks.1.plain plain)).taken))
+    (λ other. MatchResult-weaker r (as_other words r other h)
+    (λ c stated. other_asks words (asked_of c) other stated)
+    (λ e refused is asks. (refused is).untaken (asks.1.other other).taken))
+
+pub taken_or_refused : (words : List Text) (r : Result Command WordsFault) → Reads (given words) r → is_plain words ≡ false
+    → MatchResult r (λ _. IsTaken words) (λ e. e ≡ Refused → IsRefused words)
+taken_or_refused words r h other = MatchResult-weaker r (as_other words r other h) (λ c stated. stated.taken) (λ e refused. refused)
+
+-- ---- the usual line
+
+-- names of files are none of the words that begin with a hyphen, and all of the others
+none_dashed : (files : List Text) → are_bare files ≡ true → filter is_dashed files ≡ []
+none_dashed [] bare = refl
+none_dashed (f ∷ fs) bare = let parts = bare_parts f fs bare in rw parts.0 (none_dashed fs parts.1)
+
+all_bare : (files : List Text) → are_bare files ≡ true → filter is_bare files ≡ files
+all_bare [] bare = refl
+all_bare (f ∷ fs) bare = let parts = bare_parts f fs bare in rw parts.0 (ap (λ xs. f ∷ xs) (all_bare fs parts.1))
+
+-- the flag among the files is moved before them
+flag_moved : (before after : List Text) → are_bare (before ++ after) ≡ true
+    → (filter is_dashed (before ++ codes "--json" ∷ after) ≡ codes "--json" ∷ [])
+    × (filter is_bare (before ++ codes "--json" ∷ after) ≡ before ++ after)
+flag_moved [] after bare = (ap (λ xs. codes "--json" ∷ xs) (none_dashed after bare), all_bare after bare)
+flag_moved (f ∷ fs) after bare =
+    let parts = bare_parts f (fs ++ after) bare in
+    let rest = flag_moved fs after parts.1 in
+    (rw parts.0 rest.0, rw parts.0 (ap (λ xs. f ∷ xs) rest.1))
+
+-- words whose flags are those of the task, and whose others are the files
+parted_asks : (task : Task) (rest blocks : List Text) → are_flags_of (task_name task) (task_flags task) ≡ true
+    → is_bare (task_name task) ≡ true
+    → filter is_dashed rest ≡ task_flags task → filter is_bare rest ≡ blocks → AreFiles blocks
+    → AskFor (task_name task ∷ rest) (on_blocks task blocks)
+parted_asks task rest blocks ours bare flags files are = plain_asks (task_name task ∷ rest) (on_blocks task blocks)
+    (ap₂ (λ x y. x && y) bare (ap (are_flags_of (task_name task)) flags ∙ ours)) (ap₂ (λ xs ys. task_name task ∷ xs ++ ys) flags files, are)
+
+pub usual_asks : (task : Task) (blocks : List Text) → AreFiles blocks
+    → AskFor (task_name task ∷ task_flags task ++ blocks) (on_blocks task blocks)
+usual_asks Show blocks are = parted_asks Show blocks blocks refl refl (none_dashed blocks are.bare) (all_bare blocks are.bare) are
+usual_asks ShowAsJson blocks are =
+    let parts = flag_moved [] blocks are.bare in
+    parted_asks ShowAsJson (codes "--json" ∷ blocks) blocks refl refl parts.0 parts.1 are
+usual_asks Rewrite blocks are = parted_asks Rewrite blocks blocks refl refl (none_dashed blocks are.bare) (all_bare blocks are.bare) are
+usual_asks Check blocks are = parted_asks Check blocks blocks refl refl (none_dashed blocks are.bare) (all_bare blocks are.bare) are
+
+pub flag_asks : (before after : List Text) → AreFiles (before ++ after)
+    → AskFor (codes "show" ∷ before ++ codes "--json" ∷ after) (on_blocks ShowAsJson (before ++ after))
+flag_asks before after are =
+    let parts = flag_moved before after are.bare in
+    parted_asks ShowAsJson (before ++ codes "--json" ∷ after) (before ++ after) refl refl parts.0 parts.1 are

@@ -1,0 +1,80 @@
+ghost use Rattle.std.specs.Prelude.{◌≡◌, IfOk, false};
+ghost use Rattle.clap.specs.Words.{app_of, rule_of, with_subcommand};
+ghost use Rattle.clap.specs.declared.builder.command.Command.TheViews.{out-Command as fields_of};
+ghost use Rattle.pw_words.specs.App.{bare_app, blocks_app, blocks_rule, flag_rule, line_app};
+ghost use Rattle.pw_words.specs.App.{show_app, word_rule};
+
+use clap::{Arg, ArgAction, Command};
+use std::alloc::{AllocError, Global};
+
+/// `--NAME`.
+fn flag<'a>(alloc: Global, name: &'a str) -> Arg<'a>
+    ensures rule { rule_of result ≡ flag_rule name.now }
+    ensures local { result.global ≡ false }
+{
+    Arg::new(alloc, name).long(name).action(ArgAction::SetTrue)
+}
+
+/// An argument that must be there.
+fn word<'a>(alloc: Global, id: &'a str) -> Arg<'a>
+    ensures rule { rule_of result ≡ word_rule id.now }
+    ensures local { result.global ≡ false }
+{
+    Arg::new(alloc, id).required(true)
+}
+
+/// `BLOCK..`. So many blocks at most are named in one command: this project's own limit.
+fn blocks<'a>(alloc: Global) -> Arg<'a>
+    ensures rule { rule_of result ≡ blocks_rule }
+    ensures local { result.global ≡ false }
+{
+    word(alloc, "blocks").num_args(1..=64)
+}
+
+/// `NAME BLOCK..`.
+fn on_blocks<'a>(alloc: Global, name: &'a str) -> Result<Command<'a>, AllocError>
+    ensures { IfOk result (λ c. (app_of c ≡ blocks_app name.now)
+        × ((fields_of c).has_globals ≡ false)) }
+{
+    Command::new(alloc, name).arg(blocks(alloc))
+}
+
+/// `show [--json] BLOCK..`.
+fn show<'a>(alloc: Global) -> Result<Command<'a>, AllocError>
+    ensures { IfOk result (λ c. (app_of c ≡ show_app) × ((fields_of c).has_globals ≡ false)) }
+{
+    on_blocks(alloc, "show")?.arg(flag(alloc, "json"))
+}
+
+/// The command with no subcommand yet.
+fn bare<'a>(alloc: Global) -> Command<'a>
+    ensures app { app_of result ≡ bare_app }
+    ensures local { (fields_of result).has_globals ≡ false }
+{
+    Command::new(alloc, "pw")
+        .no_binary_name(true)
+        .disable_help_flag(true)
+        .disable_help_subcommand(true)
+        .disable_version_flag(true)
+        .subcommand_required(true)
+}
+
+/// The command with one more subcommand.
+fn with<'a>(command: Command<'a>, sub: Command<'a>) -> Result<Command<'a>, AllocError>
+    requires above { (fields_of command).has_globals ≡ false }
+    requires below { (fields_of sub).has_globals ≡ false }
+    ensures { IfOk result (λ c.
+        (app_of c ≡ with_subcommand (app_of command.entry) (app_of sub.entry).top)
+        × ((fields_of c).has_globals ≡ false)) }
+{
+    command.subcommand(sub)
+}
+
+/// The command by which the words are read.
+pub(crate) fn line<'a>(alloc: Global) -> Result<Command<'a>, AllocError>
+    ensures { IfOk result (λ c. app_of c ≡ line_app) }
+{
+    let command = with(bare(alloc), show(alloc)?)?;
+    let command = with(command, on_blocks(alloc, "rewrite")?)?;
+    with(command, on_blocks(alloc, "check")?)
+}

@@ -1,0 +1,102 @@
+ghost use Rattle.std.specs.Prelude.{◌≡◌, true, codes, is_some, IfOk, Some};
+ghost use Rattle.clap.specs.Words.{all_of, found_of, kind_of, rows_of};
+ghost use Rattle.clap.specs.declared.error.kind.ErrorKind.TheVariants.{OutOfMemory};
+ghost use Rattle.pw_words.specs.Command.{asked_of, slice_texts};
+ghost use Rattle.pw_words.specs.Stated.{from_words, is_used};
+ghost use Rattle.pw_words.specs.Words.{Say, SayTask, command_name, task_name};
+ghost use Rattle.pw_words.specs.declared.command.WordsFault.TheVariants.{Refused};
+ghost use Rattle.pw_words.specs.inner.Reading.{CanSay, IsOnBlocks, Reads};
+
+use crate::app::line;
+use crate::command::{Command, Task, WordsFault};
+use clap::error::ErrorKind;
+use clap::parser::ValueSource;
+use clap::{ArgMatches, Error};
+use std::alloc::{AllocError, Global};
+
+/// Whether it was the words that gave a value, and no default.
+fn is_from_words(source: Option<ValueSource>) -> bool
+    ensures { result ≡ from_words source }
+{
+    matches!(&source, Some(ValueSource::CommandLine))
+}
+
+/// Whether the words gave the flag.
+fn was_given(matches: &ArgMatches<'_>, id: &str) -> bool
+    ensures { result ≡ is_used id.now (rows_of (found_of matches.now)) }
+{
+    is_from_words(matches.value_source(id))
+}
+
+/// The names of the files that the matches have.
+fn blocks_in<'a>(alloc: Global, matches: &ArgMatches<'a>) -> Result<Vec<&'a str>, AllocError>
+    requires { is_some (all_of (codes "blocks") (rows_of (found_of matches.now))) ≡ true }
+    ensures { IfOk result (λ names.
+        all_of (codes "blocks") (rows_of (found_of matches.now)) ≡ Some (slice_texts names.items)) }
+{
+    match matches.get_strs("blocks") {
+        Some(blocks) => Vec::from_slice(alloc, blocks),
+        None => unreachable!(),
+    }
+}
+
+/// The task of the subcommand of this name, by its matches.
+fn task_in(name: &str, matches: &ArgMatches<'_>) -> Task
+    requires { IsOnBlocks name.now }
+    ensures name { task_name result ≡ name.now }
+    ensures flag { SayTask (rows_of (found_of matches.now)) result }
+{
+    match name {
+        "show" => {
+            if was_given(matches, "json") {
+                Task::ShowAsJson
+            } else {
+                Task::Show
+            }
+        }
+        "rewrite" => Task::Rewrite,
+        "check" => Task::Check,
+        _ => unreachable!(),
+    }
+}
+
+/// The command of the subcommand of this name, by its matches.
+fn command_in<'a>(
+    alloc: Global,
+    name: &str,
+    matches: &ArgMatches<'a>,
+) -> Result<Command<'a>, AllocError>
+    requires { CanSay name.now (rows_of (found_of matches.now)) }
+    ensures { IfOk result (λ c. (command_name (asked_of c) ≡ name.now)
+        × Say (rows_of (found_of matches.now)) (asked_of c)) }
+{
+    Ok(Command::OnBlocks {
+        task: task_in(name, matches),
+        blocks: blocks_in(alloc, matches)?,
+    })
+}
+
+/// What an error of `clap` comes to.
+fn fault_from(error: &Error) -> WordsFault
+    ensures { result ≡ Refused → kind_of error.now ≡ OutOfMemory → ⊥ }
+{
+    if error.kind() == ErrorKind::OutOfMemory {
+        WordsFault::Memory
+    } else {
+        WordsFault::Refused
+    }
+}
+
+/// The command that `clap` states of the words.
+pub(crate) fn stated<'a>(alloc: Global, words: &'a [&'a str]) -> Result<Command<'a>, WordsFault>
+    ensures { Reads (slice_texts words.now) result }
+{
+    let matches = match line(alloc)?.try_get_matches_from(words) {
+        Ok(matches) => matches,
+        Err(error) => return Err(fault_from(&error)),
+    };
+    match matches.subcommand() {
+        Some((name, inner)) => Ok(command_in(alloc, name, inner)?),
+        None => unreachable!(),
+    }
+}
