@@ -1,9 +1,10 @@
-"""Measures `show` and `rewrite` of blocks: time, peak memory, bytes read and written, and growth.
+"""Measures `show`, `show --json`, `rewrite` and `check` of blocks: time, peak memory, bytes read and written, and growth.
 
 usage: measure.py PROGRAM [PLAIN]
-Times are the least of several runs, as the program's own processor time and as wall time. PLAIN is a program that shows
-and rewrites in plain Rust: it is measured beside each, and is to write the same bytes. A second table is of blocks of
-scopes and devices, with the time of `iasl -d` beside `show` where iasl is installed.
+Times are the least of several runs, as the program's own processor time and as wall time. PLAIN is a program that does
+the same in plain Rust: it is measured beside each, and is to write the same bytes. A second table is of blocks of
+scopes and devices, with the time of `iasl -d` beside `show` where iasl is installed; a third is of machines with the
+tables of processors.
 """
 
 import itertools
@@ -150,11 +151,97 @@ def chain(count):
     return block(content)
 
 
+def numbers(values):
+    """A package of double words, as firmware fills them in."""
+    return package(b"".join(b"\x0c" + n.to_bytes(4, "little") for n in values), len(values))
+
+
+def rows(states):
+    """A package of these states."""
+    return package(b"".join(states), len(states))
+
+
+def register(space, width, access, address):
+    """A buffer that holds the resource template of one register."""
+    template = bytes([0x82, 0x0C, 0, space, width, 0, access]) + address.to_bytes(8, "little") + b"\x79\x00"
+    return b"\x11" + length(2 + len(template)) + b"\x0a\x11" + template
+
+
+def low_power(latencies):
+    """A `_LPI` of a state for each of these wake latencies, each of which lets its container into all shallower ones."""
+    states = b"".join(
+        package(
+            b"".join(b"\x0c" + n.to_bytes(4, "little") for n in (10 * latency, latency, 1, 0, 0, i))
+            + register(0x7F, 32, 3, i + 1) + 2 * register(0, 0, 0, 0) + b"\x0dSTATE\x00",
+            10,
+        )
+        for i, latency in enumerate(latencies)
+    )
+    return b"\x08_LPI" + package(b"\x00\x00\x0a" + bytes([len(latencies)]) + states, 3 + len(latencies))
+
+
+def c_states(domain, count):
+    """A `_CST` of three states, and a `_CSD` that so many processors share at the second one."""
+    states = ((1, 1, 1000), (2, 100, 500), (3, 800, 200))
+    listed = b"".join(package(register(1, 8, 1, 0x413 + kind) + b"\x0a" + bytes([kind]) + b"\x0b" + latency.to_bytes(2, "little")
+                              + b"\x0b" + power.to_bytes(2, "little"), 4) for kind, latency, power in states)
+    return b"\x08_CST" + package(b"\x0a\x03" + listed, 4) + b"\x08_CSD" + rows([numbers((6, 0, domain, 0xFC, count, 1))])
+
+
+def scales(domain, count, states):
+    """Performance and throttling states with their registers and limits, and the domain that so many processors share."""
+    perf = rows([numbers((4000 - i, 15000, 10, 10, 0x1800 + i, 0x1800 + i)) for i in range(states)])
+    throttle = rows([numbers((100, 1000 - i, 0, i, 0)) for i in range(states)])
+    shared = rows([numbers((5, 0, domain, 0xFC, count))])
+    control, status = register(1, 8, 1, 0xB2), register(1, 8, 1, 0xB3)
+    return b"".join(
+        b"\x08" + name + value
+        for name, value in (
+            (b"_PSS", perf), (b"_PCT", package(control + status, 2)), (b"_PPC", b"\x00"), (b"_PSD", shared),
+            (b"_TSS", throttle), (b"_PTC", package(control + status, 2)), (b"_TPC", b"\x00"), (b"_TSD", shared),
+        )
+    )
+
+
+def processor(number, states):
+    """A processor of a cluster of eight: every second cluster has C states in place of low power idle states."""
+    cluster = number // 8
+    idle = c_states(cluster, 8) if cluster % 2 else low_power((10, 50, 200))
+    named = b"\x08_HID\x0dACPI0007\x00\x08_UID\x0b" + number.to_bytes(2, "little")
+    return holder(DEVICE, b"P%03X" % number, named + idle + scales(cluster, 8, states))
+
+
+def clusters(count, states):
+    """So many processors in clusters of eight."""
+    for first in range(0, count, 8):
+        inside = b"\x08_HID\x0dACPI0010\x00" + low_power((100, 500))
+        inside += b"".join(processor(number, states) for number in range(first, first + 8))
+        yield holder(DEVICE, b"CL%02X" % (first // 8), inside)
+
+
+def processors(count):
+    """So many processors with tables of 250 performance and as many throttling states."""
+    return block(holder(SCOPE, b"\\_SB_", b"".join(clusters(count, 250))))
+
+
+def machine(count):
+    """248 processors with tables of 16 states, and so many other devices with an identifier, resources and settings."""
+    resources = register(0, 32, 3, 0xFE0B0000)
+    content = b"\x08_HID\x0dPNP0A08\x00\x08_UID\x01\x08_CRS" + resources + b"\x08SETS" + rows([numbers(range(8))] * 4)
+    others = b"".join(holder(DEVICE, b"D" + s[1:], content) for s in itertools.islice(paths(), count))
+    return block(holder(SCOPE, b"\\_SB_", b"".join(clusters(248, 16)) + others))
+
+
+def words_of(program, command, path):
+    """The words of a run: a command may have a flag behind it."""
+    return [program, *command.split(), path]
+
+
 def run(program, command, path):
     """One run: wall seconds, processor seconds, and bytes written."""
     before = busy()
     start = time.perf_counter()
-    done = subprocess.run([program, command, path], stdout=subprocess.PIPE, check=True)
+    done = subprocess.run(words_of(program, command, path), stdout=subprocess.PIPE, check=True)
     wall = time.perf_counter() - start
     return wall, busy() - before, done.stdout
 
@@ -169,7 +256,7 @@ def run_apart(words):
 
 def written_by(program, command, path):
     """How many bytes a run writes."""
-    with subprocess.Popen([program, command, path], stdout=subprocess.PIPE) as running:
+    with subprocess.Popen(words_of(program, command, path), stdout=subprocess.PIPE) as running:
         return sum(len(piece) for piece in iter(lambda: running.stdout.read(1 << 20), b""))
 
 
@@ -185,7 +272,7 @@ def peak_memory(program, command, path):
     if not os.access("/usr/bin/time", os.X_OK):
         return None
     done = subprocess.run(
-        ["/usr/bin/time", "-f", "%M", program, command, path], stdout=subprocess.DEVNULL, stderr=subprocess.PIPE, check=True
+        ["/usr/bin/time", "-f", "%M", *words_of(program, command, path)], stdout=subprocess.DEVNULL, stderr=subprocess.PIPE, check=True
     )
     return int(done.stderr)
 
@@ -222,7 +309,7 @@ def objects(program, plain):
         ("nested packages", nested),
     ]
     for what, made in kinds:
-        for command in ("show", "rewrite"):
+        for command in ("show", "show --json", "rewrite"):
             cases += [(command, f"{n} MiB of {what}", made(n << 20)) for n in (1, 2, 4)]
     heads = ["work", "block, bytes", "output, bytes", "time, ms", "processor, ms", "ns a byte", "peak memory, KiB", "memory a byte"]
     heads += ["time against half", "plain Rust, ms", "against plain Rust", "plain Rust, memory a byte"]
@@ -248,13 +335,27 @@ def objects(program, plain):
 
 
 def scopes(program, plain):
-    """The table of blocks of scopes and devices. The output goes to the null device, but where the plain program is beside."""
+    """The table of blocks of scopes and devices."""
     kinds = [
         ("devices of 64 names", tree, (1600, 3200, 6400)),
         ("names in one scope", one_scope, (62500, 125000, 250000)),
         ("devices of 255 states", performance, (64, 128, 256)),
         ("names below 32 scopes of 255 segments", chain, (25000, 50000, 100000)),
     ]
+    grown(program, plain, kinds, ("show", "rewrite"))
+
+
+def machines(program, plain):
+    """The table of machines with the tables of processors."""
+    kinds = [
+        ("processors of 500 states", processors, (64, 128, 248)),
+        ("devices beside 248 processors", machine, (4000, 8000, 16000)),
+    ]
+    grown(program, plain, kinds, ("check", "show --json"))
+
+
+def grown(program, plain, kinds, commands):
+    """A table of blocks that grow. The output goes to the null device, but where the plain program is beside."""
     heads = ["work", "block, bytes", "output, bytes", "time, ms", "processor, ms", "ns a byte in and out"]
     heads += ["peak memory, KiB", "memory a byte", "time against half", "iasl -d, ms"]
     heads += ["plain Rust, ms", "against plain Rust", "plain Rust, memory a byte"]
@@ -263,12 +364,12 @@ def scopes(program, plain):
     with tempfile.TemporaryDirectory() as folder:
         path = Path(folder) / "block.aml"
         for what, made, counts in kinds:
-            for command in ("show", "rewrite"):
+            for command in commands:
                 before = None
                 for count in counts:
                     path.write_bytes(made(count))
                     size, output = path.stat().st_size, written_by(program, command, str(path))
-                    runs = [run_apart([program, command, str(path)]) for _ in range(RUNS if output < 1 << 28 else 2)]
+                    runs = [run_apart(words_of(program, command, str(path))) for _ in range(RUNS if output < 1 << 28 else 2)]
                     wall, used = (min(r[i] for r in runs) * 1e3 for i in (0, 1))
                     peak = peak_memory(program, command, str(path))
                     row = [f"{command}, {count} {what}", size, output, f"{wall:.1f}", f"{used:.1f}", f"{wall * 1e6 / (size + output):.1f}"]
@@ -289,6 +390,8 @@ def main():
     objects(program, plain)
     print()
     scopes(program, plain)
+    print()
+    machines(program, plain)
 
 
 main()

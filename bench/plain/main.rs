@@ -1,0 +1,95 @@
+//! What `show`, `show --json`, `rewrite` and `check` do to blocks, written once more in plain Rust
+//! with nothing proved: the measure of speed that bench/run sets beside the program. It reads a
+//! block whole into a tree, with every test of lengths, counts, names, depth and sum. `rewrite`
+//! writes it in its shortest spelling; the others place its objects, none where one was placed
+//! before; `show` prints each, and `check` reads the tables of processors and prints the plan of
+//! the machine. Which fault a block has it doesn't tell; that of a table it does.
+//! usage: plain show|rewrite|check [--json] FILE..
+
+mod check;
+mod json;
+mod machine;
+mod plan;
+mod read;
+mod show;
+mod space;
+mod tables;
+mod written;
+
+use read::Term;
+use space::Space;
+use std::io::{self, BufWriter, Write};
+use std::process::ExitCode;
+
+/// Prints the plan; or else the line that says why there is none.
+fn check(space: &Space, out: impl Write) -> io::Result<ExitCode> {
+    let planned = machine::machine(space).and_then(|mut machine| {
+        let plan = plan::plan(&mut machine)?;
+        Ok((machine, plan))
+    });
+    match planned {
+        Ok((machine, plan)) => {
+            check::print_plan(space, &machine, &plan, out)?;
+            Ok(ExitCode::SUCCESS)
+        }
+        Err(refused) => {
+            check::print_refused(space, &refused, io::stderr())?;
+            Ok(ExitCode::from(1))
+        }
+    }
+}
+
+fn rewrite(blocks: &[(Vec<u8>, Vec<Term>)], mut out: impl Write) -> io::Result<ExitCode> {
+    for (block, terms) in blocks {
+        out.write_all(&written::written(block, terms))?;
+    }
+    Ok(ExitCode::SUCCESS)
+}
+
+/// Does this on the objects of the blocks.
+fn on_objects(command: &str, json: bool, blocks: &[(Vec<u8>, Vec<Term>)]) -> io::Result<ExitCode> {
+    let mut page = BufWriter::with_capacity(1 << 16, io::stdout());
+    let Some(space) = Space::of(blocks) else {
+        eprintln!("block: given twice");
+        return Ok(ExitCode::from(1));
+    };
+    let done = match (command, json) {
+        ("check", _) => check(&space, &mut page)?,
+        (_, true) => json::show_json(&space, &mut page).map(|()| ExitCode::SUCCESS)?,
+        (_, false) => show::show(&space, &mut page).map(|()| ExitCode::SUCCESS)?,
+    };
+    // As the program does it: the process ends now.
+    std::mem::forget(space);
+    Ok(done)
+}
+
+/// Each block with its terms; none where one isn't spelled, or all are too large.
+fn read_all(files: &[String]) -> Option<Vec<(Vec<u8>, Vec<Term>)>> {
+    let mut blocks = Vec::new();
+    let mut whole = 0;
+    for file in files {
+        let block = std::fs::read(file).expect("the file can be read");
+        whole += block.len();
+        let terms = read::parse(&block).filter(|_| whole <= 1 << 24)?;
+        blocks.push((block, terms));
+    }
+    Some(blocks)
+}
+
+fn main() -> ExitCode {
+    let (flags, words): (Vec<String>, Vec<String>) =
+        std::env::args().skip(1).partition(|word| word == "--json");
+    let Some((command, files)) = words.split_first() else {
+        panic!("usage: plain show|rewrite|check [--json] FILE..");
+    };
+    let Some(blocks) = read_all(files) else {
+        eprintln!("block: refused");
+        return ExitCode::from(1);
+    };
+    let done = match command.as_str() {
+        "rewrite" => rewrite(&blocks, io::stdout().lock()),
+        command => on_objects(command, !flags.is_empty(), &blocks),
+    };
+    std::mem::forget(blocks);
+    done.expect("the output can be written")
+}
