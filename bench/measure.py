@@ -286,11 +286,15 @@ def beside(plain, command, path, written):
 
 
 def plain_cells(plain, command, path, wall, written):
-    """The cells on the plain program: its milliseconds, how often that goes into ours, and its memory a byte."""
+    """The cells on the plain program: its milliseconds, how often that goes into ours, its memory a byte; and of JSON how
+    often the time of one that writes the text with no values goes into ours."""
     if not plain:
-        return ["", "", ""]
+        return ["", "", "", ""]
     took, space = beside(plain, command, str(path), written)
-    return [f"{took:.1f}", f"{wall / took:.2f}", f"{space * 1024 / path.stat().st_size:.1f}" if space else ""]
+    direct = ""
+    if "--json" in command:
+        direct = f"{wall / beside(plain, command + ' --direct', str(path), written)[0]:.2f}"
+    return [f"{took:.1f}", f"{wall / took:.2f}", f"{space * 1024 / path.stat().st_size:.1f}" if space else "", direct]
 
 
 def row_of(cells):
@@ -312,7 +316,7 @@ def objects(program, plain):
         for command in ("show", "show --json", "rewrite"):
             cases += [(command, f"{n} MiB of {what}", made(n << 20)) for n in (1, 2, 4)]
     heads = ["work", "block, bytes", "output, bytes", "time, ms", "processor, ms", "ns a byte", "peak memory, KiB", "memory a byte"]
-    heads += ["time against half", "plain Rust, ms", "against plain Rust", "plain Rust, memory a byte"]
+    heads += ["time against half", "plain Rust, ms", "against plain Rust", "plain Rust, memory a byte", "against JSON written directly"]
     print(row_of(heads))
     print("|---" * len(heads) + "|")
     before = None
@@ -358,7 +362,7 @@ def grown(program, plain, kinds, commands):
     """A table of blocks that grow. The output goes to the null device, but where the plain program is beside."""
     heads = ["work", "block, bytes", "output, bytes", "time, ms", "processor, ms", "ns a byte in and out"]
     heads += ["peak memory, KiB", "memory a byte", "time against half", "iasl -d, ms"]
-    heads += ["plain Rust, ms", "against plain Rust", "plain Rust, memory a byte"]
+    heads += ["plain Rust, ms", "against plain Rust", "plain Rust, memory a byte", "against JSON written directly"]
     print(row_of(heads))
     print("|---" * len(heads) + "|")
     with tempfile.TemporaryDirectory() as folder:

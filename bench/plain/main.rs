@@ -4,7 +4,8 @@
 //! writes it in its shortest spelling; the others place its objects, none where one was placed
 //! before; `show` prints each, and `check` reads the tables of processors and prints the plan of
 //! the machine. Which fault a block has it doesn't tell; that of a table it does.
-//! usage: plain show|rewrite|check [--json] FILE..
+//! `--json` makes values first, as the program does, and `--json --direct` writes the text without.
+//! usage: plain show|rewrite|check [--json [--direct]] FILE..
 
 mod check;
 mod json;
@@ -14,6 +15,7 @@ mod read;
 mod show;
 mod space;
 mod tables;
+mod values;
 mod written;
 
 use read::Term;
@@ -47,16 +49,17 @@ fn rewrite(blocks: &[(Vec<u8>, Vec<Term>)], mut out: impl Write) -> io::Result<E
 }
 
 /// Does this on the objects of the blocks.
-fn on_objects(command: &str, json: bool, blocks: &[(Vec<u8>, Vec<Term>)]) -> io::Result<ExitCode> {
+fn on_objects(command: &str, flags: &[String], blocks: &[(Vec<u8>, Vec<Term>)]) -> io::Result<ExitCode> {
     let mut page = BufWriter::with_capacity(1 << 16, io::stdout());
     let Some(space) = Space::of(blocks) else {
         eprintln!("block: given twice");
         return Ok(ExitCode::from(1));
     };
-    let done = match (command, json) {
+    let done = match (command, flags.len()) {
         ("check", _) => check(&space, &mut page)?,
-        (_, true) => json::show_json(&space, &mut page).map(|()| ExitCode::SUCCESS)?,
-        (_, false) => show::show(&space, &mut page).map(|()| ExitCode::SUCCESS)?,
+        (_, 0) => show::show(&space, &mut page).map(|()| ExitCode::SUCCESS)?,
+        (_, 1) => values::show_json(&space, &mut page).map(|()| ExitCode::SUCCESS)?,
+        _ => json::show_json(&space, &mut page).map(|()| ExitCode::SUCCESS)?,
     };
     // As the program does it: the process ends now.
     std::mem::forget(space);
@@ -78,9 +81,9 @@ fn read_all(files: &[String]) -> Option<Vec<(Vec<u8>, Vec<Term>)>> {
 
 fn main() -> ExitCode {
     let (flags, words): (Vec<String>, Vec<String>) =
-        std::env::args().skip(1).partition(|word| word == "--json");
+        std::env::args().skip(1).partition(|word| word.starts_with("--"));
     let Some((command, files)) = words.split_first() else {
-        panic!("usage: plain show|rewrite|check [--json] FILE..");
+        panic!("usage: plain show|rewrite|check [--json [--direct]] FILE..");
     };
     let Some(blocks) = read_all(files) else {
         eprintln!("block: refused");
@@ -88,7 +91,7 @@ fn main() -> ExitCode {
     };
     let done = match command.as_str() {
         "rewrite" => rewrite(&blocks, io::stdout().lock()),
-        command => on_objects(command, !flags.is_empty(), &blocks),
+        command => on_objects(command, &flags, &blocks),
     };
     std::mem::forget(blocks);
     done.expect("the output can be written")

@@ -1,5 +1,5 @@
 -- A task has one text of what files hold, or refuses it in one way.
-use Rattle.std.proofs.Common.{◌≡◌, ℕ, ◌-◌, true, List, [], length, Option, Result, Ok, Err, inl, inr, ◌⊎◌, refl, sym, ap, subst, ◌∙◌, arith}
+use Rattle.std.proofs.Common.{◌≡◌, ℕ, ◌-◌, true, List, [], length, Result, Err, inl, inr, refl, sym, ap, subst, ◌∙◌, arith}
 use Rattle.std.proofs.lemmas.List.Elements.{Contains-get_or}
 use Rattle.pw_base.specs.Seen.{FilesSeen}
 use Rattle.aml_block.specs.declared.block.Block.{Block}
@@ -7,16 +7,15 @@ use Rattle.acpi_space.specs.Distinct.{IsDistinct}
 use Rattle.acpi_space.specs.Namespace.{Entry, entries_in, places_of}
 use Rattle.acpi_space.proofs.Seen.{first_repeat_repeats}
 use Rattle.acpi_build.specs.declared.note.Note.{Note}
-use Rattle.acpi_build.specs.Planning.{AreSame, IsPlanFrom, parts_within}
+use Rattle.acpi_build.specs.Planning.{AreSame}
 use Rattle.pw_plan.specs.declared.plan.Plan.{Plan}
 use Rattle.acpi_build.proofs.Planned.{same_plan}
 use Rattle.pw_check.specs.CheckText.{check_text}
 use Rattle.pw_check.specs.Refusals.{refusal_line}
-use Rattle.pw_blocks.specs.Held.{name_at, HoldBlocks}
+use Rattle.pw_blocks.specs.Held.{name_at}
 use Rattle.pw_blocks.proofs.OneReading.{same_blocks, same_first_fault, blocks_not_fault}
 use Rattle.pw_words.specs.declared.command.Task.{Task}
 use Rattle.pw_words.specs.declared.command.Task.TheVariants.{Show, ShowAsJson, Rewrite, Check}
-use Rattle.pw_ends.specs.Ends.{Work}
 use Rattle.pw_ends.specs.Seen.{NoneFailed}
 use Rattle.pw_ends.proofs.Completeness.{IsOne}
 use Rattle.pw_load.specs.Lines.{blocks_line, twice_line}

@@ -1,5 +1,5 @@
 -- What the parts of a task do is what the task does.
-use Rattle.std.proofs.Common.{◌≡◌, ℕ, true, List, inl, inr, ◌⊎◌, ap, subst}
+use Rattle.std.proofs.Common.{◌≡◌, ℕ, List, inr, ap, subst}
 use Rattle.std.proofs.lemmas.Bool.{false≢true}
 use Rattle.pw_base.specs.Seen.{FilesSeen}
 use Rattle.aml_block.specs.declared.block.Block.{Block}
