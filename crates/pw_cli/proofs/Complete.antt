@@ -1,11 +1,11 @@
 -- What must come, want of memory aside.
-use Rattle.std.proofs.Common.{◌≡◌, ℕ, true, List, [], codes, inl, inr, refl, subst, ◌⊎◌, arith}
+use Rattle.std.proofs.Common.{◌≡◌, ℕ, true, List, [], codes, inl, inr, refl, subst, arith}
 use Rattle.pw_base.specs.Seen.{FilesSeen, Grew, GrewByLine}
 use Rattle.pw_words.specs.Words.{AskFor, Asked, IsCommand}
 use Rattle.pw_words.specs.Words.Asked.{on_blocks}
 use Rattle.pw_words.proofs.Asking.{one_asked}
 use Rattle.pw_ends.specs.Seen.{Seen, NoneFailed}
-use Rattle.pw_ends.specs.Ends.{Does, Ended, EndedSo, Work}
+use Rattle.pw_ends.specs.Ends.{Does, Work}
 use Rattle.pw_ends.specs.Ends.Stops.{refused, unread, without_memory as no_memory}
 use Rattle.pw_ends.specs.Ends.Prints.{whole, unwritten, cut}
 use Rattle.pw_ends.specs.Ends.Does.{stopped, printed}
