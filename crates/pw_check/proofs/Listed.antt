@@ -3,7 +3,7 @@ use Rattle.std.proofs.Common.{◌≡◌, ◌∙◌, ◌≤◌, ◌+◌, ℕ, Lis
 use Rattle.std.specs.List.{flat_map}
 use Rattle.pw_plan.specs.declared.plan.Plan.{Plan}
 use Rattle.acpi_build.specs.declared.note.Note.{Note}
-use Rattle.pw_check.specs.Lines.{numbered}
+use Rattle.pw_check.specs.Numbers.{numbered}
 use Rattle.pw_check.specs.CheckText.{check_text, container_line, count_line, cpu_line, domain_line, group_line, note_line}
 
 pub numbered_step : {X : Type 0} (text : ℕ → X → List ℕ) (k : ℕ) (xs : List X) (x : X) → 1 ≤ length xs → x ≡ get_or xs 0 x

@@ -7,6 +7,7 @@ use Rattle.acpi_values.specs.declared.dependency.Coord.TheVariants.{SwAll, SwAny
 use Rattle.acpi_values.specs.declared.idle.IdleKind.{IdleKind}
 use Rattle.acpi_values.specs.declared.idle.IdleKind.TheVariants as tables
 use Rattle.acpi_values.specs.declared.performance.Cpc.{Cpc}
+use Rattle.pw_text.specs.Lines.{line_of}
 use Rattle.pw_text.specs.Text.{place_text}
 use Rattle.pw_plan.specs.declared.domain.Domain.{Domain}
 use Rattle.pw_plan.specs.declared.domain.DomainKind.{DomainKind}
@@ -19,7 +20,7 @@ use Rattle.pw_plan.specs.Parts.{container_in, count_of}
 use Rattle.acpi_build.specs.declared.note.Note.{Note}
 use Rattle.acpi_build.specs.declared.note.NoteKind.{NoteKind}
 use Rattle.acpi_build.specs.declared.note.NoteKind.TheVariants as notes
-use Rattle.pw_check.specs.Lines.{line_of, numbered, pair_text}
+use Rattle.pw_check.specs.Numbers.{numbered, pair_text}
 
 -- # Words
 

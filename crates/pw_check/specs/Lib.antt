@@ -1,3 +1,3 @@
-pub mod Lines
+pub mod Numbers
 pub mod CheckText
 pub mod Refusals

@@ -2,10 +2,11 @@
 use Rattle.std.specs.Prelude.{ℕ, ◌==◌, List, [], ◌∷◌, codes, decimal, if◌then◌else◌}
 use Rattle.acpi_values.specs.declared.fault.Why.{Why}
 use Rattle.acpi_values.specs.declared.fault.Why.TheVariants.{Kind, Count, Revision, Range, Register}
+use Rattle.pw_text.specs.Lines.{line_of}
 use Rattle.pw_text.specs.Text.{place_text}
 use Rattle.acpi_build.specs.declared.fault.BuildFault.{BuildFault}
 use Rattle.acpi_build.specs.declared.fault.BuildFault.TheVariants.{Object, Limit, Memory}
-use Rattle.pw_check.specs.Lines.{line_of, pair_text}
+use Rattle.pw_check.specs.Numbers.{pair_text}
 
 -- why an object means nothing
 abbrev pub why_word : Why → List ℕ

@@ -1,6 +1,6 @@
 ghost use Rattle.std.specs.Prelude.{◌≡◌, ◌∷◌, is_ok};
 ghost use Rattle.pw_text.specs.Puts.{PutsText};
-ghost use Rattle.pw_check.specs.Lines.{numbered};
+ghost use Rattle.pw_check.specs.Numbers.{numbered};
 ghost use Rattle.pw_check.specs.CheckText.{declared_text, domain_line, fit_text, group_line, number_text};
 
 use crate::names::{coord_name, kind_name};

@@ -1,7 +1,8 @@
 ghost use Rattle.std.specs.Prelude.{◌≡◌, ◌∷◌, [], codes, decimal, is_ok};
+ghost use Rattle.pw_text.specs.Lines.{line_of};
 ghost use Rattle.pw_text.specs.Puts.{PutsText};
 ghost use Rattle.pw_text.specs.Text.{place_text};
-ghost use Rattle.pw_check.specs.Lines.{line_of, pair_text};
+ghost use Rattle.pw_check.specs.Numbers.{pair_text};
 ghost use Rattle.pw_check.specs.Refusals.{limit_word, refusal_line, why_word};
 
 use crate::names::{limit_name, why_name};

@@ -1,7 +1,7 @@
 ghost use Rattle.std.specs.Prelude.{◌≡◌, ◌∷◌, ◌++◌, decimal, is_ok};
 ghost use Rattle.pw_text.specs.Puts.{PutsText};
 ghost use Rattle.pw_text.specs.Text.{place_text};
-ghost use Rattle.pw_check.specs.Lines.{pair_text};
+ghost use Rattle.pw_check.specs.Numbers.{pair_text};
 
 use aml_data::Seg;
 use pw_base::{Failed, Sink};

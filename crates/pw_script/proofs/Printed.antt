@@ -23,7 +23,8 @@ use Rattle.pw_model.specs.States.{opening}
 use Rattle.pw_model.specs.History.{StatesRequest, after_entry, request_of}
 use Rattle.pw_model.specs.Operations.{opening_ops}
 use Rattle.pw_model.proofs.Staying.{request_has}
-use Rattle.pw_script.specs.HistoryText.{entry_lines, history_lines, history_text, lines_from, op_line, opening_lines, path_of, request_line, request_words, text_of}
+use Rattle.pw_text.specs.Lines.{text_of}
+use Rattle.pw_script.specs.HistoryText.{entry_lines, history_lines, history_text, lines_from, op_line, opening_lines, path_of, request_line, request_words}
 use Rattle.pw_script.specs.inner.Behind.{behind, head_text}
 use Rattle.pw_script.specs.inner.Openings.{opened, opening_line}
 use Rattle.pw_script.proofs.Spacing.{behind_append, behind_more, spaced_behind}

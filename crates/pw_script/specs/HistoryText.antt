@@ -1,10 +1,11 @@
 -- The printed text of a history.
 use Rattle.std.specs.Prelude.{◌==◌, ◌+◌, ◌-◌, ℕ, List, [], ◌∷◌, ◌++◌, map, take, codes, decimal, Option, Some, None, if◌then◌else◌}
-use Rattle.std.specs.List.{flat_map, join_with_byte}
+use Rattle.std.specs.List.{join_with_byte}
 use Rattle.acpi_values.specs.declared.operation.Chain.{Chain}
 use Rattle.acpi_values.specs.declared.operation.Op.{Op}
 use Rattle.acpi_values.specs.declared.operation.Op.TheVariants.{Set, Enter}
 use Rattle.acpi_values.specs.declared.register.Register.{Register}
+use Rattle.pw_text.specs.Lines.{spaced, text_of}
 use Rattle.pw_text.specs.Text.{hex_text, place_text}
 use Rattle.pw_plan.specs.declared.plan.Plan.{Plan}
 use Rattle.pw_plan.specs.declared.request.Request.{Request}
@@ -18,16 +19,6 @@ use Rattle.pw_model.specs.States.{any_latency, opening}
 use Rattle.pw_model.specs.Answers.{answer}
 use Rattle.pw_model.specs.History.{after_entry, entry_ops, request_of}
 use Rattle.pw_model.specs.Operations.{opening_ops}
-
--- # Lines of words
-
--- words with a space between each two
-abbrev pub spaced : List (List ℕ) → List ℕ
-spaced words = join_with_byte 32 words
-
--- each line with its line feed
-abbrev pub text_of : List (List ℕ) → List ℕ
-text_of lines = flat_map (λ l. l ++ (10 ∷ [])) lines
 
 -- # Words
 

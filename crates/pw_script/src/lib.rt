@@ -20,6 +20,6 @@ pub use laws::{
     entries_have_lines, names_tell_paths, serial_histories_are_lawful, texts_tell_lines,
 };
 pub use parsing::parse;
-pub use printing::{PrintFault, print_history};
+pub use printing::print_history;
 pub use script::{Line, LineWhy, MOST_BYTES, MOST_LINES, MOST_OPERATIONS, Script, ScriptFault};
 pub use wish::{Verb, Wish};

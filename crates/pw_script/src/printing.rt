@@ -2,51 +2,27 @@ ghost use Rattle.std.specs.Prelude.{◌≡◌, ◌≤◌, ◌∷◌, ◌++◌, [
 ghost use Rattle.std.specs.Prelude.{Err, OnOk};
 ghost use Rattle.std.specs.List.{AllByRecursion};
 ghost use Rattle.pw_base.specs.Outside.{GrewByPart, KeepsSink, Rose};
+ghost use Rattle.pw_text.specs.Lines.{text_of};
 ghost use Rattle.pw_text.specs.Puts.{PutsText};
+ghost use Rattle.pw_text.specs.declared.fault.PrintFault.TheVariants as faults;
 ghost use Rattle.pw_plan.specs.Requests.{cpu_of, opening_bound};
 ghost use Rattle.pw_model.specs.States.{IsState, opening as opening_state};
 ghost use Rattle.pw_model.specs.History.{StatesRequest, after_entry};
 ghost use Rattle.pw_model.specs.Operations.{opening_ops};
-ghost use Rattle.pw_script.specs.declared.printing.PrintFault.TheVariants as faults;
 ghost use Rattle.pw_script.specs.HistoryText.{entry_lines, fault_words, history_text, lines_from, op_line};
-ghost use Rattle.pw_script.specs.HistoryText.{opening_lines, reply_words, request_line, text_of};
+ghost use Rattle.pw_script.specs.HistoryText.{opening_lines, reply_words, request_line};
 ghost use Rattle.pw_script.specs.inner.Behind.{head_text};
 ghost use Rattle.pw_script.specs.inner.Openings.{opened, opening_line};
 
 use crate::operations::{put_cpu, put_ops};
 use crate::words::{put_fault, put_labelled, put_reply, put_request};
 use acpi_values::Op;
-use pw_base::{Failed, Memory, Sink};
+use pw_base::{Failed, Sink};
 use pw_core::{Ops, State};
 use pw_model::{HistoryEntry, Reply};
 use pw_plan::{Plan, Request};
-use pw_text::{Page, put_number};
+use pw_text::{Page, PrintFault, put_number};
 use std::alloc::Global;
-
-/// Why a history wasn't printed whole.
-#[derive(Clone, Copy)]
-pub enum PrintFault {
-    /// The sink failed.
-    Sink,
-    /// Want of memory.
-    Memory,
-}
-
-impl From<Failed> for PrintFault {
-    ghost from_gives = { λ _ e. e ≡ faults.Sink };
-
-    fn from(_e: Failed) -> PrintFault {
-        PrintFault::Sink
-    }
-}
-
-impl From<Memory> for PrintFault {
-    ghost from_gives = { λ _ e. e ≡ faults.Memory };
-
-    fn from(_e: Memory) -> PrintFault {
-        PrintFault::Memory
-    }
-}
 
 /// How many operations a request has at most.
 const MOST_OF_A_REQUEST: u32 = 256;

@@ -9,10 +9,11 @@ use Rattle.pw_model.specs.declared.state.State.{State}
 use Rattle.pw_model.specs.States.{opening}
 use Rattle.pw_model.specs.History.{Faultless, after_entry, entry_of, replay, replay_from}
 use Rattle.pw_script.specs.Lawful.{IsRunOf, Lawful}
-use Rattle.pw_script.specs.HistoryText.{entry_lines, history_lines, history_text, lines_from, opening_lines, text_of}
+use Rattle.pw_text.specs.Lines.{text_of, with_feed}
+use Rattle.pw_script.specs.HistoryText.{entry_lines, history_lines, history_text, lines_from, opening_lines}
 use Rattle.pw_texts.specs.Telling.{HasSegments}
 use Rattle.pw_texts.specs.Completing.{IsStart, lines_left}
-use Rattle.pw_texts.specs.Wholes.{BeginsStart, BeginsWhole, CanBeAsked, Starts, pieces_of, with_feed}
+use Rattle.pw_texts.specs.Wholes.{BeginsStart, BeginsWhole, CanBeAsked, Starts, pieces_of}
 use Rattle.pw_texts.proofs.Completions.{completed-run}
 use Rattle.pw_texts.proofs.Cuts.{AllOver, Over}
 use Rattle.pw_texts.proofs.Determined.{lines-over}

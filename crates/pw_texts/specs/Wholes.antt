@@ -1,6 +1,7 @@
 -- Whole texts, and the lines that begin one.
 use Rattle.std.specs.Prelude.{◌≡◌, ◌==◌, ◌<◌, ◌⊎◌, ◌+◌, ◌++◌, ℕ, List, [], ◌∷◌, map, take, length, codes, Option, Some, None, if◌then◌else◌}
 use Rattle.std.specs.List.{AllByRecursion}
+use Rattle.pw_text.specs.Lines.{spaced, with_feed}
 use Rattle.pw_plan.specs.declared.plan.Plan.{Plan}
 use Rattle.pw_plan.specs.declared.request.Request.{Request}
 use Rattle.pw_plan.specs.Requests.{Has}
@@ -8,7 +9,7 @@ use Rattle.pw_model.specs.declared.entry.HistoryEntry.{HistoryEntry}
 use Rattle.pw_model.specs.declared.state.State.{State}
 use Rattle.pw_model.specs.History.{entry_ops, replay, request_of}
 use Rattle.pw_model.specs.Operations.{opening_ops}
-use Rattle.pw_script.specs.HistoryText.{fault_words, history_lines, history_text, op_line, outcome_words, request_line, spaced}
+use Rattle.pw_script.specs.HistoryText.{fault_words, history_lines, history_text, op_line, outcome_words, request_line}
 use Rattle.pw_script.specs.Lawful.{Lawful}
 use Rattle.pw_texts.specs.Telling.{IsNarrowRequest}
 use Rattle.pw_texts.specs.Completing.{IsStart}
@@ -24,9 +25,6 @@ onto_first b (l ∷ ls) = (b ∷ l) ∷ ls
 abbrev pub pieces_of : List ℕ → List (List ℕ)
 pieces_of [] = []
 pieces_of (b ∷ bs) = if b == 10 then (10 ∷ []) ∷ pieces_of bs else onto_first b (pieces_of bs)
-
-abbrev pub with_feed : List ℕ → List ℕ
-with_feed l = l ++ (10 ∷ [])
 
 -- It has its line feed.
 pub record HasFeed (l : List ℕ) : Type 0 where

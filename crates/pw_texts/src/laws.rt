@@ -1,6 +1,7 @@
 ghost use Rattle.std.specs.Prelude.{◌≡◌, ◌<◌, ◌+◌, ◌^◌, ◌∷◌, ◌++◌, ℕ, [], List, Option, None, Some};
 ghost use Rattle.std.specs.Prelude.{length, map, take, slice_index_or};
 ghost use Rattle.std.specs.List.{AllByRecursion};
+ghost use Rattle.pw_text.specs.Lines.{with_feed};
 ghost use Rattle.pw_plan.specs.declared.plan.Plan.{Plan as plan};
 ghost use Rattle.pw_plan.specs.declared.request.Request.{Request as request};
 ghost use Rattle.pw_plan.specs.Requests.{Has};
@@ -15,7 +16,7 @@ ghost use Rattle.pw_script.specs.Reading.{AreLines, LawfullyChosen, requests_of}
 ghost use Rattle.pw_texts.specs.Telling.{HasSegments, IsNarrow, IsNarrowFault, IsNarrowRequest, unseated};
 ghost use Rattle.pw_texts.specs.Completing.{IsStart, completed};
 ghost use Rattle.pw_texts.specs.Wholes.{BeginsStart, BeginsWhole, CanBeAsked, GoesOnWith, HasFeed};
-ghost use Rattle.pw_texts.specs.Wholes.{IsFirstLine, IsWhole, lines_within, next_op_lines, with_feed};
+ghost use Rattle.pw_texts.specs.Wholes.{IsFirstLine, IsWhole, lines_within, next_op_lines};
 
 use acpi_values::IdleTable;
 use pw_governor::Governor;

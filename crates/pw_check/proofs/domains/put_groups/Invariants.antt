@@ -1,6 +1,6 @@
 use Rattle.std.proofs.Common.{◌≡◌, ◌+◌, ◌++◌, ℕ, List, true, length}
 use Rattle.pw_text.specs.Puts.{PutsText}
-use Rattle.pw_check.specs.Lines.{numbered}
+use Rattle.pw_check.specs.Numbers.{numbered}
 use Rattle.pw_check.specs.CheckText.{group_line}
 use Rattle.pw_check.proofs.domains.put_groups.Given as goal
 

@@ -1,9 +1,10 @@
 use Rattle.std.proofs.Common.{◌≡◌, ◌≤◌, ◌+◌, ◌++◌, ℕ, List, true, length}
 use Rattle.std.specs.List.{AllByRecursion}
+use Rattle.pw_text.specs.Lines.{text_of}
 use Rattle.pw_text.specs.Puts.{PutsText}
 use Rattle.pw_model.specs.States.{IsState}
 use Rattle.pw_model.specs.History.{StatesRequest}
-use Rattle.pw_script.specs.HistoryText.{lines_from, text_of}
+use Rattle.pw_script.specs.HistoryText.{lines_from}
 use Rattle.pw_script.proofs.printing.put_entries.Given as goal
 
 abbrev pub invariant-loop-left : goal.invariant-loop-left

@@ -1,11 +1,5 @@
--- Lines of words.
+-- Numbers and lists in lines.
 use Rattle.std.specs.Prelude.{ℕ, ◌+◌, List, [], ◌∷◌, ◌++◌, decimal}
-
--- words with a space between each two, and a line feed
-abbrev pub line_of : List (List ℕ) → List ℕ
-line_of [] = 10 ∷ []
-line_of (word ∷ []) = word ++ 10 ∷ []
-line_of (word ∷ next ∷ words) = word ++ 32 ∷ line_of (next ∷ words)
 
 -- two numbers with a dot between
 abbrev pub pair_text : ℕ → ℕ → List ℕ
