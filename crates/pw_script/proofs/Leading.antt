@@ -1,26 +1,23 @@
 -- A map that leads to the processors from n on leads to those from n - 1 on, once it has that one.
-use Rattle.std.proofs.Common.{◌≡◌, ◌<◌, ◌≤◌, ◌+◌, ◌-◌, ◌∙◌, ℕ, suc, Bool, true, false, List, [], ◌∷◌, length, drop, get_or, cond, refl, ap, arith, zero-add, drop-cons, Vec, Global, Some, nat_cmp}
-use Rattle.std.specs.BTreeMap.{BTreeMap, get_by}
-use Rattle.std.specs.Ordering.{is_eq}
+use Rattle.std.proofs.Common.{◌≡◌, ◌<◌, ◌≤◌, ◌+◌, ◌-◌, ◌∙◌, ℕ, suc, Bool, true, false, List, [], ◌∷◌, length, drop, get_or, cond, refl, ap, arith, zero-add, drop-cons, Vec, Global, Some}
+use Rattle.std.specs.HashMap.{HashMap, get_by}
 use Rattle.std.specs.Prelude.{bytes_eq, IfSome, Option, None}
-use Rattle.std.specs.Cmp.Lexicographic.{slice_cmp}
-use Rattle.std.proofs.lemmas.Map.Text.{is_eq-slice_cmp}
 use Rattle.aml_data.specs.Segment.{joined}
 use Rattle.pw_plan.specs.declared.parts.CpuParts.{CpuParts}
 use Rattle.pw_plan.specs.declared.plan.Plan.{Plan}
 use Rattle.pw_script.specs.Forms.{cpu_from, cpu_named}
 use Rattle.pw_script.specs.inner.Looking.{LeadsTo}
 
-pub leads_on : (cpus : List CpuParts) (n : ℕ) (c : CpuParts) (key : Vec ℕ Global) (old new : BTreeMap (Vec ℕ Global) ℕ)
+pub leads_on : {S : Type 0} (cpus : List CpuParts) (n : ℕ) (c : CpuParts) (key : Vec ℕ Global) (old new : HashMap (Vec ℕ Global) ℕ S)
     → 0 < n → n ≤ length cpus → key.items ≡ joined (get_or cpus (n - 1) c).path.segs → LeadsTo n (drop n cpus) old
-    → ((q : Vec ℕ Global) → get_by (λ k. slice_cmp nat_cmp q.items k.items) new ≡ cond (is_eq (slice_cmp nat_cmp key.items q.items)) (Some (n - 1)) (get_by (λ k. slice_cmp nat_cmp q.items k.items) old))
+    → ((q : Vec ℕ Global) → get_by (λ k. bytes_eq q.items k.items) new ≡ cond (bytes_eq key.items q.items) (Some (n - 1)) (get_by (λ k. bytes_eq q.items k.items) old))
     → LeadsTo (n - 1) (drop (n - 1) cpus) new
 leads_on cpus n c key old new some within named leads puts = λ q.
     let lt : n - 1 < length cpus = omega arith in
     let next : suc (n - 1) ≡ n = omega arith in
     let split : drop (n - 1) cpus ≡ get_or cpus (n - 1) c ∷ drop (suc (n - 1)) cpus = drop-cons cpus (n - 1) c lt in
-    let test : is_eq (slice_cmp nat_cmp key.items q.items) ≡ bytes_eq (joined (get_or cpus (n - 1) c).path.segs) q.items = is_eq-slice_cmp key.items q.items ∙ ap (λ (k : List ℕ). bytes_eq k q.items) named in
-    let later : get_by (λ k. slice_cmp nat_cmp q.items k.items) old ≡ cpu_from (suc (n - 1)) (drop (suc (n - 1)) cpus) q.items = rw next (leads q) in
+    let test : bytes_eq key.items q.items ≡ bytes_eq (joined (get_or cpus (n - 1) c).path.segs) q.items = ap (λ (k : List ℕ). bytes_eq k q.items) named in
+    let later : get_by (λ k. bytes_eq q.items k.items) old ≡ cpu_from (suc (n - 1)) (drop (suc (n - 1)) cpus) q.items = rw next (leads q) in
     puts q ∙ rw (test, later, split) refl
 
 from_below : (n : ℕ) (cs : List CpuParts) (name : List ℕ) → IfSome (cpu_from n cs name) (λ p. p < n + length cs)

@@ -51,6 +51,15 @@ reads_on P c m whole items new number texts text rest wish q e w asked is so_far
     let back = so_far (record { number = suc number; request = q } ∷ more) (lines_some P c m (requests_of items) (suc number) texts text rest wish q more e w asked there) in
     rw (is, one, append_assoc) back
 
+pub past_on : (P : Plan) (c : IdleTable → ℕ → ℕ → ℕ → Type 0) (m : ScaleKind → ℕ → ℕ → ℕ → ℕ → Type 0) (whole : List line → Type 0) (items : List line) (number : ℕ) (texts : List (List ℕ)) (text : List ℕ) (rest : List (List ℕ))
+    → texts ≡ text ∷ rest → wish_in P text ≡ Ok None
+    → ((more : List line) → AreLines P c m (requests_of items) (suc number) texts more → whole (items ++ more))
+    → (more : List line) → AreLines P c m (requests_of items) (suc (number + 1)) rest more → whole (items ++ more)
+past_on P c m whole items number texts text rest e w so_far more h =
+    let one : number + 1 ≡ suc number = add-one number in
+    let there = rw one at h in
+    so_far more (lines_none P c m (requests_of items) (suc number) texts text rest more e w there)
+
 pub made_on : (P : Plan) (S T U : State) (items new : List line) (number : ℕ) (q : Request) → new ≡ items ++ record { number = number; request = q } ∷ [] → T ≡ made_from P S (requests_of items) → U ≡ after P T q → U ≡ made_from P S (requests_of new)
 made_on P S T U items new number q is before then =
     let asked_for : requests_of new ≡ requests_of items ++ q ∷ [] = ap requests_of is ∙ map-append _ items _ in

@@ -7,7 +7,7 @@ use aml_data::FullPath;
 use pw_base::Memory;
 use pw_plan::Plan;
 use std::alloc::Global;
-use std::collections::BTreeMap;
+use std::collections::HashMap;
 
 /// The segments of a path, one behind the other.
 fn key_of(alloc: Global, path: &FullPath) -> Result<Vec<u8>, Memory>
@@ -23,11 +23,11 @@ fn key_of(alloc: Global, path: &FullPath) -> Result<Vec<u8>, Memory>
 }
 
 /// The processors of a plan by their paths.
-pub(crate) fn index_of(alloc: Global, plan: &Plan) -> Result<BTreeMap<Vec<u8>, u32>, Memory>
+pub(crate) fn index_of(alloc: Global, plan: &Plan) -> Result<HashMap<Vec<u8>, u32>, Memory>
     ensures { IfOk result (λ index. LeadsTo 0 plan.now.cpus index) }
 {
     let cpus = plan.cpus.as_slice();
-    let mut index = BTreeMap::new(alloc);
+    let mut index = HashMap::new(alloc);
     let mut number = cpus.len();
     while number > 0 {
         number -= 1;
@@ -39,7 +39,7 @@ pub(crate) fn index_of(alloc: Global, plan: &Plan) -> Result<BTreeMap<Vec<u8>, u
 
 #[tactic(auto, using(crate::proofs::Leading::named_exists))]
 /// The processor with these segments.
-pub(crate) fn find(plan: &Plan, index: &BTreeMap<Vec<u8>, u32>, name: &Vec<u8>) -> Option<u32>
+pub(crate) fn find(plan: &Plan, index: &HashMap<Vec<u8>, u32>, name: &Vec<u8>) -> Option<u32>
     requires { LeadsTo 0 plan.now.cpus index.now }
     ensures named { result ≡ cpu_named plan.now name.now.items }
     ensures exists { IfSome result (λ cpu. cpu < length plan.now.cpus) }

@@ -13,7 +13,7 @@ use crate::wish::{Verb, Wish};
 use pw_base::Memory;
 use pw_model::ScaleKind;
 use pw_plan::{Plan, Request};
-use std::collections::BTreeMap;
+use std::collections::HashMap;
 
 /// The tolerance that bears any wake latency.
 const ANY_LATENCY: u32 = u32::MAX;
@@ -145,7 +145,7 @@ fn wish_by(verb: Verb, cpu: u32, n: u32, m: u32) -> Option<Wish>
 /// What a line asks for, if anything, or why it is bad. `name` is room for the segments of its path.
 pub(crate) fn wish_in(
     plan: &Plan,
-    index: &BTreeMap<Vec<u8>, u32>,
+    index: &HashMap<Vec<u8>, u32>,
     name: &mut Vec<u8>,
     line: &[u8],
 ) -> Result<Result<Option<Wish>, LineWhy>, Memory>

@@ -8,10 +8,15 @@ use itoa::Buffer;
 use pw_base::{Failed, Sink};
 
 /// Puts a number in decimal.
+#[tactic(auto, using(std::proofs::lemmas::Fmt::decimal_digit))]
 pub fn put_number<K: Sink>(page: &mut Page, sink: &mut K, number: u64) -> Result<(), Failed>
     ensures { PutsText K.Sink sink.old sink.new page.old page.new
         (decimal number) (is_ok result) }
 {
+    // Most numbers that are printed have one digit.
+    if number < 10 {
+        return page.put(sink, &[b'0' + number as u8]);
+    }
     let mut digits = Buffer::new();
     page.put(sink, digits.format(number).as_bytes())
 }

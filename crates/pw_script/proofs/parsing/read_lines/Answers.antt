@@ -1,4 +1,4 @@
-use Rattle.std.proofs.Common.{◌≡◌, ◌∙◌, suc, [], Ok, Some, sym, ap, length, arith, refl, add-one}
+use Rattle.std.proofs.Common.{◌≡◌, ◌∙◌, suc, [], Ok, None, Some, sym, ap, length, arith, refl, add-one}
 use Rattle.std.proofs.lemmas.List.{append-nil}
 use Rattle.std.proofs.lemmas.Grind.{common_steps}
 use Rattle.pw_model.specs.States.{opening}
@@ -6,7 +6,7 @@ use Rattle.pw_script.specs.Lines.{lines_of}
 use Rattle.pw_script.specs.Forms.{wish_in}
 use Rattle.pw_script.specs.Reading.{LawfullyChosen, AreLines, requests_of}
 use Rattle.pw_notice.specs.Limits.{AnsweredBy}
-use Rattle.pw_script.proofs.Making.{reads_on, made_on, bad_past, no_texts}
+use Rattle.pw_script.proofs.Making.{reads_on, past_on, made_on, bad_past, no_texts}
 use Rattle.pw_script.proofs.parsing.read_lines.Goals as goal
 
 pub loop-left-preserved : goal.loop-left-preserved
@@ -27,6 +27,24 @@ loop-left-preserved g c =
       room = omega arith;
       state = made_on P (opening P) c.loop-left.state c.apply.new.self items _ _ q is c.loop-left.invariant.state c.apply.ensures.after;
       fits = c.apply.ensures.fits;
+    }
+
+pub loop-left-preserved-in-Ok-None : goal.loop-left-preserved-in-Ok-None
+loop-left-preserved-in-Ok-None g c =
+    let P = c.args.plan.now in
+    let items = c.loop-left.lines.items in
+    let chooses = LawfullyChosen (goal.F-post g c.args.governor.now) in
+    let moves = AnsweredBy (goal.P-post g c.args.handlers.now.0) (goal.T-post g c.args.handlers.now.1) in
+    let e = c.first_line.ensures.value in
+    let size = ap length e in
+    let room = c.loop-left.invariant.room in
+    let w : wish_in P c.first_line.result.0.now ≡ Ok None = grind (arith, common_steps, c.in_ok-why.ensures.wish, c.in-Ok-None.is, c.in-Ok-None.field-0-is) in
+    record {
+      reads = past_on P chooses moves (AreLines P chooses moves [] 1 (lines_of c.args.bytes.now)) items c.loop-left.number _ _ _ e w c.loop-left.invariant.reads;
+      bad = rw add-one (sym (bad_past P (suc c.loop-left.number) _ _ _ None e w) ∙ c.loop-left.invariant.bad);
+      room = omega arith;
+      state = c.loop-left.invariant.state;
+      fits = c.loop-left.invariant.fits;
     }
 
 pub returns-clause-read : goal.returns-clause-read
