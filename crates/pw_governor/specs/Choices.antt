@@ -37,3 +37,7 @@ pub record Chooses (pre : Bor IdleTable → ℕ → ℕ → Type 0) (post : Bor 
 -- s is a state that such a function may answer for this table
 abbrev pub ChosenBy : (Bor IdleTable → ℕ → ℕ → ℕ → Type 0) → IdleTable → ℕ → ℕ → ℕ → Type 0
 ChosenBy post t tolerance residency s = (shown : Bor IdleTable) × (shown.now ≡ t) × post shown tolerance residency s
+
+-- What it answers is the value of a function, as that of `choice` for one that answers as `deepest` does.
+abbrev pub ChoosesAs : (IdleTable → ℕ → ℕ → ℕ) → (Bor IdleTable → ℕ → ℕ → ℕ → Type 0) → Type 0
+ChoosesAs choose post = (t : Bor IdleTable) (tolerance residency s : ℕ) → tolerance < 2 ^ 32 → residency < 2 ^ 32 → post t tolerance residency s → s ≡ choose t.now tolerance residency

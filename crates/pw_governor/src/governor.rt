@@ -21,7 +21,9 @@ impl<F> Model for Governor<F> {
 }
 
 impl<F: Fn(&IdleTable, u32, u32) -> u32> Governor<F> {
-    /// The governor that chooses by this function.
+    /// The governor that chooses by this function. One of another crate is passed in a closure, as
+    /// `|t: &IdleTable, a: u32, b: u32| deepest(t, a, b)`: where it is named alone, its contract isn't
+    /// seen.
     pub fn new(choose: F) -> Governor<F>
         requires { Chooses (F.pre choose) (F.post choose) }
         ensures function { result ≡ choose }

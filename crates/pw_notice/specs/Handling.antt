@@ -1,5 +1,5 @@
 -- Which limit is to stand after a notification (ACPI 6.5, 8.4.5.3 and 8.4.4.3).
-use Rattle.std.specs.Prelude.{◌<◌, ◌≤◌, ◌+◌, ◌-◌, ◌^◌, ℕ, min, nat_lt, if◌then◌else◌}
+use Rattle.std.specs.Prelude.{◌≡◌, ◌<◌, ◌≤◌, ◌+◌, ◌-◌, ◌^◌, ℕ, min, nat_lt, if◌then◌else◌}
 
 -- the value, or the last state where it is past that
 abbrev pub followed : ℕ → ℕ → ℕ
@@ -17,3 +17,7 @@ stepped count current value =
 pub record Handles (pre : ℕ → ℕ → ℕ → Type 0) (post : ℕ → ℕ → ℕ → ℕ → Type 0) : Type 0 where
   pub callable : (count current value : ℕ) → 1 ≤ count → current < count → count < 2 ^ 32 → value < 2 ^ 32 → pre count current value
   pub below : (count current value n : ℕ) → 1 ≤ count → current < count → count < 2 ^ 32 → value < 2 ^ 32 → post count current value n → n < count
+
+-- What it answers is the value of a function, as that of `stepped` for one that answers as `step` does.
+abbrev pub HandlesAs : (ℕ → ℕ → ℕ → ℕ) → (ℕ → ℕ → ℕ → ℕ → Type 0) → Type 0
+HandlesAs answer post = (count current value n : ℕ) → 1 ≤ count → current < count → count < 2 ^ 32 → value < 2 ^ 32 → post count current value n → n ≡ answer count current value

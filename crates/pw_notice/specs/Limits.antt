@@ -60,6 +60,11 @@ abbrev pub AnsweredBy : (ℕ → ℕ → ℕ → ℕ → Type 0) → (ℕ → �
 AnsweredBy perf throttle scales.Perf = perf
 AnsweredBy perf throttle scales.Throttle = throttle
 
+-- the same of two functions
+abbrev pub answer_by : (ℕ → ℕ → ℕ → ℕ) → (ℕ → ℕ → ℕ → ℕ) → ScaleKind → ℕ → ℕ → ℕ → ℕ
+answer_by perf throttle scales.Perf = perf
+answer_by perf throttle scales.Throttle = throttle
+
 -- n is what a handler may answer to the number of states, the limit that stands, and the value; without such states it
 -- is the value
 abbrev pub IsAnswer : (ℕ → ℕ → ℕ → ℕ → Type 0) → Option Scale → ℕ → ℕ → ℕ → Type 0

@@ -23,7 +23,9 @@ impl<P, T> Model for Handlers<P, T> {
 }
 
 impl<P: Fn(u32, u32, u32) -> u32, T: Fn(u32, u32, u32) -> u32> Handlers<P, T> {
-    /// The handlers that answer by these functions.
+    /// The handlers that answer by these functions. One of another crate is passed in a closure, as
+    /// `|count: u32, current: u32, value: u32| follow(count, current, value)`: where it is named alone,
+    /// its contract isn't seen.
     pub fn new(perf: P, throttle: T) -> Handlers<P, T>
         requires perf { Handles (P.pre perf) (P.post perf) }
         requires throttle { Handles (T.pre throttle) (T.post throttle) }

@@ -1,3 +1,4 @@
+pub mod Askable
 pub mod Counts
 pub mod Cutting
 mod Examples

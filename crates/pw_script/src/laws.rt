@@ -7,8 +7,16 @@ ghost use Rattle.std.specs.List.{AllByRecursion};
 ghost use Rattle.aml_data.specs.Segment.{IsSegment, joined};
 ghost use Rattle.pw_script.specs.declared.script.Line.{Line as line};
 ghost use Rattle.pw_model.specs.declared.entry.HistoryEntry.{HistoryEntry as entry};
+ghost use Rattle.pw_governor.specs.Choices.{ChoosesAs};
+ghost use Rattle.pw_notice.specs.Handling.{Handles, HandlesAs};
+ghost use Rattle.pw_notice.specs.Limits.{AnsweredBy, answer_by};
+ghost use Rattle.pw_script.specs.Asking.{CanBeAsked};
 ghost use Rattle.pw_script.specs.Lawful.{HasLine, Lawful, LawfulSerial};
-ghost use Rattle.pw_script.specs.Reading.{AreLines, Answered, Chosen};
+ghost use Rattle.pw_script.specs.Reading.{AreLines, Answered, Chosen, LawfullyChosen, requests_of};
+
+use acpi_values::IdleTable;
+use pw_governor::Governor;
+use pw_notice::Handlers;
 
 /// Where the answers are those of functions, the texts tell the lines.
 #[tactic(auto, using(crate::proofs::Existing::lines_told))]
@@ -17,6 +25,37 @@ pub fn texts_tell_lines()
         (before : List request) (n : ℕ) (texts : List (List ℕ)) (ls ms : List line)
         → AreLines P (Chosen choose) (Answered answer) before n texts ls
         → AreLines P (Chosen choose) (Answered answer) before n texts ms → ls ≡ ms }
+{}
+
+/// The lines of a script can be asked, whatever the governor chooses of what it may and the handlers
+/// answer below the count of states: their processors exist, and their numbers are of 32 bits.
+pub fn lines_can_be_asked<
+    F: Fn(&IdleTable, u32, u32) -> u32,
+    P: Fn(u32, u32, u32) -> u32,
+    T: Fn(u32, u32, u32) -> u32,
+>(governor: &Governor<F>, handlers: &Handlers<P, T>)
+    requires perf { Handles (P.pre handlers.now.0) (P.post handlers.now.0) }
+    requires throttle { Handles (T.pre handlers.now.1) (T.post handlers.now.1) }
+    ensures { (M : plan) (before : List request) (n : ℕ) (texts : List (List ℕ)) (lines : List line)
+        → AreLines M (LawfullyChosen (F.post governor.now))
+        (AnsweredBy (P.post handlers.now.0) (T.post handlers.now.1)) before n texts lines
+        → CanBeAsked M (requests_of lines) }
+{}
+
+/// Where the governor and the handlers answer by functions, as those do that answer as `deepest`,
+/// `follow` and `step`, the lines are those with what the functions answer, which the texts tell.
+pub fn functions_tell_lines<
+    F: Fn(&IdleTable, u32, u32) -> u32,
+    P: Fn(u32, u32, u32) -> u32,
+    T: Fn(u32, u32, u32) -> u32,
+>(governor: &Governor<F>, handlers: &Handlers<P, T>)
+    ensures { (M : plan) (choose : table → ℕ → ℕ → ℕ) (perf throttle : ℕ → ℕ → ℕ → ℕ)
+        (before : List request) (n : ℕ) (texts : List (List ℕ)) (lines : List line)
+        → ChoosesAs choose (F.post governor.now)
+        → HandlesAs perf (P.post handlers.now.0) → HandlesAs throttle (T.post handlers.now.1)
+        → AreLines M (LawfullyChosen (F.post governor.now))
+        (AnsweredBy (P.post handlers.now.0) (T.post handlers.now.1)) before n texts lines
+        → AreLines M (Chosen choose) (Answered (answer_by perf throttle)) before n texts lines }
 {}
 
 /// Segments one behind the other tell which they are.

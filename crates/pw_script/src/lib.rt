@@ -17,7 +17,8 @@ mod wish;
 mod words;
 
 pub use laws::{
-    entries_have_lines, names_tell_paths, serial_histories_are_lawful, texts_tell_lines,
+    entries_have_lines, functions_tell_lines, lines_can_be_asked, names_tell_paths,
+    serial_histories_are_lawful, texts_tell_lines,
 };
 pub use parsing::parse;
 pub use printing::print_history;

@@ -7,7 +7,9 @@ ghost use Rattle.pw_script.specs.declared.script.Line.{Line as line};
 ghost use Rattle.pw_script.specs.declared.script.TheConstants.{MOST_LINES, MOST_OPERATIONS};
 ghost use Rattle.pw_script.specs.declared.script.ScriptFault.TheVariants as faults;
 ghost use Rattle.pw_script.specs.Lines.{lines_of};
+ghost use Rattle.pw_script.specs.Asking.{CanBeAsked};
 ghost use Rattle.pw_script.specs.Reading.{AreLines, Fit, LawfullyChosen, first_bad, operations, refused};
+ghost use Rattle.pw_script.specs.Reading.{requests_of};
 
 use crate::asking::request_of;
 use crate::index::index_of;
@@ -119,6 +121,8 @@ pub fn parse<
     ensures read { IfOk result (λ script. AreLines plan.now (LawfullyChosen (F.post governor.now))
         (AnsweredBy (P.post handlers.now.0) (T.post handlers.now.1)) [] 1 (lines_of bytes.now) script.lines) }
     ensures fit { IfOk result (λ script. Fit plan.now (lines_of bytes.now) script.lines) }
+    // Each line's processor exists, and its numbers are of 32 bits.
+    ensures asked { IfOk result (λ script. CanBeAsked plan.now (requests_of script.lines)) }
     ensures fits { IfOk result (λ script. operations plan.now script.lines ≤ MOST_OPERATIONS) }
     // A fault is that of the bytes, or want of memory, or the lines have too many operations.
     ensures fault { IfErr result (λ fault. fault ≢ faults.Memory → (refused plan.now bytes.now ≡ Some fault)

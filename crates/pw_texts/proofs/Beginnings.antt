@@ -13,7 +13,8 @@ use Rattle.pw_text.specs.Lines.{text_of, with_feed}
 use Rattle.pw_script.specs.HistoryText.{entry_lines, history_lines, history_text, lines_from, opening_lines}
 use Rattle.pw_texts.specs.Telling.{HasSegments}
 use Rattle.pw_texts.specs.Completing.{IsStart, lines_left}
-use Rattle.pw_texts.specs.Wholes.{BeginsStart, BeginsWhole, CanBeAsked, Starts, pieces_of}
+use Rattle.pw_script.specs.Asking.{CanBeAsked}
+use Rattle.pw_texts.specs.Wholes.{BeginsStart, BeginsWhole, Starts, pieces_of}
 use Rattle.pw_texts.proofs.Completions.{completed-run}
 use Rattle.pw_texts.proofs.Cuts.{AllOver, Over}
 use Rattle.pw_texts.proofs.Determined.{lines-over}

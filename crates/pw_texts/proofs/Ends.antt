@@ -14,7 +14,8 @@ use Rattle.pw_script.specs.HistoryText.{history_lines, history_text, lines_from,
 use Rattle.pw_texts.specs.Telling.{HasSegments, IsNarrowFault, unseated}
 use Rattle.pw_texts.specs.Completing.{IsStart}
 use Rattle.pw_text.specs.Lines.{with_feed}
-use Rattle.pw_texts.specs.Wholes.{BeginsWhole, CanBeAsked, HasFeed, IsFirstLine, IsWhole, pieces_of}
+use Rattle.pw_script.specs.Asking.{CanBeAsked}
+use Rattle.pw_texts.specs.Wholes.{BeginsWhole, HasFeed, IsFirstLine, IsWhole, pieces_of}
 use Rattle.pw_texts.proofs.Alike.{legal-alike, requests-alike}
 use Rattle.pw_texts.proofs.Beginnings.{text_lines}
 use Rattle.pw_texts.proofs.Determined.{head-opening, head_of, heads-tell, opening-same, text-tells}

@@ -9,4 +9,3 @@ pub mod Alike
 pub mod Nexts
 pub mod Narrow
 pub mod Ends
-pub mod Scripted

@@ -15,7 +15,8 @@ use Rattle.pw_model.proofs.Bounds.{opening_ops-length, ops_of-le}
 use Rattle.pw_notice.specs.Limits.{own, requests}
 use Rattle.pw_script.specs.Lawful.{IsRunOf, Lawful}
 use Rattle.pw_script.proofs.Printed.{bound_small}
-use Rattle.pw_texts.specs.Telling.{IsNarrow, IsNarrowFault, IsNarrowRequest}
+use Rattle.pw_script.specs.Asking.{IsNarrowRequest}
+use Rattle.pw_texts.specs.Telling.{IsNarrow, IsNarrowFault}
 use Rattle.pw_texts.specs.Completing.{IsStart}
 use Rattle.pw_texts.proofs.Firsts.{each_first, own-past}
 

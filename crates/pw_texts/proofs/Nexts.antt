@@ -15,7 +15,8 @@ use Rattle.pw_script.specs.HistoryText.{history_lines, lines_from, op_line, open
 use Rattle.pw_texts.specs.Telling.{HasSegments, IsNarrow, IsNarrowFault, unseated}
 use Rattle.pw_texts.specs.Completing.{IsStart}
 use Rattle.pw_text.specs.Lines.{with_feed}
-use Rattle.pw_texts.specs.Wholes.{BeginsWhole, CanBeAsked, GoesOnWith, entry_line, pieces_of}
+use Rattle.pw_script.specs.Asking.{CanBeAsked}
+use Rattle.pw_texts.specs.Wholes.{BeginsWhole, GoesOnWith, entry_line, pieces_of}
 use Rattle.pw_texts.proofs.Alike.{legal-alike, requests-alike}
 use Rattle.pw_texts.proofs.Beginnings.{text_lines}
 use Rattle.pw_texts.proofs.Completions.{first-begins}

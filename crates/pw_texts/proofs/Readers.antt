@@ -17,7 +17,8 @@ use Rattle.pw_model.specs.Answers.{answer}
 use Rattle.pw_model.specs.History.{IsEntry, entry_of, request_of}
 use Rattle.pw_model.proofs.Staying.{request_cpu}
 use Rattle.pw_script.specs.HistoryText.{fault_words, outcome_words, path_of, reply_words, request_words}
-use Rattle.pw_texts.specs.Telling.{HasSegments, IsNarrow, IsNarrowRequest, unseated}
+use Rattle.pw_script.specs.Asking.{IsNarrowRequest}
+use Rattle.pw_texts.specs.Telling.{HasSegments, IsNarrow, unseated}
 use Rattle.pw_texts.specs.Wholes.{entry_line}
 use Rattle.pw_texts.proofs.Cuts.{Over, joined-same}
 use Rattle.pw_texts.proofs.Words.{decimal-over, entry-over, path_of-same}

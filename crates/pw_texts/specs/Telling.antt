@@ -4,8 +4,6 @@ use Rattle.std.specs.List.{AllByRecursion}
 use Rattle.aml_data.specs.Segment.{IsSegment}
 use Rattle.pw_plan.specs.declared.parts.CpuParts.{CpuParts}
 use Rattle.pw_plan.specs.declared.plan.Plan.{Plan}
-use Rattle.pw_plan.specs.declared.request.Request.{Request}
-use Rattle.pw_plan.specs.declared.request.Request.TheVariants.{Idle, Wake, Perf, Throttle, PerfLimit, ThrottleLimit}
 use Rattle.pw_model.specs.declared.entry.HistoryEntry.{HistoryEntry}
 
 -- a processor's path is made of segments (ACPI 6.5, 20.2.2)
@@ -23,15 +21,6 @@ pub record IsNarrow (e : HistoryEntry) : Type 0 where
   pub argument : e.argument < 2 ^ 32
   pub tolerance : e.tolerance < 2 ^ 32
   pub fault : e.fault < 2 ^ 32
-
--- those of a request
-abbrev pub IsNarrowRequest : Request → Type 0
-IsNarrowRequest (Idle p s t) = (s < 2 ^ 32) × (t < 2 ^ 32)
-IsNarrowRequest (Wake p) = Unit {0}
-IsNarrowRequest (Perf p i) = i < 2 ^ 32
-IsNarrowRequest (Throttle p i) = i < 2 ^ 32
-IsNarrowRequest (PerfLimit p n) = n < 2 ^ 32
-IsNarrowRequest (ThrottleLimit p n) = n < 2 ^ 32
 
 -- after how many operations a fault ended the opening, if one did
 abbrev pub IsNarrowFault : Option ℕ → Type 0

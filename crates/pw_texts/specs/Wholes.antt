@@ -1,17 +1,14 @@
 -- Whole texts, and the lines that begin one.
 use Rattle.std.specs.Prelude.{◌≡◌, ◌==◌, ◌<◌, ◌⊎◌, ◌+◌, ◌++◌, ℕ, List, [], ◌∷◌, map, take, length, codes, Option, Some, None, if◌then◌else◌}
-use Rattle.std.specs.List.{AllByRecursion}
 use Rattle.pw_text.specs.Lines.{spaced, with_feed}
 use Rattle.pw_plan.specs.declared.plan.Plan.{Plan}
 use Rattle.pw_plan.specs.declared.request.Request.{Request}
-use Rattle.pw_plan.specs.Requests.{Has}
 use Rattle.pw_model.specs.declared.entry.HistoryEntry.{HistoryEntry}
 use Rattle.pw_model.specs.declared.state.State.{State}
 use Rattle.pw_model.specs.History.{entry_ops, replay, request_of}
 use Rattle.pw_model.specs.Operations.{opening_ops}
 use Rattle.pw_script.specs.HistoryText.{fault_words, history_lines, history_text, op_line, outcome_words, request_line}
 use Rattle.pw_script.specs.Lawful.{Lawful}
-use Rattle.pw_texts.specs.Telling.{IsNarrowRequest}
 use Rattle.pw_texts.specs.Completing.{IsStart}
 
 -- # Lines of a text
@@ -47,11 +44,6 @@ pub record BeginsWhole (P : Plan) (asked : List Request) (lines : List (List ℕ
   pub first : take (length lines) (pieces_of text) ≡ lines
 
 -- # Beginnings
-
--- The processors of the lines exist, and their numbers are of 32 bits.
-pub record CanBeAsked (P : Plan) (asked : List Request) : Type 0 where
-  pub has : AllByRecursion (Has P) asked
-  pub narrow : AllByRecursion IsNarrowRequest asked
 
 -- an opening that a fault ended, or a start
 abbrev pub Starts : Plan → List Request → Option ℕ → List HistoryEntry → Type 0

@@ -7,20 +7,13 @@ ghost use Rattle.pw_plan.specs.declared.request.Request.{Request as request};
 ghost use Rattle.pw_plan.specs.Requests.{Has};
 ghost use Rattle.pw_model.specs.declared.entry.HistoryEntry.{HistoryEntry as entry};
 ghost use Rattle.pw_model.specs.History.{Faultless, WellFormed, entry_ops, replay};
-ghost use Rattle.pw_notice.specs.Handling.{Handles};
-ghost use Rattle.pw_notice.specs.Limits.{AnsweredBy};
-ghost use Rattle.pw_script.specs.declared.script.Line.{Line as line};
+ghost use Rattle.pw_script.specs.Asking.{CanBeAsked, IsNarrowRequest};
 ghost use Rattle.pw_script.specs.HistoryText.{history_lines, history_text, opening_lines};
 ghost use Rattle.pw_script.specs.Lawful.{IsRunOf, Lawful};
-ghost use Rattle.pw_script.specs.Reading.{AreLines, LawfullyChosen, requests_of};
-ghost use Rattle.pw_texts.specs.Telling.{HasSegments, IsNarrow, IsNarrowFault, IsNarrowRequest, unseated};
+ghost use Rattle.pw_texts.specs.Telling.{HasSegments, IsNarrow, IsNarrowFault, unseated};
 ghost use Rattle.pw_texts.specs.Completing.{IsStart, completed};
-ghost use Rattle.pw_texts.specs.Wholes.{BeginsStart, BeginsWhole, CanBeAsked, GoesOnWith, HasFeed};
+ghost use Rattle.pw_texts.specs.Wholes.{BeginsStart, BeginsWhole, GoesOnWith, HasFeed};
 ghost use Rattle.pw_texts.specs.Wholes.{IsFirstLine, IsWhole, lines_within, next_op_lines};
-
-use acpi_values::IdleTable;
-use pw_governor::Governor;
-use pw_notice::Handlers;
 
 /// The printed text of a history tells how the opening went, and every entry but for who made it.
 pub fn texts_tell_histories()
@@ -29,21 +22,6 @@ pub fn texts_tell_histories()
         → IsNarrowFault a → IsNarrowFault b → AllByRecursion IsNarrow H → AllByRecursion IsNarrow G
         → history_text P a H ≡ history_text P b G
         → (a ≡ b) × (map unseated H ≡ map unseated G) }
-{}
-
-/// The lines of a script can be asked, whatever the governor chooses of what it may and the handlers
-/// answer below the count of states: their processors exist, and their numbers are of 32 bits.
-pub fn lines_can_be_asked<
-    F: Fn(&IdleTable, u32, u32) -> u32,
-    P: Fn(u32, u32, u32) -> u32,
-    T: Fn(u32, u32, u32) -> u32,
->(governor: &Governor<F>, handlers: &Handlers<P, T>)
-    requires perf { Handles (P.pre handlers.now.0) (P.post handlers.now.0) }
-    requires throttle { Handles (T.pre handlers.now.1) (T.post handlers.now.1) }
-    ensures { (M : plan) (before : List request) (n : ℕ) (texts : List (List ℕ)) (lines : List line)
-        → AreLines M (LawfullyChosen (F.post governor.now))
-        (AnsweredBy (P.post handlers.now.0) (T.post handlers.now.1)) before n texts lines
-        → CanBeAsked M (requests_of lines) }
 {}
 
 /// What may come of a script has numbers as narrow as those of its lines, so that its text tells it.

@@ -6,7 +6,7 @@ mod laws;
 mod values;
 
 pub use laws::{
-    beginnings_are_starts, beginnings_complete, lines_can_be_asked, lines_follow,
-    texts_of_scripts_tell, texts_tell_histories,
+    beginnings_are_starts, beginnings_complete, lines_follow, texts_of_scripts_tell,
+    texts_tell_histories,
 };
 pub use values::{entries_are_narrow, plans_have_segments, text_tells_history};

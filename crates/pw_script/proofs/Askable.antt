@@ -1,4 +1,4 @@
--- The lines of a script can be asked.
+-- The lines of a script can be asked, and are those of functions where the answers are.
 use Rattle.std.proofs.Common.{◌≡◌, ◌<◌, ◌≤◌, ◌==◌, ◌++◌, ◌&&◌, ◌^◌, ℕ, suc, Bool, true, false, cond, List, [], ◌∷◌, length, refl, ap, sym, subst, inl, inr, Option, Some, None, Result, Ok, Err, arith, eqb-true}
 use Rattle.std.specs.Prelude.{IfOk, IfSome, ok_or, option_map}
 use Rattle.std.specs.List.{AllByRecursion}
@@ -19,9 +19,9 @@ use Rattle.pw_model.specs.States.{IsState, any_latency, opening}
 use Rattle.pw_model.specs.Answers.{after}
 use Rattle.pw_model.proofs.Opening.{opening_fits}
 use Rattle.pw_model.proofs.Staying.{after_fits}
-use Rattle.pw_governor.specs.Choices.{IsLawful}
-use Rattle.pw_notice.specs.Handling.{Handles}
-use Rattle.pw_notice.specs.Limits.{AnsweredBy, IsAnswer, kind_of, made_from, own, own_limit}
+use Rattle.pw_governor.specs.Choices.{ChoosesAs, IsLawful}
+use Rattle.pw_notice.specs.Handling.{Handles, HandlesAs}
+use Rattle.pw_notice.specs.Limits.{AnsweredBy, IsAnswer, answer_by, kind_of, limit_request, made_from, own, own_limit}
 use Rattle.pw_script.specs.declared.script.Line.{Line as line}
 use Rattle.pw_script.specs.declared.script.LineWhy.{LineWhy}
 use Rattle.pw_script.specs.declared.script.LineWhy.TheVariants.{Number}
@@ -29,13 +29,12 @@ use Rattle.pw_script.specs.declared.wish.Verb.{Verb}
 use Rattle.pw_script.specs.declared.wish.Verb.TheVariants as verbs
 use Rattle.pw_script.specs.declared.wish.Wish.{Wish}
 use Rattle.pw_script.specs.declared.wish.Wish.TheVariants.{Plain, Within, Notice}
+use Rattle.pw_script.specs.Asking.{CanBeAsked, IsNarrowRequest}
 use Rattle.pw_script.specs.Lines.{fields_of}
 use Rattle.pw_script.specs.Forms.{Said, cpu_named, is_large, is_number, name_of, number_of, said, some_wish, value_of, verb_alone, verb_of_one, verb_of_two, wish_by, wish_in, wish_in_fields, wish_of, wish_on, wish_with}
-use Rattle.pw_script.specs.Reading.{AreLines, GivesLines, IsAsked, LawfullyChosen, requests_of}
+use Rattle.pw_script.specs.Reading.{Answered, AreLines, Chosen, GivesLines, IsAsked, LawfullyChosen, requests_of}
 use Rattle.pw_script.proofs.Counts.{counts_of}
 use Rattle.pw_script.proofs.Existing.{lines_fit}
-use Rattle.pw_texts.specs.Telling.{IsNarrowRequest}
-use Rattle.pw_texts.specs.Wholes.{CanBeAsked}
 
 -- # Numbers of wishes
 
@@ -44,7 +43,7 @@ IsNarrowNumber o = IfSome o (λ n. n < 2 ^ 32)
 
 abbrev IsNarrowWish : Wish → Type 0
 IsNarrowWish (Plain q) = IsNarrowRequest q
-IsNarrowWish (Within p t r) = t < 2 ^ 32
+IsNarrowWish (Within p t r) = (t < 2 ^ 32) × (r < 2 ^ 32)
 IsNarrowWish (Notice p kind v) = v < 2 ^ 32
 
 abbrev IsNarrowSaid : Said → Type 0
@@ -89,7 +88,7 @@ by_verb verbs.Perf p n m h g = h
 by_verb verbs.Throttle p n m h g = h
 by_verb verbs.PerfLimit p n m h g = h
 by_verb verbs.ThrottleLimit p n m h g = h
-by_verb verbs.Within p n m h g = h
+by_verb verbs.Within p n m h g = (h, g)
 by_verb verbs.Notify p n m h g = step (n == 128) (n == 130)
   where
     step : (a b : Bool) → IfSome (cond a (Some (Notice p scales.Perf m)) (cond b (Some (Notice p scales.Throttle m)) None)) IsNarrowWish
@@ -168,7 +167,7 @@ module _ (P : Plan) (governor : Bor IdleTable → ℕ → ℕ → ℕ → Type 0
 
       step : (b : Bool) → IsNarrowRequest (cond b (asks.Wake p) (asks.Idle p asked.0 t))
       step true = tt
-      step false = (few asked.1.1, narrow)
+      step false = (few asked.1.1, narrow.0)
   asked_narrow before (Notice p scales.Perf v) q narrow has asked =
       let c = ap cpu_of asked.2 in
       subst IsNarrowRequest (sym asked.2) (answer_narrow before p scales.Perf v asked.0 (omega (arith, has, c)) narrow asked.1)
@@ -198,8 +197,68 @@ module _ (P : Plan) (governor : Bor IdleTable → ℕ → ℕ → ℕ → Type 0
   each_asked [] h = tt
   each_asked (l ∷ lines) h = (h.0, each_asked lines h.1)
 
-  pub lines-asked : (before : List Request) (n : ℕ) (texts : List (List ℕ)) (lines : List line)
+  pub lines_asked : (before : List Request) (n : ℕ) (texts : List (List ℕ)) (lines : List line)
       → AreLines P (LawfullyChosen governor) (AnsweredBy perf throttle) before n texts lines → CanBeAsked P (requests_of lines)
-  lines-asked before n texts lines h =
+  lines_asked before n texts lines h =
       let fit = lines_fit P (LawfullyChosen governor) (AnsweredBy perf throttle) before n texts lines h in
       record { has = each_asked lines fit.exist; narrow = lines_narrow before n texts lines fit.exist h }
+
+-- # Answers of functions
+
+-- where answers to numbers of 32 bits are also others, so are the lines
+module _ (P : Plan) (c d : IdleTable → ℕ → ℕ → ℕ → Type 0) (m o : ScaleKind → ℕ → ℕ → ℕ → ℕ → Type 0)
+    (f : (t : IdleTable) (tolerance residency s : ℕ) → tolerance < 2 ^ 32 → residency < 2 ^ 32 → c t tolerance residency s → d t tolerance residency s)
+    (g : (k : ScaleKind) (count current value n : ℕ) → 1 ≤ count → current < count → count < 2 ^ 32 → value < 2 ^ 32 → m k count current value n → o k count current value n) where
+  answer_also : (before : List Request) (p : ℕ) (kind : ScaleKind) (value n : ℕ) → p < length P.cpus → value < 2 ^ 32
+      → IsAnswer (m kind) (scale_of (kind_of kind) (cpu_at P p)) (own_limit P (kind_of kind) p before) value n
+      → IsAnswer (o kind) (scale_of (kind_of kind) (cpu_at P p)) (own_limit P (kind_of kind) p before) value n
+  answer_also before p kind value n lt narrow h = step (scale_of (kind_of kind) (cpu_at P p)) refl h
+    where
+      step : (s : Option Scale) → scale_of (kind_of kind) (cpu_at P p) ≡ s → IsAnswer (m kind) s (own_limit P (kind_of kind) p before) value n → IsAnswer (o kind) s (own_limit P (kind_of kind) p before) value n
+      step None e h = h
+      step (Some scale) e h =
+          let counts = counts_of P (made_from P (opening P) (own p before)) (kind_of kind) p (cpu_at P p) scale (own_fits P p lt before (opening P) (opening_fits P)) lt refl e in
+          let small = counts.small in
+          g kind (length scale.controls) (own_limit P (kind_of kind) p before) value n counts.some counts.within (omega arith) narrow h
+
+  asked_also : (before : List Request) (w : Wish) (q : Request) → IsNarrowWish w → Has P q → IsAsked P c m before w q → IsAsked P d o before w q
+  asked_also before (Plain r) q narrow has asked = asked
+  asked_also before (Within p t r) q narrow has asked = (asked.0, f (cpu_at P p).idle t r asked.0 narrow.0 narrow.1 asked.1, asked.2)
+  asked_also before (Notice p scales.Perf v) q narrow has asked =
+      let c = ap cpu_of asked.2 in
+      (asked.0, answer_also before p scales.Perf v asked.0 (omega (arith, has, c)) narrow asked.1, asked.2)
+  asked_also before (Notice p scales.Throttle v) q narrow has asked =
+      let c = ap cpu_of asked.2 in
+      (asked.0, answer_also before p scales.Throttle v asked.0 (omega (arith, has, c)) narrow asked.1, asked.2)
+
+  each_also : (before : List Request) (n : ℕ) (texts : List (List ℕ)) (lines : List line) → AllByRecursion (λ (l : line). Has P l.request) lines
+      → AreLines P c m before n texts lines → AreLines P d o before n texts lines
+  each_also before n [] lines has h = h
+  each_also before n (text ∷ texts) lines has h =
+      step (wish_in P text) (in_fields P (fields_of text)) h (λ b ls k a. each_also b (suc n) texts ls k a)
+    where
+      step : (r : Result (Option Wish) LineWhy) → IsNarrowResult r → GivesLines P c m before n r (λ b l. AreLines P c m b (suc n) texts l) lines
+          → ((b : List Request) (ls : List line) → AllByRecursion (λ (l : line). Has P l.request) ls → AreLines P c m b (suc n) texts ls → AreLines P d o b (suc n) texts ls)
+          → GivesLines P d o before n r (λ b l. AreLines P d o b (suc n) texts l) lines
+      step (Err why) k a later = a
+      step (Ok None) k a later = later before lines has a
+      step (Ok (Some w)) k a later =
+          let all = subst (AllByRecursion (λ (l : line). Has P l.request)) a.3 has in
+          (a.0, asked_also before w a.0 k all.0 a.1, a.2, a.3, later (before ++ a.0 ∷ []) a.2 all.1 a.4)
+
+  lines_also : (before : List Request) (n : ℕ) (texts : List (List ℕ)) (lines : List line) → AreLines P c m before n texts lines → AreLines P d o before n texts lines
+  lines_also before n texts lines h = each_also before n texts lines (lines_fit P c m before n texts lines h).exist h
+
+pub lines_by : (P : Plan) (governor : Bor IdleTable → ℕ → ℕ → ℕ → Type 0) (perf throttle : ℕ → ℕ → ℕ → ℕ → Type 0) (choose : IdleTable → ℕ → ℕ → ℕ) (by_perf by_throttle : ℕ → ℕ → ℕ → ℕ)
+    → ChoosesAs choose governor → HandlesAs by_perf perf → HandlesAs by_throttle throttle → (before : List Request) (n : ℕ) (texts : List (List ℕ)) (lines : List line)
+    → AreLines P (LawfullyChosen governor) (AnsweredBy perf throttle) before n texts lines → AreLines P (Chosen choose) (Answered (answer_by by_perf by_throttle)) before n texts lines
+lines_by P governor perf throttle choose by_perf by_throttle chosen perf_as throttle_as before n texts lines h =
+    lines_also P (LawfullyChosen governor) (Chosen choose) (AnsweredBy perf throttle) (Answered (answer_by by_perf by_throttle)) choices answers before n texts lines h
+  where
+    choices : (t : IdleTable) (tolerance residency s : ℕ) → tolerance < 2 ^ 32 → residency < 2 ^ 32 → LawfullyChosen governor t tolerance residency s → Chosen choose t tolerance residency s
+    choices t tolerance residency s a b x = subst (λ (u : IdleTable). s ≡ choose u tolerance residency) x.0.1 (chosen x.0.0 tolerance residency s a b x.0.2)
+
+    answers : (k : ScaleKind) (count current value n : ℕ) → 1 ≤ count → current < count → count < 2 ^ 32 → value < 2 ^ 32
+        → AnsweredBy perf throttle k count current value n → Answered (answer_by by_perf by_throttle) k count current value n
+    answers scales.Perf count current value n a b x y h = perf_as count current value n a b x y h
+    answers scales.Throttle count current value n a b x y h = throttle_as count current value n a b x y h
