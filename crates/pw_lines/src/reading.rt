@@ -1,5 +1,3 @@
-ghost use Rattle.std.specs.Prelude.{◌≡◌, ◌<◌, ◌≤◌};
-ghost use Rattle.pw_governor.specs.Choices.{IsLawful};
 ghost use Rattle.pw_notice.specs.Handling.{Handles};
 
 use acpi_values::IdleTable;
@@ -31,36 +29,9 @@ pub struct Functions {
     pub throttle: Handler,
 }
 
-// Contracts of other crates' functions can't be seen where they are passed by name, so each has one here.
+// A function of another crate is passed in a closure, since its contract can't be seen where it is named alone.
 
-fn deepest_state(table: &IdleTable, tolerance: u32, residency: u32) -> u32
-    ensures { IsLawful table.now tolerance residency result }
-{
-    deepest(table, tolerance, residency)
-}
-
-fn follow_value(count: u32, current: u32, value: u32) -> u32
-    requires { 1 ≤ count }
-    ensures { result < count }
-{
-    follow(count, current, value)
-}
-
-fn step_to_value(count: u32, current: u32, value: u32) -> u32
-    requires some { 1 ≤ count }
-    requires current { current < count }
-    ensures { result < count }
-{
-    step(count, current, value)
-}
-
-/// Chooses no state.
-fn nothing(_table: &IdleTable, _tolerance: u32, _residency: u32) -> u32
-    ensures { result ≡ 0 }
-{
-    0
-}
-
+/// What the bytes are read as, with these handlers and what this choice answers.
 fn parse_by<P: Fn(u32, u32, u32) -> u32, T: Fn(u32, u32, u32) -> u32>(
     alloc: Global,
     bytes: &[u8],
@@ -72,8 +43,43 @@ fn parse_by<P: Fn(u32, u32, u32) -> u32, T: Fn(u32, u32, u32) -> u32>(
     requires throttle { Handles (T.pre handlers.now.1) (T.post handlers.now.1) }
 {
     match choice {
-        Choice::Deepest => parse(alloc, bytes, plan, &Governor::new(deepest_state), handlers),
-        Choice::Nothing => parse(alloc, bytes, plan, &Governor::new(nothing), handlers),
+        Choice::Deepest => {
+            let governor = Governor::new(|table: &IdleTable, tolerance: u32, residency: u32| {
+                deepest(table, tolerance, residency)
+            });
+            parse(alloc, bytes, plan, &governor, handlers)
+        }
+        Choice::Nothing => {
+            let governor = Governor::new(|_table: &IdleTable, _tolerance: u32, _residency: u32| 0);
+            parse(alloc, bytes, plan, &governor, handlers)
+        }
+    }
+}
+
+/// The same with this function for performance states.
+fn parse_on<P: Fn(u32, u32, u32) -> u32>(
+    alloc: Global,
+    bytes: &[u8],
+    plan: &Plan,
+    functions: Functions,
+    perf: P,
+) -> Result<Script, ScriptFault>
+    requires { Handles (P.pre perf) (P.post perf) }
+{
+    let choice = functions.choice;
+    match functions.throttle {
+        Handler::Follow => {
+            let handlers = Handlers::new(perf, |count: u32, current: u32, value: u32| {
+                follow(count, current, value)
+            });
+            parse_by(alloc, bytes, plan, choice, &handlers)
+        }
+        Handler::Step => {
+            let handlers = Handlers::new(perf, |count: u32, current: u32, value: u32| {
+                step(count, current, value)
+            });
+            parse_by(alloc, bytes, plan, choice, &handlers)
+        }
     }
 }
 
@@ -84,43 +90,20 @@ pub fn parse_with(
     plan: &Plan,
     functions: Functions,
 ) -> Result<Script, ScriptFault> {
-    let choice = functions.choice;
-    match (functions.perf, functions.throttle) {
-        (Handler::Follow, Handler::Follow) => {
-            parse_by(
-                alloc,
-                bytes,
-                plan,
-                choice,
-                &Handlers::new(follow_value, follow_value),
-            )
-        }
-        (Handler::Follow, Handler::Step) => {
-            parse_by(
-                alloc,
-                bytes,
-                plan,
-                choice,
-                &Handlers::new(follow_value, step_to_value),
-            )
-        }
-        (Handler::Step, Handler::Follow) => {
-            parse_by(
-                alloc,
-                bytes,
-                plan,
-                choice,
-                &Handlers::new(step_to_value, follow_value),
-            )
-        }
-        (Handler::Step, Handler::Step) => {
-            parse_by(
-                alloc,
-                bytes,
-                plan,
-                choice,
-                &Handlers::new(step_to_value, step_to_value),
-            )
-        }
+    match functions.perf {
+        Handler::Follow => parse_on(
+            alloc,
+            bytes,
+            plan,
+            functions,
+            |count: u32, current: u32, value: u32| follow(count, current, value),
+        ),
+        Handler::Step => parse_on(
+            alloc,
+            bytes,
+            plan,
+            functions,
+            |count: u32, current: u32, value: u32| step(count, current, value),
+        ),
     }
 }
