@@ -1,4 +1,4 @@
-use crate::told::{Told, part, refused, register_text, value};
+use crate::told::{put_refused, put_register};
 use acpi_fields::{elements_at, fields_of, integer_at, register_at, register_object};
 use acpi_values::{Place, Register, RegisterFault};
 use aml_data::{Data, Width};
@@ -7,51 +7,56 @@ use std::alloc::Global;
 const WHOLE: Place = Place { outer: 0, inner: 0 };
 
 /// The bytes of a register as they stand in a resource template, and written again where they are one.
-pub fn template(alloc: Global, bytes: &[u8]) -> Option<(String, Option<[u8; 17]>)> {
+pub fn put_template(text: &mut String, bytes: &[u8]) -> Option<Option<[u8; 17]>> {
     match Register::from_bytes(bytes) {
-        Ok(register) => Some((register_text(alloc, &register)?, Some(register.to_bytes()))),
-        Err(RegisterFault::Length { found }) => {
-            Some((format!(in alloc; "length {found}").ok()?, None))
+        Ok(register) => {
+            put_register(text, &register)?;
+            return Some(Some(register.to_bytes()));
         }
-        Err(RegisterFault::Tag { at }) => Some((format!(in alloc; "tag {at}").ok()?, None)),
-        Err(RegisterFault::Sum { sum }) => Some((format!(in alloc; "sum 0x{sum:x}").ok()?, None)),
+        Err(RegisterFault::Length { found }) => write!(text, "length {found}").ok()?,
+        Err(RegisterFault::Tag { at }) => write!(text, "tag {at}").ok()?,
+        Err(RegisterFault::Sum { sum }) => write!(text, "sum 0x{sum:x}").ok()?,
     }
+    Some(None)
 }
 
-/// A register in a buffer.
-pub fn register(alloc: Global, object: &Data) -> Option<Told> {
+/// A register in a buffer, and the object that is written of it.
+pub fn put_register_at(text: &mut String, alloc: Global, object: &Data) -> Option<Option<Data>> {
     match register_at(object, WHOLE) {
-        Ok(register) => value(
-            register_text(alloc, &register)?,
-            register_object(alloc, &register).ok()?,
-        ),
-        Err(shape) => refused(alloc, shape),
+        Ok(register) => {
+            put_register(text, &register)?;
+            Some(Some(register_object(alloc, &register).ok()?))
+        }
+        Err(shape) => {
+            put_refused(text, shape)?;
+            Some(None)
+        }
     }
 }
 
 /// An integer below 2^32.
-pub fn integer(alloc: Global, object: &Data, width: Width) -> Option<Told> {
+pub fn put_integer(text: &mut String, object: &Data, width: Width) -> Option<()> {
     match integer_at(object, width, u64::from(u32::MAX), WHOLE) {
-        Ok(number) => part(format!(in alloc; "{number}").ok()?),
-        Err(shape) => refused(alloc, shape),
+        Ok(number) => write!(text, "{number}").ok(),
+        Err(shape) => put_refused(text, shape),
     }
 }
 
 /// How many elements a package has.
-pub fn elements(alloc: Global, object: &Data) -> Option<Told> {
+pub fn put_elements(text: &mut String, object: &Data) -> Option<()> {
     match elements_at(object, WHOLE) {
         Ok(elements) => {
             let count = elements.len();
-            part(format!(in alloc; "{count}").ok()?)
+            write!(text, "{count}").ok()
         }
-        Err(shape) => refused(alloc, shape),
+        Err(shape) => put_refused(text, shape),
     }
 }
 
 /// The two fields of element 4.
-pub fn two_fields(alloc: Global, object: &Data) -> Option<Told> {
+pub fn put_two_fields(text: &mut String, object: &Data) -> Option<()> {
     match fields_of(object, 4, 2) {
-        Ok(_) => part(String::from_str(alloc, "two").ok()?),
-        Err(shape) => refused(alloc, shape),
+        Ok(_) => text.push_str("two").ok(),
+        Err(shape) => put_refused(text, shape),
     }
 }

@@ -1,4 +1,4 @@
-use crate::told::{Told, add, fault, refused, register_text, value};
+use crate::told::{put_fault, put_refused, put_register, separate};
 use acpi_cpc::{read_cpc, write_cpc};
 use acpi_fields::is_countable;
 use acpi_idle::{read_csd, read_cst, read_lpi, write_csd, write_cst, write_lpi};
@@ -7,7 +7,8 @@ use acpi_perf::{
     write_limit, write_pss, write_tss,
 };
 use acpi_values::{
-    CDependency, CState, Coord, CpcEntry, Dependency, EntryMethod, LpiState, PState, TState,
+    CDependency, CState, Coord, Cpc, CpcEntry, Dependency, EntryMethod, Lpi, LpiState, PState,
+    TState,
 };
 use aml_data::{Data, Width};
 use std::alloc::Global;
@@ -23,218 +24,275 @@ fn coord_text(coord: Coord) -> &'static str {
     }
 }
 
-/// `FREQUENCY POWER LATENCY BUS-LATENCY CONTROL STATUS`.
-fn p_text(alloc: Global, state: &PState) -> Option<String> {
-    let PState {
-        frequency,
-        power,
-        latency,
-        bus_latency,
-        control,
-        status,
-    } = *state;
-    format!(in alloc; "{frequency} {power} {latency} {bus_latency} {control} {status}").ok()
+/// `FREQUENCY POWER LATENCY BUS-LATENCY CONTROL STATUS` of each.
+fn put_p_states(text: &mut String, states: &[PState]) -> Option<()> {
+    for state in states {
+        let PState {
+            frequency,
+            power,
+            latency,
+            bus_latency,
+            control,
+            status,
+        } = *state;
+        separate(text)?;
+        write!(
+            text,
+            "{frequency} {power} {latency} {bus_latency} {control} {status}"
+        )
+        .ok()?;
+    }
+    Some(())
 }
 
-pub fn pss(alloc: Global, object: &Data, width: Width) -> Option<Told> {
-    if !is_countable(object) {
-        return None;
+/// `PERCENT POWER LATENCY CONTROL STATUS` of each.
+fn put_t_states(text: &mut String, states: &[TState]) -> Option<()> {
+    for state in states {
+        let TState {
+            percent,
+            power,
+            latency,
+            control,
+            status,
+        } = *state;
+        separate(text)?;
+        write!(text, "{percent} {power} {latency} {control} {status}").ok()?;
     }
-    let states = match read_pss(alloc, object, width) {
-        Ok(states) => states,
-        Err(e) => return fault(alloc, e),
-    };
-    let mut text = String::new(alloc);
-    for state in states.as_slice() {
-        add(&mut text, p_text(alloc, state)?.as_str())?;
-    }
-    if states.len() > MOST {
-        return None;
-    }
-    value(text, write_pss(alloc, states.as_slice()).ok()?)
-}
-
-/// `PERCENT POWER LATENCY CONTROL STATUS`.
-fn t_text(alloc: Global, state: &TState) -> Option<String> {
-    let TState {
-        percent,
-        power,
-        latency,
-        control,
-        status,
-    } = *state;
-    format!(in alloc; "{percent} {power} {latency} {control} {status}").ok()
-}
-
-pub fn tss(alloc: Global, object: &Data, width: Width) -> Option<Told> {
-    if !is_countable(object) {
-        return None;
-    }
-    let states = match read_tss(alloc, object, width) {
-        Ok(states) => states,
-        Err(e) => return fault(alloc, e),
-    };
-    let mut text = String::new(alloc);
-    for state in states.as_slice() {
-        add(&mut text, t_text(alloc, state)?.as_str())?;
-    }
-    if states.len() > MOST {
-        return None;
-    }
-    value(text, write_tss(alloc, states.as_slice()).ok()?)
-}
-
-/// The control register and the status register.
-pub fn control(alloc: Global, object: &Data) -> Option<Told> {
-    match read_control(object) {
-        Ok(pair) => {
-            let control = register_text(alloc, &pair.control)?;
-            let status = register_text(alloc, &pair.status)?;
-            value(
-                format!(in alloc; "{control} {status}").ok()?,
-                write_control(alloc, &pair).ok()?,
-            )
-        }
-        Err(shape) => refused(alloc, shape),
-    }
-}
-
-pub fn limit(alloc: Global, object: &Data, width: Width) -> Option<Told> {
-    match read_limit(object, width) {
-        Ok(limit) => value(
-            format!(in alloc; "{limit}").ok()?,
-            write_limit(alloc, limit).ok()?,
-        ),
-        Err(shape) => refused(alloc, shape),
-    }
+    Some(())
 }
 
 /// `DOMAIN COORDINATION PROCESSORS`.
-pub fn dependency(alloc: Global, object: &Data, width: Width) -> Option<Told> {
-    match read_dependency(object, width) {
-        Ok(read) => {
-            let Dependency {
-                domain,
-                processors,
-                ..
-            } = read;
-            let coord = coord_text(read.coord);
-            value(
-                format!(in alloc; "{domain} {coord} {processors}").ok()?,
-                write_dependency(alloc, &read).ok()?,
-            )
-        }
-        Err(shape) => refused(alloc, shape),
-    }
+fn put_dependency(text: &mut String, read: &Dependency) -> Option<()> {
+    let (domain, processors) = (read.domain, read.processors);
+    let coord = coord_text(read.coord);
+    write!(text, "{domain} {coord} {processors}").ok()
 }
 
-/// `REGISTER TYPE LATENCY POWER`.
-fn c_text(alloc: Global, state: &CState) -> Option<String> {
-    let register = register_text(alloc, &state.register)?;
-    let (kind, latency, power) = (state.kind, state.latency, state.power);
-    format!(in alloc; "{register} {kind} {latency} {power}").ok()
+/// `REGISTER TYPE LATENCY POWER` of each.
+fn put_c_states(text: &mut String, states: &[CState]) -> Option<()> {
+    for state in states {
+        let (kind, latency, power) = (state.kind, state.latency, state.power);
+        separate(text)?;
+        put_register(text, &state.register)?;
+        write!(text, " {kind} {latency} {power}").ok()?;
+    }
+    Some(())
 }
 
-pub fn cst(alloc: Global, object: &Data, width: Width) -> Option<Told> {
-    if !is_countable(object) {
-        return None;
+/// `DOMAIN COORDINATION PROCESSORS INDEX` of each.
+fn put_c_dependencies(text: &mut String, entries: &[CDependency]) -> Option<()> {
+    for entry in entries {
+        let (domain, processors, index) = (entry.domain, entry.processors, entry.index);
+        let coord = coord_text(entry.coord);
+        separate(text)?;
+        write!(text, "{domain} {coord} {processors} {index}").ok()?;
     }
-    let states = match read_cst(alloc, object, width) {
-        Ok(states) => states,
-        Err(e) => return fault(alloc, e),
-    };
-    let mut text = String::new(alloc);
-    for state in states.as_slice() {
-        add(&mut text, c_text(alloc, state)?.as_str())?;
-    }
-    if states.len() > MOST {
-        return None;
-    }
-    value(text, write_cst(alloc, states.as_slice()).ok()?)
-}
-
-/// `DOMAIN COORDINATION PROCESSORS INDEX`.
-fn csd_text(alloc: Global, entry: &CDependency) -> Option<String> {
-    let CDependency {
-        domain,
-        processors,
-        index,
-        ..
-    } = *entry;
-    let coord = coord_text(entry.coord);
-    format!(in alloc; "{domain} {coord} {processors} {index}").ok()
-}
-
-pub fn csd(alloc: Global, object: &Data, width: Width) -> Option<Told> {
-    if !is_countable(object) {
-        return None;
-    }
-    let entries = match read_csd(alloc, object, width) {
-        Ok(entries) => entries,
-        Err(e) => return fault(alloc, e),
-    };
-    let mut text = String::new(alloc);
-    for entry in entries.as_slice() {
-        add(&mut text, csd_text(alloc, entry)?.as_str())?;
-    }
-    if entries.len() > MOST {
-        return None;
-    }
-    value(text, write_csd(alloc, entries.as_slice()).ok()?)
+    Some(())
 }
 
 /// `RESIDENCY LATENCY FLAGS LOST FREQUENCY PARENT ENTRY RESIDENCY-COUNTER USAGE-COUNTER NAME`.
-fn lpi_text(alloc: Global, state: &LpiState) -> Option<String> {
+fn put_lpi_state(text: &mut String, state: &LpiState) -> Option<()> {
     let (least, latency, flags) = (state.min_residency, state.wake_latency, state.flags);
     let (lost, frequency, parent) = (state.lost, state.frequency, state.parent);
-    let entry = match &state.entry {
-        EntryMethod::Register(register) => register_text(alloc, register)?,
-        EntryMethod::Integer(number) => format!(in alloc; "0x{number:x}").ok()?,
-    };
-    let residency = register_text(alloc, &state.residency)?;
-    let usage = register_text(alloc, &state.usage)?;
-    let numbers = format!(in alloc; "{least} {latency} {flags} {lost} {frequency} {parent}").ok()?;
-    let name = str::from_utf8(state.name.as_slice()).ok()?;
-    format!(in alloc; "{numbers} {entry} {residency} {usage} {name}").ok()
+    write!(
+        text,
+        "; {least} {latency} {flags} {lost} {frequency} {parent} "
+    )
+    .ok()?;
+    match &state.entry {
+        EntryMethod::Register(register) => put_register(text, register)?,
+        EntryMethod::Integer(number) => write!(text, "0x{number:x}").ok()?,
+    }
+    text.push_str(" ").ok()?;
+    put_register(text, &state.residency)?;
+    text.push_str(" ").ok()?;
+    put_register(text, &state.usage)?;
+    text.push_str(" ").ok()?;
+    text.push_str(str::from_utf8(state.name.as_slice()).ok()?)
+        .ok()
 }
 
 /// The level, and the states.
-pub fn lpi(alloc: Global, object: &Data, width: Width) -> Option<Told> {
-    if !is_countable(object) {
-        return None;
-    }
-    let lpi = match read_lpi(alloc, object, width) {
-        Ok(lpi) => lpi,
-        Err(e) => return fault(alloc, e),
-    };
+fn put_lpi(text: &mut String, lpi: &Lpi) -> Option<()> {
     let level = lpi.level;
-    let mut text = format!(in alloc; "level {level}").ok()?;
+    write!(text, "level {level}").ok()?;
     for state in lpi.states.as_slice() {
-        add(&mut text, lpi_text(alloc, state)?.as_str())?;
+        put_lpi_state(text, state)?;
     }
-    if lpi.states.as_slice().len() > MOST {
-        return None;
-    }
-    value(text, write_lpi(alloc, &lpi).ok()?)
+    Some(())
 }
 
 /// The revision, and the elements behind it.
-pub fn cpc(alloc: Global, object: &Data, width: Width) -> Option<Told> {
-    let cpc = match read_cpc(alloc, object, width) {
-        Ok(cpc) => cpc,
-        Err(e) => return fault(alloc, e),
-    };
+fn put_cpc(text: &mut String, cpc: &Cpc) -> Option<()> {
     let revision = cpc.revision;
-    let mut text = format!(in alloc; "revision {revision}").ok()?;
+    write!(text, "revision {revision}").ok()?;
     for entry in cpc.entries.as_slice() {
-        let piece = match entry {
-            CpcEntry::Number(number) => format!(in alloc; "{number}").ok()?,
-            CpcEntry::Register(register) => register_text(alloc, register)?,
-        };
-        add(&mut text, piece.as_str())?;
+        match entry {
+            CpcEntry::Number(number) => write!(text, "; {number}").ok()?,
+            CpcEntry::Register(register) => {
+                text.push_str("; ").ok()?;
+                put_register(text, register)?;
+            }
+        }
     }
-    if cpc.entries.as_slice().len() > MOST {
+    Some(())
+}
+
+/// Tells why an object is none of its kind, so that nothing is written.
+fn nothing(told: Option<()>) -> Option<Option<Data>> {
+    told?;
+    Some(None)
+}
+
+fn pss(text: &mut String, alloc: Global, object: &Data, width: Width) -> Option<Option<Data>> {
+    if !is_countable(object) {
         return None;
     }
-    value(text, write_cpc(alloc, &cpc).ok()?)
+    match read_pss(alloc, object, width) {
+        Ok(states) => {
+            put_p_states(text, states.as_slice())?;
+            if states.len() > MOST {
+                return None;
+            }
+            Some(Some(write_pss(alloc, states.as_slice()).ok()?))
+        }
+        Err(e) => nothing(put_fault(text, e)),
+    }
+}
+
+fn tss(text: &mut String, alloc: Global, object: &Data, width: Width) -> Option<Option<Data>> {
+    if !is_countable(object) {
+        return None;
+    }
+    match read_tss(alloc, object, width) {
+        Ok(states) => {
+            put_t_states(text, states.as_slice())?;
+            if states.len() > MOST {
+                return None;
+            }
+            Some(Some(write_tss(alloc, states.as_slice()).ok()?))
+        }
+        Err(e) => nothing(put_fault(text, e)),
+    }
+}
+
+fn cst(text: &mut String, alloc: Global, object: &Data, width: Width) -> Option<Option<Data>> {
+    if !is_countable(object) {
+        return None;
+    }
+    match read_cst(alloc, object, width) {
+        Ok(states) => {
+            put_c_states(text, states.as_slice())?;
+            if states.len() > MOST {
+                return None;
+            }
+            Some(Some(write_cst(alloc, states.as_slice()).ok()?))
+        }
+        Err(e) => nothing(put_fault(text, e)),
+    }
+}
+
+fn csd(text: &mut String, alloc: Global, object: &Data, width: Width) -> Option<Option<Data>> {
+    if !is_countable(object) {
+        return None;
+    }
+    match read_csd(alloc, object, width) {
+        Ok(states) => {
+            put_c_dependencies(text, states.as_slice())?;
+            if states.len() > MOST {
+                return None;
+            }
+            Some(Some(write_csd(alloc, states.as_slice()).ok()?))
+        }
+        Err(e) => nothing(put_fault(text, e)),
+    }
+}
+
+/// The control register and the status register.
+fn control(text: &mut String, alloc: Global, object: &Data) -> Option<Option<Data>> {
+    match read_control(object) {
+        Ok(pair) => {
+            put_register(text, &pair.control)?;
+            text.push_str(" ").ok()?;
+            put_register(text, &pair.status)?;
+            Some(Some(write_control(alloc, &pair).ok()?))
+        }
+        Err(shape) => nothing(put_refused(text, shape)),
+    }
+}
+
+fn limit(text: &mut String, alloc: Global, object: &Data, width: Width) -> Option<Option<Data>> {
+    match read_limit(object, width) {
+        Ok(limit) => {
+            write!(text, "{limit}").ok()?;
+            Some(Some(write_limit(alloc, limit).ok()?))
+        }
+        Err(shape) => nothing(put_refused(text, shape)),
+    }
+}
+
+fn dependency(
+    text: &mut String,
+    alloc: Global,
+    object: &Data,
+    width: Width,
+) -> Option<Option<Data>> {
+    match read_dependency(object, width) {
+        Ok(read) => {
+            put_dependency(text, &read)?;
+            Some(Some(write_dependency(alloc, &read).ok()?))
+        }
+        Err(shape) => nothing(put_refused(text, shape)),
+    }
+}
+
+fn lpi(text: &mut String, alloc: Global, object: &Data, width: Width) -> Option<Option<Data>> {
+    if !is_countable(object) {
+        return None;
+    }
+    match read_lpi(alloc, object, width) {
+        Ok(lpi) => {
+            put_lpi(text, &lpi)?;
+            if lpi.states.as_slice().len() > MOST {
+                return None;
+            }
+            Some(Some(write_lpi(alloc, &lpi).ok()?))
+        }
+        Err(e) => nothing(put_fault(text, e)),
+    }
+}
+
+fn cpc(text: &mut String, alloc: Global, object: &Data, width: Width) -> Option<Option<Data>> {
+    match read_cpc(alloc, object, width) {
+        Ok(cpc) => {
+            put_cpc(text, &cpc)?;
+            if cpc.entries.as_slice().len() > MOST {
+                return None;
+            }
+            Some(Some(write_cpc(alloc, &cpc).ok()?))
+        }
+        Err(e) => nothing(put_fault(text, e)),
+    }
+}
+
+/// Tells what an object of this kind is read as, and gives the object that is written of it.
+pub fn put_told(
+    text: &mut String,
+    alloc: Global,
+    kind: &str,
+    width: Width,
+    object: &Data,
+) -> Option<Option<Data>> {
+    match kind {
+        "pss" => pss(text, alloc, object, width),
+        "tss" => tss(text, alloc, object, width),
+        "control" => control(text, alloc, object),
+        "limit" => limit(text, alloc, object, width),
+        "dependency" => dependency(text, alloc, object, width),
+        "cst" => cst(text, alloc, object, width),
+        "csd" => csd(text, alloc, object, width),
+        "lpi" => lpi(text, alloc, object, width),
+        "cpc" => cpc(text, alloc, object, width),
+        _ => None,
+    }
 }

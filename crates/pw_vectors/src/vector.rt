@@ -1,12 +1,10 @@
-use crate::fields::{elements, integer, register, template, two_fields};
-use crate::tables::{control, cpc, csd, cst, dependency, limit, lpi, pss, tss};
-use crate::told::Told;
+use crate::fields::{put_elements, put_integer, put_register_at, put_template, put_two_fields};
+use crate::tables::put_told;
 use aml_data::{Data, Width, decode, encode, is_writable};
 use std::alloc::Global;
 
-/// Bytes in hexadecimal, a word each, `3*00` for three alike.
-fn bytes_of(alloc: Global, words: &str) -> Option<Vec<u8>> {
-    let mut bytes = Vec::new(alloc);
+/// Puts the bytes of words in hexadecimal, `3*00` for three alike.
+fn put_bytes(bytes: &mut Vec<u8>, words: &str) -> Option<()> {
     for word in words.split_whitespace() {
         let (count, digits) = word.split_once("*").unwrap_or(("1", word));
         let byte = u8::from_str_radix(digits, 16).ok()?;
@@ -14,7 +12,7 @@ fn bytes_of(alloc: Global, words: &str) -> Option<Vec<u8>> {
             bytes.push(byte).ok()?;
         }
     }
-    Some(bytes)
+    Some(())
 }
 
 /// The object that all of the bytes spell.
@@ -40,34 +38,30 @@ fn is_written(alloc: Global, object: &Data, bytes: &[u8]) -> Option<bool> {
     Some(written.as_slice() == bytes)
 }
 
-/// What an object of this kind is read as.
-fn told(alloc: Global, kind: &str, width: Width, object: &Data) -> Option<Told> {
+/// Tells what an object of this kind is read as, a part of a table too, and gives the object that is
+/// written of it.
+fn put_object(
+    text: &mut String,
+    alloc: Global,
+    kind: &str,
+    width: Width,
+    object: &Data,
+) -> Option<Option<Data>> {
     match kind {
-        "register" => register(alloc, object),
-        "integer" => integer(alloc, object, width),
-        "elements" => elements(alloc, object),
-        "two-fields" => two_fields(alloc, object),
-        "pss" => pss(alloc, object, width),
-        "tss" => tss(alloc, object, width),
-        "control" => control(alloc, object),
-        "limit" => limit(alloc, object, width),
-        "dependency" => dependency(alloc, object, width),
-        "cst" => cst(alloc, object, width),
-        "csd" => csd(alloc, object, width),
-        "lpi" => lpi(alloc, object, width),
-        "cpc" => cpc(alloc, object, width),
-        _ => None,
+        "register" => return put_register_at(text, alloc, object),
+        "integer" => put_integer(text, object, width)?,
+        "elements" => put_elements(text, object)?,
+        "two-fields" => put_two_fields(text, object)?,
+        _ => return put_told(text, alloc, kind, width, object),
     }
+    Some(None)
 }
 
-/// Compares what is read of the bytes, and where it is asked for what is written again.
-fn compared(alloc: Global, kind: &str, words: &str, wanted: &str, again: bool) -> Option<String> {
-    let bytes = bytes_of(alloc, words)?;
-    let bytes = bytes.as_slice();
+/// Tells what bytes are read as, and gives whether they are written again of it; none where nothing is.
+fn put_read(text: &mut String, alloc: Global, kind: &str, bytes: &[u8]) -> Option<Option<bool>> {
     if kind == "template" {
-        let (text, written) = template(alloc, bytes)?;
-        let same = !again || written.is_some_and(|held| held.as_slice() == bytes);
-        return outcome(alloc, text, wanted, same);
+        let written = put_template(text, bytes)?;
+        return Some(written.map(|held| held.as_slice() == bytes));
     }
     let (kind, width) = kind.split_once("/").unwrap_or((kind, "64"));
     let width = if width == "32" {
@@ -76,19 +70,22 @@ fn compared(alloc: Global, kind: &str, words: &str, wanted: &str, again: bool) -
         Width::W64
     };
     let object = object_of(alloc, bytes)?;
-    let told = told(alloc, kind, width, &object)?;
-    let same = match &told.object {
-        Some(object) if again => is_written(alloc, object, bytes)?,
-        _ => !again,
-    };
-    outcome(alloc, told.text, wanted, same)
+    match put_object(text, alloc, kind, width, &object)? {
+        Some(written) => Some(Some(is_written(alloc, &written, bytes)?)),
+        None => Some(None),
+    }
 }
 
-fn outcome(alloc: Global, text: String, wanted: &str, same: bool) -> Option<String> {
+/// Compares what is read of the bytes, and where it is asked for what is written again.
+fn compared(alloc: Global, kind: &str, words: &str, wanted: &str, again: bool) -> Option<String> {
+    let mut bytes = Vec::new(alloc);
+    put_bytes(&mut bytes, words)?;
+    let mut text = String::new(alloc);
+    let written = put_read(&mut text, alloc, kind, bytes.as_slice())?;
     if text.as_str() != wanted {
         return Some(text);
     }
-    let came = if same {
+    let came = if !again || written == Some(true) {
         "as it must be"
     } else {
         "written otherwise"
