@@ -21,16 +21,21 @@ fn block_of(alloc: Global, signature: &[u8], revision: u8, body: &[u8]) -> Resul
     parse(alloc, &bytes).map_err(|_| Fail::from("no block"))
 }
 
-/// The widths of the integers in a block of this signature and revision, and in an SSDT of revision 2
-/// behind it.
+/// A block of this signature and revision, and an SSDT of revision 2 behind it.
+fn two_blocks(alloc: Global, signature: &[u8], revision: u8) -> Result<Vec<Block>, Fail> {
+    let mut blocks = Vec::new(alloc);
+    blocks.push(block_of(alloc, signature, revision, b"\x08AAAA\xFF")?)?;
+    blocks.push(block_of(alloc, b"SSDT", 2, b"\x08BBBB\xFF")?)?;
+    Ok(blocks)
+}
+
+/// The widths of the integers in each of them.
 fn widths(
     alloc: Global,
     signature: &[u8],
     revision: u8,
 ) -> Result<(Option<Width>, Option<Width>), Fail> {
-    let mut blocks = Vec::new(alloc);
-    blocks.push(block_of(alloc, signature, revision, b"\x08AAAA\xFF")?)?;
-    blocks.push(block_of(alloc, b"SSDT", 2, b"\x08BBBB\xFF")?)?;
+    let blocks = two_blocks(alloc, signature, revision)?;
     let Ok(space) = Space::build(alloc, blocks.as_slice()) else {
         return Err("no space".into());
     };
@@ -89,6 +94,20 @@ fn length_of(alloc: Global, space: &Space) -> Result<usize, Fail> {
     Ok(path.as_slice().len())
 }
 
+/// Whether `DEV0` is object 1, in which `BBBB` is object 2 and `AAAA` is none, and no path is longer than 2.
+fn are_found(alloc: Global, space: &Space) -> Result<bool, Fail> {
+    let device = found(alloc, space, *b"DEV0")?;
+    let (inside, beside) = (below(space, *b"BBBB")?, below(space, *b"AAAA")?);
+    let length = length_of(alloc, space)?;
+    Ok(
+        device == Some(1)
+            && inside == Some(2)
+            && beside.is_none()
+            && length == 2
+            && space.longest_path() == 2,
+    )
+}
+
 #[test]
 fn objects_are_found_by_path_and_by_segment(rt: HostRuntime) -> Result<(), Fail> {
     let alloc = rt.alloc();
@@ -102,10 +121,6 @@ fn objects_are_found_by_path_and_by_segment(rt: HostRuntime) -> Result<(), Fail>
     let Ok(space) = Space::build(alloc, &blocks) else {
         return Err("no space".into());
     };
-    assert_eq!(rt; found(alloc, &space, *b"DEV0")?, Some(1));
-    assert_eq!(rt; below(&space, *b"BBBB")?, Some(2));
-    assert_eq!(rt; below(&space, *b"AAAA")?, None);
-    assert_eq!(rt; length_of(alloc, &space)?, 2);
-    assert_eq!(rt; space.longest_path(), 2);
+    assert!(rt; are_found(alloc, &space)?);
     Ok(())
 }
