@@ -12,8 +12,8 @@ use pw_base::{Failed, Memory};
 use std::alloc::Global;
 use std::marker::Model;
 
-/// Registers in memory that fail at the calls that the caller listed, counted from 1, and where there
-/// is no room for the operation. A call that fails is counted too.
+/// Registers in memory that fail at the calls that the caller listed, counted from 1, and where
+/// there is no room for the operation. A call that fails is counted too.
 #[derive(Drop)]
 pub struct FailingRegisters {
     file: RegisterFile,

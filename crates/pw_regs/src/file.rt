@@ -11,8 +11,8 @@ use pw_base::{Failed, Memory, Room};
 use std::alloc::Global;
 use std::marker::Model;
 
-/// Registers in memory: they keep the operations that were done, in room that is taken when they are
-/// made. An operation fails exactly where there is no room for it.
+/// Registers in memory: they keep the operations that were done, in room that is taken when they
+/// are made. An operation fails exactly where there is no room for it.
 #[derive(Drop)]
 pub struct RegisterFile {
     done: Room<Op>,
@@ -52,7 +52,9 @@ impl RegisterFile {
     /// Does an operation where there is room for it.
     pub(crate) fn operate(&mut self, op: Op) -> Result<(), Failed>
         ensures exact_failure { is_err result ≡ is_full self.old }
-        ensures ok_state { OnOk result (self.new ≡ record self.old { log = self.old.log ++ op ∷ [] }) }
+        ensures ok_state { OnOk result (self.new ≡ record self.old {
+          log = self.old.log ++ op ∷ [];
+        }) }
         ensures failed_state { OnErr result (self.new ≡ record self.old {
           faults = next_count self.old.faults;
         }) }

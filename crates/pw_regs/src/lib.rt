@@ -1,4 +1,5 @@
-//! Registers as a coordinator operates them: the trait, and registers in memory that keep what was done.
+//! Registers as a coordinator operates them: the trait, and registers in memory that keep what was
+//! done.
 #![tactic(auto)]
 
 mod failing;

@@ -1,0 +1,172 @@
+ghost use Rattle.std.specs.Prelude.{◌≡◌, ◌↔◌, ◌≤◌, ◌<◌, ◌+◌, ◌^◌, ◌++◌, ◌∷◌, [], true, None};
+ghost use Rattle.std.specs.Prelude.{length, take, IfOk, IfErr, IfSome, OnOk, OnErr};
+ghost use Rattle.pw_base.specs.Outside.{Rose};
+ghost use Rattle.pw_model.specs.History.{entry_of, Faultless};
+ghost use Rattle.pw_regs.specs.Registers.{KeepsRegisters};
+ghost use Rattle.pw_journal.specs.Entries.{fault_entry, fault_place};
+
+use crate::operating::operate_all;
+use crate::recording::record_of;
+use acpi_values::Op;
+use pw_model::HistoryEntry;
+use pw_plan::Request;
+use pw_regs::Registers;
+use std::alloc::Global;
+use std::marker::Model;
+
+/// What was asked, entry by entry, and the registers that were operated for it. It takes its room
+/// when it is opened, and none later. Contracts see the entries, the capacity and the registers. No
+/// call reads an entry before `finish`.
+#[derive(Drop)]
+pub struct Journal<R> {
+    entries: Vec<HistoryEntry>,
+    capacity: u32,
+    stopped: bool,
+    regs: R,
+}
+
+impl<R> Model for Journal<R> {
+    ghost use Rattle.std.specs.Prelude.{◌≡◌, ◌≤◌, ◌<◌, ◌^◌, length, None, Some, if◌then◌else◌};
+    ghost use Rattle.std.specs.Prelude.{vec_len, vec_capacity};
+    ghost use Rattle.pw_journal.specs.Journaled.{Journaled};
+    ghost use Rattle.pw_journal.specs.Entries.{fault_place};
+
+    ghost Value = { Journaled R };
+
+    ghost view = { λ j. record {
+      entries = j.entries.items;
+      capacity = j.capacity;
+      regs = j.regs;
+    } };
+
+    ghost invariant = { λ j. (j.capacity < 2 ^ 32) × (vec_len j.entries ≤ j.capacity)
+        × (j.capacity ≤ vec_capacity j.entries)
+        × (fault_place j.entries.items
+        ≡ (if j.stopped then Some (length j.entries.items) else None)) };
+}
+
+impl<R> Journal<R> {
+    /// An empty journal with room for so many entries, over these registers. Where there is no
+    /// memory for it, it gives the registers back.
+    pub fn open(alloc: Global, capacity: u32, regs: R) -> Result<Journal<R>, R>
+        ensures opened { IfOk result (λ j. j ≡ record {
+          entries = [];
+          capacity = capacity;
+          regs = regs;
+        }) }
+        ensures given_back { IfErr result (λ back. back ≡ regs) }
+    {
+        match Vec::with_capacity(alloc, capacity as usize) {
+            Ok(entries) => Ok(Journal {
+                entries,
+                capacity,
+                stopped: false,
+                regs,
+            }),
+            Err(_) => Err(regs),
+        }
+    }
+
+    /// How many entries there are.
+    pub fn len(&self) -> u32
+        ensures { result ≡ length self.now.entries }
+    {
+        self.entries.len() as u32
+    }
+
+    /// How many entries there may be.
+    pub fn capacity(&self) -> u32
+        ensures { result ≡ self.now.capacity }
+    {
+        self.capacity
+    }
+
+    /// The place of the entry that is a fault, counted from 1. It is the last.
+    pub fn fault_at(&self) -> Option<u32>
+        ensures place { result ≡ fault_place self.now.entries }
+        ensures none { result ≡ None ↔ Faultless self.now.entries }
+        ensures last { IfSome result (λ place. place ≡ length self.now.entries) }
+    {
+        if self.stopped { Some(self.len()) } else { None }
+    }
+
+    /// The entries, in order, and the registers.
+    pub fn finish(self) -> (Vec<HistoryEntry>, R)
+        ensures entries { result.0.items ≡ self.entries }
+        ensures regs { result.1 ≡ self.regs }
+    {
+        (self.entries, self.regs)
+    }
+
+    /// Appends the entry of a request that ended with this fault, 0 for none.
+    fn note(&mut self, seat: u32, request: Request, fault: u32)
+        requires room { length self.old.entries < self.old.capacity }
+        requires faultless { Faultless self.old.entries }
+        ensures { self.new ≡ record self.old {
+          entries = self.old.entries ++ record (entry_of seat request) { fault = fault } ∷ [];
+        } }
+    {
+        self.entries.push_reserved(record_of(seat, request, fault));
+        self.stopped = fault > 0;
+    }
+}
+
+impl<R: Registers> Journal<R> {
+    /// Does the operations of a request that a seat made, in order, and appends its entry. At a
+    /// fault it answers how many of them were done. It takes no memory.
+    pub fn append(&mut self, seat: u32, request: Request, ops: &[Op]) -> Result<(), u32>
+        requires room { length self.old.entries < self.old.capacity }
+        requires faultless { Faultless self.old.entries }
+        requires few { length ops.now < 2 ^ 32 }
+        ensures keeps { KeepsRegisters R.told R.faults self.old.regs self.new.regs }
+        ensures capacity { self.new.capacity ≡ self.old.capacity }
+        ensures done { OnOk result (R.told self.old.regs ≡ true →
+            R.log self.new.regs ≡ R.log self.old.regs ++ ops.now) }
+        ensures entry { OnOk result (
+            self.new.entries ≡ self.old.entries ++ entry_of seat request ∷ []) }
+        ensures within { IfErr result (λ k. k < length ops.now) }
+        ensures part { IfErr result (λ k. R.told self.old.regs ≡ true →
+            R.log self.new.regs ≡ R.log self.old.regs ++ take k ops.now) }
+        ensures fault { IfErr result (λ k.
+            self.new.entries ≡ self.old.entries ++ fault_entry seat request k ∷ []) }
+        ensures failed { OnErr result (Rose (R.faults self.old.regs) (R.faults self.new.regs)) }
+        // While the registers promise room for all operations none fails.
+        ensures promised { OnErr result (R.room self.old.regs < length ops.now) }
+        ensures steady { length ops.now ≤ R.room self.old.regs →
+            R.faults self.new.regs ≡ R.faults self.old.regs }
+        ensures left { R.room self.old.regs ≤ R.room self.new.regs + length ops.now }
+    {
+        match operate_all(&mut self.regs, ops) {
+            Ok(()) => {
+                self.note(seat, request, 0);
+                Ok(())
+            }
+            Err(done) => {
+                self.note(seat, request, done + 1);
+                Err(done)
+            }
+        }
+    }
+
+    /// Does the operations at the start, in order, before there are entries. At a fault it answers
+    /// how many of them were done. It takes no memory.
+    pub fn operate(&mut self, ops: &[Op]) -> Result<(), u32>
+        requires empty { self.old.entries ≡ [] }
+        requires few { length ops.now < 2 ^ 32 }
+        ensures keeps { KeepsRegisters R.told R.faults self.old.regs self.new.regs }
+        ensures entries { self.new.entries ≡ [] }
+        ensures capacity { self.new.capacity ≡ self.old.capacity }
+        ensures done { OnOk result (R.told self.old.regs ≡ true →
+            R.log self.new.regs ≡ R.log self.old.regs ++ ops.now) }
+        ensures within { IfErr result (λ k. k < length ops.now) }
+        ensures part { IfErr result (λ k. R.told self.old.regs ≡ true →
+            R.log self.new.regs ≡ R.log self.old.regs ++ take k ops.now) }
+        ensures failed { OnErr result (Rose (R.faults self.old.regs) (R.faults self.new.regs)) }
+        ensures promised { OnErr result (R.room self.old.regs < length ops.now) }
+        ensures steady { length ops.now ≤ R.room self.old.regs →
+            R.faults self.new.regs ≡ R.faults self.old.regs }
+        ensures left { R.room self.old.regs ≤ R.room self.new.regs + length ops.now }
+    {
+        operate_all(&mut self.regs, ops)
+    }
+}

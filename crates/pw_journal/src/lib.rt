@@ -1,0 +1,10 @@
+//! The journal of a coordinator: who asked for what, in order, and the registers that were
+//! operated for it.
+#![tactic(auto)]
+
+mod journal;
+mod operating;
+mod recording;
+
+pub use journal::Journal;
+pub use pw_model::HistoryEntry;
