@@ -1,5 +1,5 @@
 -- What a call sees of registers at one moment.
-use Rattle.std.specs.Prelude.{◌≡◌, ◌≤◌, ◌+◌, ℕ, Bool, true, List, ◌++◌, length}
+use Rattle.std.specs.Prelude.{◌≡◌, ℕ, Bool, true, List, ◌++◌}
 use Rattle.acpi_values.specs.declared.operation.Op.{Op}
 use Rattle.pw_regs.specs.declared.registers.Registers.{Ghosts as Registers}
 
