@@ -6,3 +6,5 @@ pub mod Drawing
 pub mod Comparing
 pub mod Leaving
 pub mod Owning
+pub mod Accepted
+pub mod Standing

@@ -92,7 +92,7 @@ fn draw_along(plan: &Plan, state: &State, change: Change, cpu: u32, members: &[u
 
 /// Appends the operations of an accepted idle request, and says which states the processor comes
 /// to.
-fn idle(plan: &Plan, state: &State, change: Change, cpu: u32, ops: &mut Ops) -> Chain
+pub fn idle(plan: &Plan, state: &State, change: Change, cpu: u32, ops: &mut Ops) -> Chain
     requires cpu { cpu < length plan.now.cpus }
     requires table { (cpu_at plan.now cpu).idle.kind ≢ IdleKind.Absent }
     requires idles { 0 < (vote_of (with_change state.now change) cpu).state }

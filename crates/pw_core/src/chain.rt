@@ -12,7 +12,7 @@ use pw_model::{Change, State};
 use pw_plan::Plan;
 
 /// The chain of this state alone.
-fn alone(state: u8) -> Chain
+pub fn chain_of_one(state: u8) -> Chain
     ensures { result ≡ chain_of (state ∷ []) }
 {
     Chain {
@@ -22,7 +22,7 @@ fn alone(state: u8) -> Chain
 }
 
 /// The chain with one more state.
-fn extended(mut chain: Chain, state: u8) -> Chain
+pub fn extended(mut chain: Chain, state: u8) -> Chain
     requires chain { IsChain chain }
     requires room { length (states_in chain) < 9 }
     ensures { result ≡ chain_of (states_in chain ++ state ∷ []) }
@@ -41,7 +41,7 @@ fn climbed(plan: &Plan, state: &State, change: Change, cpu: u32) -> Chain
         result ≡ chain_of ((vote_of after cpu).state
         ∷ states_along plan.now after (ancestors plan.now cpu)) }
 {
-    let mut chain = alone(vote_under(state, change, cpu).state);
+    let mut chain = chain_of_one(vote_under(state, change, cpu).state);
     let mut next = plan.cpu(cpu).parent;
     let mut known = None;
     while let Some(node) = next {
@@ -65,7 +65,7 @@ pub fn chain_under(plan: &Plan, state: &State, change: Change, cpu: u32) -> Chai
 {
     match plan.cpu(cpu).idle.kind {
         IdleKind::Lpi => climbed(plan, state, change, cpu),
-        IdleKind::Cst => alone(c_state(plan, state, change, cpu)),
+        IdleKind::Cst => chain_of_one(c_state(plan, state, change, cpu)),
         IdleKind::Absent => climbed(plan, state, change, cpu),
     }
 }

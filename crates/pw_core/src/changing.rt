@@ -11,7 +11,8 @@ use crate::tree::RUNNING;
 use pw_model::{Change, ScaleKind, State, Vote};
 use pw_plan::{DomainKind, Plan, Request};
 
-/// A limit, which past the last state counts as the last one.
+/// A limit of a processor with states of this kind, which past the last one counts as the last one
+/// (ACPI 6.5, 8.4.5.3).
 pub fn capped(plan: &Plan, kind: DomainKind, cpu: u32, n: u32) -> u8
     requires { cpu < length plan.now.cpus }
     ensures { result ≡ capped (scale_of kind (cpu_at plan.now cpu)) n }

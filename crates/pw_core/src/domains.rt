@@ -1,9 +1,9 @@
-ghost use Rattle.std.specs.Prelude.{◌≡◌, ◌<◌, length, map, All};
+ghost use Rattle.std.specs.Prelude.{◌≡◌, ◌<◌, length, map, slice_index_or, All};
 ghost use Rattle.pw_model.specs.States.{IsState, ask_of, limit_of};
 ghost use Rattle.pw_model.specs.States.{with_change};
 ghost use Rattle.pw_model.specs.Domains.{standing, stands_at};
 
-use crate::reads::{ask_under, limit_under};
+use crate::reads::{ask_under, asks_of, limit_under, limits_of};
 use acpi_values::Coord;
 use pw_model::{Change, State};
 use pw_plan::{DomainKind, Plan};
@@ -41,5 +41,45 @@ pub fn standing(plan: &Plan, state: &State, change: Change, place: usize, cpu: u
         Coord::HwAll => {
             limit_under(kind, state, change, cpu).max(ask_under(kind, state, change, cpu))
         }
+    }
+}
+
+/// The entry of a processor, 0 where there is none.
+#[inline]
+fn entry(entries: &[u8], cpu: u32) -> u8
+    ensures { result ≡ slice_index_or entries.now cpu 0 }
+{
+    match entries.get(cpu as usize) {
+        None => 0,
+        Some(found) => *found,
+    }
+}
+
+/// Where members with these asks and limits stand together.
+fn together(asks: &[u8], limits: &[u8], members: &[u32]) -> u8
+    ensures { result ≡ stands_at (map (λ p. slice_index_or asks.now p 0) members.now)
+        (map (λ p. slice_index_or limits.now p 0) members.now) }
+{
+    let mut limit = 0;
+    let mut ask = u8::MAX;
+    for member in members {
+        limit = entry(limits, *member).max(limit);
+        ask = entry(asks, *member).min(ask);
+    }
+    limit.max(ask)
+}
+
+/// Where a domain, or in a domain that hardware coordinates this member, stands.
+pub fn standing_now(plan: &Plan, state: &State, place: usize, cpu: u32) -> u8
+    requires { place < length plan.now.domains }
+    ensures { result ≡ standing plan.now state.now place cpu }
+{
+    let domain = plan.domain(place);
+    let asks = asks_of(domain.kind, state);
+    let limits = limits_of(domain.kind, state);
+    match domain.coord {
+        Coord::SwAll => together(asks, limits, domain.members.as_slice()),
+        Coord::SwAny => together(asks, limits, domain.members.as_slice()),
+        Coord::HwAll => entry(limits, cpu).max(entry(asks, cpu)),
     }
 }

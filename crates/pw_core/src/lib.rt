@@ -14,10 +14,13 @@ mod refusal;
 mod replaying;
 mod setting;
 mod state;
+mod stepping;
 mod tree;
 
+pub use chain::{chain_of_one, extended};
+pub use changing::capped;
 pub use composite::{chain_composite, own_register};
-pub use opening::opening_limit;
+pub use opening::{open_all, opening_limit};
 pub use pw_model::{HistoryEntry, Reply, Vote};
 pub use pw_ops::Ops;
 pub use refusal::fixed_answer;

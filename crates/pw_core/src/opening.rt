@@ -117,7 +117,8 @@ fn open_domain(plan: &Plan, place: usize, ops: &mut Ops)
     }
 }
 
-/// Appends the operations at the start.
+/// Appends the operations at the start: each fit domain of performance or throttling is set to where it
+/// stands.
 pub fn open_all(plan: &Plan, ops: &mut Ops)
     requires { HasRoom ops.old (opening_bound plan.now) }
     ensures { ops.new ≡ record ops.old { elements = ops.old.elements ++ opening_ops plan.now } }

@@ -1,6 +1,6 @@
-//! What stands in a state that a request changes, without writing it.
+//! What stands in a state, and in one that a request changes, without writing it.
 ghost use Rattle.std.specs.Prelude.{◌≡◌, ◌<◌, length};
-ghost use Rattle.pw_model.specs.States.{ask_of, limit_of};
+ghost use Rattle.pw_model.specs.States.{ask_of, asks_of, limit_of, limits_of};
 ghost use Rattle.pw_model.specs.States.{vote_of, with_change};
 
 use pw_model::{Change, ScaleKind, State, Vote};
@@ -68,5 +68,27 @@ pub fn limit_under(kind: DomainKind, state: &State, change: Change, cpu: u32) ->
             _ => state.throttle_limits.as_slice()[cpu as usize],
         },
         DomainKind::Idle => 0,
+    }
+}
+
+/// What processors ask for.
+pub fn asks_of(kind: DomainKind, state: &State) -> &[u8]
+    ensures { result.now ≡ asks_of kind state.now }
+{
+    match kind {
+        DomainKind::Perf => state.perf_asks.as_slice(),
+        DomainKind::Throttle => state.throttle_asks.as_slice(),
+        DomainKind::Idle => &[],
+    }
+}
+
+/// The limits of processors.
+pub fn limits_of(kind: DomainKind, state: &State) -> &[u8]
+    ensures { result.now ≡ limits_of kind state.now }
+{
+    match kind {
+        DomainKind::Perf => state.perf_limits.as_slice(),
+        DomainKind::Throttle => state.throttle_limits.as_slice(),
+        DomainKind::Idle => &[],
     }
 }

@@ -27,7 +27,7 @@ fn unfit_refusal(plan: &Plan, cpu: u32) -> Option<Reply>
 }
 
 /// The refusal of an idle request.
-fn idle_refusal(plan: &Plan, cpu: u32, state: u32, tolerance: u32) -> Option<Reply>
+pub fn idle_refusal(plan: &Plan, cpu: u32, state: u32, tolerance: u32) -> Option<Reply>
     requires { cpu < length plan.now.cpus }
     ensures { result ≡ idle_refusal plan.now cpu state tolerance }
 {
@@ -55,7 +55,7 @@ fn idle_refusal(plan: &Plan, cpu: u32, state: u32, tolerance: u32) -> Option<Rep
 }
 
 /// The refusal of a request on the processor's domain of this kind.
-fn domain_refusal(plan: &Plan, kind: DomainKind, cpu: u32) -> Option<Reply>
+pub fn domain_refusal(plan: &Plan, kind: DomainKind, cpu: u32) -> Option<Reply>
     requires { cpu < length plan.now.cpus }
     ensures { result ≡ domain_refusal plan.now kind cpu (scale_of kind (cpu_at plan.now cpu)) }
 {
@@ -77,7 +77,7 @@ fn domain_refusal(plan: &Plan, kind: DomainKind, cpu: u32) -> Option<Reply>
 }
 
 /// The refusal of a request for a state of this kind.
-fn ask_refusal(plan: &Plan, kind: DomainKind, cpu: u32, index: u32) -> Option<Reply>
+pub fn ask_refusal(plan: &Plan, kind: DomainKind, cpu: u32, index: u32) -> Option<Reply>
     requires { cpu < length plan.now.cpus }
     ensures { result ≡ ask_refusal plan.now kind cpu index }
 {
@@ -113,7 +113,13 @@ pub fn fixed_answer(plan: &Plan, request: &Request) -> Option<Reply>
 }
 
 /// The refusal of a state that is faster than the processor's own limit.
-fn above_limit(plan: &Plan, state: &State, kind: DomainKind, cpu: u32, index: u32) -> Option<Reply>
+pub fn above_limit(
+    plan: &Plan,
+    state: &State,
+    kind: DomainKind,
+    cpu: u32,
+    index: u32,
+) -> Option<Reply>
     requires cpu { cpu < length plan.now.cpus }
     requires fits { IsState plan.now state.now }
     ensures { result ≡ above_limit state.now kind cpu index }

@@ -1,11 +1,11 @@
-ghost use Rattle.std.specs.Prelude.{◌≡◌, ◌<◌, ◌++◌, length, map, All};
+ghost use Rattle.std.specs.Prelude.{◌≡◌, ◌<◌, ◌++◌, ◌==◌, [], length, map, All, if◌then◌else◌};
 ghost use Rattle.pw_plan.specs.Parts.{scale_of};
-ghost use Rattle.pw_plan.specs.Requests.{domain_bound};
-ghost use Rattle.pw_plan.specs.Places.{domain_of};
+ghost use Rattle.pw_plan.specs.Requests.{domain_bound, set_by};
+ghost use Rattle.pw_plan.specs.Places.{domain_at, domain_of};
 ghost use Rattle.pw_model.specs.States.{IsState, with_change};
 ghost use Rattle.pw_model.specs.Answers.{stands};
 ghost use Rattle.pw_model.specs.Operations.{control_of, domain_ops};
-ghost use Rattle.pw_model.specs.Operations.{register_of, set_on};
+ghost use Rattle.pw_model.specs.Operations.{register_of, set_at, set_on};
 ghost use Rattle.pw_ops.specs.Rooms.{HasRoom};
 
 use crate::composite::own_register;
@@ -86,6 +86,40 @@ pub fn stands_under(plan: &Plan, state: &State, change: Change, kind: DomainKind
     }
 }
 
+/// Sets where a domain stands, if that isn't where it stood before, and says it.
+pub fn set_between(
+    plan: &Plan,
+    kind: DomainKind,
+    place: usize,
+    cpu: u32,
+    before: u8,
+    after: u8,
+    ops: &mut Ops,
+) -> Reply
+    requires place { place < length plan.now.domains }
+    requires cpu { cpu < length plan.now.cpus }
+    requires room { HasRoom ops.old (set_by (domain_at plan.now place).coord
+        (length (domain_at plan.now place).members)) }
+    ensures reply { result ≡ Reply.Stands after }
+    ensures list { ops.new ≡ record ops.old {
+      elements = ops.old.elements ++ (if before == after then [] else
+          map (set_on plan.now kind after)
+          (set_at (domain_at plan.now place).coord (domain_at plan.now place).members cpu));
+    } }
+{
+    if before != after {
+        let domain = plan.domain(place);
+        match domain.coord {
+            Coord::SwAll => set_each(plan, kind, after, domain.members.as_slice(), ops),
+            Coord::SwAny => ops.push(set_on(plan, kind, after, cpu)),
+            Coord::HwAll => ops.push(set_on(plan, kind, after, cpu)),
+        }
+    }
+    Reply::Stands {
+        index: u32::from(after),
+    }
+}
+
 /// Appends the operations of an accepted request on the processor's domain of this kind, and says
 /// where the domain then stands.
 pub fn set_domain(
@@ -111,15 +145,5 @@ pub fn set_domain(
     };
     let before = standing(plan, state, Change::Nothing, membership.place, cpu);
     let after = standing(plan, state, change, membership.place, cpu);
-    if before != after {
-        let domain = plan.domain(membership.place);
-        match domain.coord {
-            Coord::SwAll => set_each(plan, kind, after, domain.members.as_slice(), ops),
-            Coord::SwAny => ops.push(set_on(plan, kind, after, cpu)),
-            Coord::HwAll => ops.push(set_on(plan, kind, after, cpu)),
-        }
-    }
-    Reply::Stands {
-        index: u32::from(after),
-    }
+    set_between(plan, kind, membership.place, cpu, before, after, ops)
 }

@@ -2,8 +2,10 @@ use crate::accepting::{accept, accepted_reply};
 use crate::changing::{change_of, make};
 use crate::opening::{open_all, opened};
 use crate::refusal::refusal;
+use crate::stepping::{step_ask, step_idle, step_limit};
+use crate::tree::RUNNING;
 use pw_base::Memory;
-use pw_model::{Reply, State as Lists};
+use pw_model::{Change, Reply, ScaleKind, State as Lists};
 use pw_ops::Ops;
 use pw_plan::{Plan, Request};
 use std::alloc::Global;
@@ -103,7 +105,7 @@ impl State {
     }
 
     /// Answers the request, appends its operations and notes what it asks for.
-    #[tactic(auto, unfolding(pw_model::specs::Answers::after, pw_model::specs::Answers::answer, pw_model::specs::Operations::ops_of))]
+    #[tactic(auto, unfolding(pw_model::specs::Answers::after, pw_model::specs::Answers::answer, pw_model::specs::Answers::accepted, pw_model::specs::Operations::ops_of, pw_model::specs::Operations::accepted_ops, pw_model::specs::States::any_latency))]
     pub fn step(&mut self, plan: &Plan, request: Request, ops: &mut Ops) -> Reply
         requires request { Has plan.now request }
         requires fits { IsState plan.now self.old }
@@ -116,13 +118,27 @@ impl State {
         ensures after { self.new ≡ after plan.now self.old request }
         ensures fits { IsState plan.now self.new }
     {
-        match refusal(plan, &self.lists, request) {
-            Some(reply) => reply,
-            None => {
-                let change = change_of(plan, &self.lists, request);
-                let reply = accept(plan, &self.lists, change, request, ops);
-                make(&mut self.lists, change);
-                reply
+        match request {
+            Request::Idle {
+                cpu,
+                state,
+                tolerance,
+            } => step_idle(plan, &mut self.lists, cpu, state, tolerance, ops),
+            Request::Wake { cpu } => {
+                make(&mut self.lists, Change::Vote { cpu, vote: RUNNING });
+                Reply::Running
+            }
+            Request::Perf { cpu, index } => {
+                step_ask(plan, &mut self.lists, ScaleKind::Perf, cpu, index, ops)
+            }
+            Request::Throttle { cpu, index } => {
+                step_ask(plan, &mut self.lists, ScaleKind::Throttle, cpu, index, ops)
+            }
+            Request::PerfLimit { cpu, n } => {
+                step_limit(plan, &mut self.lists, ScaleKind::Perf, cpu, n, ops)
+            }
+            Request::ThrottleLimit { cpu, n } => {
+                step_limit(plan, &mut self.lists, ScaleKind::Throttle, cpu, n, ops)
             }
         }
     }
