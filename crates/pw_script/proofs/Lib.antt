@@ -10,5 +10,6 @@ pub mod Naming
 pub mod Noticing
 pub mod Orders
 pub mod Printed
+pub mod Shorts
 pub mod Spacing
 pub mod Values

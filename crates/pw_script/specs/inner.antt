@@ -2,3 +2,4 @@ pub mod Behind
 pub mod Cuts
 pub mod Looking
 pub mod Openings
+pub mod Paths

@@ -3,11 +3,13 @@
 #![tactic(auto)]
 
 mod asking;
+mod digits;
 mod index;
 mod laws;
 mod line;
 mod lines;
 mod name;
+mod named;
 mod number;
 mod operations;
 mod parsing;

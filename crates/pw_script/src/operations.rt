@@ -1,39 +1,27 @@
-ghost use Rattle.std.specs.Prelude.{◌≡◌, ◌∷◌, ◌++◌, [], codes, decimal, is_ok};
+ghost use Rattle.std.specs.Prelude.{◌∷◌, ◌++◌, [], codes, decimal, is_ok};
 ghost use Rattle.std.specs.List.{flat_map, join_with_byte};
 ghost use Rattle.pw_text.specs.Puts.{PutsText};
 ghost use Rattle.pw_text.specs.Text.{hex_text};
-ghost use Rattle.pw_plan.specs.Places.{cpu_at};
 ghost use Rattle.pw_script.specs.HistoryText.{op_line, path_of, register_text};
 
+use crate::digits::{put_decimal, put_hexadecimal};
+use crate::named::NamedPlan;
 use crate::words::put_labelled;
 use acpi_values::{Op, Register};
-use aml_data::Seg;
 use pw_base::{Failed, Sink};
-use pw_plan::Plan;
-use pw_text::{Page, put_hex, put_number, put_place};
-
-/// The segments of a processor's path.
-#[tactic(auto, unfolding(pw_plan::specs::Parts::no_cpu))]
-fn segs_of(plan: &Plan, cpu: u32) -> &[Seg]
-    ensures { result.now ≡ (cpu_at plan.now cpu).path.segs }
-{
-    match plan.cpus.as_slice().get(cpu as usize) {
-        None => &[],
-        Some(parts) => parts.path.segs.as_slice(),
-    }
-}
+use pw_text::Page;
 
 /// Puts a processor's path.
 pub(crate) fn put_cpu<K: Sink>(
     page: &mut Page,
     sink: &mut K,
-    plan: &Plan,
+    plan: &NamedPlan,
     cpu: u32,
 ) -> Result<(), Failed>
     ensures { PutsText K.Sink sink.old sink.new page.old page.new
         (path_of plan.now cpu) (is_ok result) }
 {
-    put_place(page, sink, segs_of(plan, cpu))
+    page.put(sink, plan.path(cpu))
 }
 
 /// Puts a number in hexadecimal behind a text.
@@ -47,7 +35,7 @@ fn put_labelled_hex<K: Sink>(
         (label.now ++ hex_text number) (is_ok result) }
 {
     page.put(sink, label)?;
-    put_hex(page, sink, number)
+    put_hexadecimal(page, sink, number)
 }
 
 /// Puts the fields of a register, with commas between.
@@ -56,7 +44,7 @@ fn put_fields<K: Sink>(page: &mut Page, sink: &mut K, register: &Register) -> Re
         (join_with_byte 44 (decimal register.now.space ∷ decimal register.now.width ∷ decimal register.now.offset
         ∷ decimal register.now.access ∷ hex_text register.now.address ∷ [])) (is_ok result) }
 {
-    put_number(page, sink, u64::from(register.space))?;
+    put_decimal(page, sink, u64::from(register.space))?;
     put_labelled(page, sink, b",", u32::from(register.width))?;
     put_labelled(page, sink, b",", u32::from(register.offset))?;
     put_labelled(page, sink, b",", u32::from(register.access))?;
@@ -77,7 +65,7 @@ fn put_register<K: Sink>(page: &mut Page, sink: &mut K, register: &Register) -> 
 fn put_target<K: Sink>(
     page: &mut Page,
     sink: &mut K,
-    plan: &Plan,
+    plan: &NamedPlan,
     verb: &[u8],
     cpu: u32,
     register: &Register,
@@ -95,7 +83,7 @@ fn put_target<K: Sink>(
 fn put_set<K: Sink>(
     page: &mut Page,
     sink: &mut K,
-    plan: &Plan,
+    plan: &NamedPlan,
     cpu: u32,
     register: &Register,
     value: u64,
@@ -109,7 +97,7 @@ fn put_set<K: Sink>(
 }
 
 /// Puts an operation, without a line feed.
-fn put_op<K: Sink>(page: &mut Page, sink: &mut K, plan: &Plan, op: &Op) -> Result<(), Failed>
+fn put_op<K: Sink>(page: &mut Page, sink: &mut K, plan: &NamedPlan, op: &Op) -> Result<(), Failed>
     ensures { PutsText K.Sink sink.old sink.new page.old page.new
         (op_line plan.now op.now) (is_ok result) }
 {
@@ -131,7 +119,12 @@ fn put_op<K: Sink>(page: &mut Page, sink: &mut K, plan: &Plan, op: &Op) -> Resul
 }
 
 /// Puts the line of an operation.
-fn put_op_line<K: Sink>(page: &mut Page, sink: &mut K, plan: &Plan, op: &Op) -> Result<(), Failed>
+fn put_op_line<K: Sink>(
+    page: &mut Page,
+    sink: &mut K,
+    plan: &NamedPlan,
+    op: &Op,
+) -> Result<(), Failed>
     ensures { PutsText K.Sink sink.old sink.new page.old page.new
         (op_line plan.now op.now ++ (10 ∷ [])) (is_ok result) }
 {
@@ -143,7 +136,7 @@ fn put_op_line<K: Sink>(page: &mut Page, sink: &mut K, plan: &Plan, op: &Op) -> 
 pub(crate) fn put_ops<K: Sink>(
     page: &mut Page,
     sink: &mut K,
-    plan: &Plan,
+    plan: &NamedPlan,
     ops: &[Op],
 ) -> Result<(), Failed>
     ensures { PutsText K.Sink sink.old sink.new page.old page.new

@@ -14,6 +14,8 @@ ghost use Rattle.pw_script.specs.HistoryText.{opening_lines, reply_words, reques
 ghost use Rattle.pw_script.specs.inner.Behind.{head_text};
 ghost use Rattle.pw_script.specs.inner.Openings.{opened, opening_line};
 
+use crate::digits::put_decimal;
+use crate::named::NamedPlan;
 use crate::operations::{put_cpu, put_ops};
 use crate::words::{put_fault, put_labelled, put_reply, put_request};
 use acpi_values::Op;
@@ -21,7 +23,7 @@ use pw_base::{Failed, Sink};
 use pw_core::{Ops, State};
 use pw_model::{HistoryEntry, Reply};
 use pw_plan::{Plan, Request};
-use pw_text::{Page, PrintFault, put_number};
+use pw_text::{Page, PrintFault};
 use std::alloc::Global;
 
 /// How many operations a request has at most.
@@ -31,14 +33,14 @@ const MOST_OF_A_REQUEST: u32 = 256;
 fn put_head<K: Sink>(
     page: &mut Page,
     sink: &mut K,
-    plan: &Plan,
+    plan: &NamedPlan,
     number: u64,
     request: Request,
 ) -> Result<(), Failed>
     ensures { PutsText K.Sink sink.old sink.new page.old page.new
         (head_text plan.now number request) (is_ok result) }
 {
-    put_number(page, sink, number)?;
+    put_decimal(page, sink, number)?;
     page.put(sink, b" ")?;
     put_cpu(page, sink, plan, request.cpu())?;
     put_request(page, sink, request)?;
@@ -49,7 +51,7 @@ fn put_head<K: Sink>(
 fn put_answered<K: Sink>(
     page: &mut Page,
     sink: &mut K,
-    plan: &Plan,
+    plan: &NamedPlan,
     number: u64,
     request: Request,
     reply: Reply,
@@ -69,7 +71,7 @@ fn put_answered<K: Sink>(
 fn put_faulted<K: Sink>(
     page: &mut Page,
     sink: &mut K,
-    plan: &Plan,
+    plan: &NamedPlan,
     number: u64,
     request: Request,
     done: u32,
@@ -90,7 +92,7 @@ fn put_faulted<K: Sink>(
 fn put_entry<K: Sink>(
     page: &mut Page,
     sink: &mut K,
-    plan: &Plan,
+    plan: &NamedPlan,
     state: &mut State,
     ops: &mut Ops,
     number: u64,
@@ -108,10 +110,10 @@ fn put_entry<K: Sink>(
     let request = entry.request();
     ops.clear();
     if entry.fault == 0 {
-        let reply = state.step(plan, request, ops);
+        let reply = state.step(plan.plan(), request, ops);
         return put_answered(page, sink, plan, number, request, reply, ops.list());
     }
-    state.operations(plan, request, ops);
+    state.operations(plan.plan(), request, ops);
     let done = entry.fault - 1;
     put_faulted(
         page,
@@ -137,7 +139,7 @@ fn first_of(ops: &[Op], count: u32) -> &[Op]
 fn put_entries<K: Sink>(
     page: &mut Page,
     sink: &mut K,
-    plan: &Plan,
+    plan: &NamedPlan,
     state: &mut State,
     ops: &mut Ops,
     entries: &[HistoryEntry],
@@ -183,7 +185,7 @@ fn opened(ops: &[Op], opening: Option<u32>) -> &[Op]
 fn put_opening<K: Sink>(
     page: &mut Page,
     sink: &mut K,
-    plan: &Plan,
+    plan: &NamedPlan,
     opening: Option<u32>,
     ops: &[Op],
 ) -> Result<(), Failed>
@@ -200,7 +202,7 @@ fn put_opening<K: Sink>(
 fn put_history<K: Sink>(
     page: &mut Page,
     sink: &mut K,
-    plan: &Plan,
+    plan: &NamedPlan,
     state: &mut State,
     ops: &mut Ops,
     opening: Option<u32>,
@@ -216,7 +218,7 @@ fn put_history<K: Sink>(
         (history_text plan.now opening entries.now) (is_ok result) }
     ensures empty { OnOk result (page.new ≡ []) }
 {
-    state.opening(plan, ops);
+    state.opening(plan.plan(), ops);
     put_opening(page, sink, plan, opening, ops.list())?;
     put_entries(page, sink, plan, state, ops, entries)?;
     page.flush(sink)
@@ -242,9 +244,12 @@ pub fn print_history<K: Sink>(
     ensures sink { result ≡ Err faults.Sink → Rose (K.faults out.old) (K.faults out.new) }
     ensures memory { result ≡ Err faults.Memory → out.new ≡ out.old }
 {
+    let named = NamedPlan::new(alloc, plan)?;
     let mut page = Page::new(alloc)?;
     let mut state = State::open(alloc, plan)?;
     let mut ops = Ops::new(alloc, plan.opening_bound().max(MOST_OF_A_REQUEST))?;
-    put_history(&mut page, out, plan, &mut state, &mut ops, opening, entries)?;
+    put_history(
+        &mut page, out, &named, &mut state, &mut ops, opening, entries,
+    )?;
     Ok(())
 }

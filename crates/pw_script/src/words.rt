@@ -4,11 +4,12 @@ ghost use Rattle.pw_text.specs.Puts.{PutsText};
 ghost use Rattle.pw_script.specs.HistoryText.{fault_words, reply_words, request_words, tolerance_words};
 ghost use Rattle.pw_script.specs.inner.Behind.{behind};
 
+use crate::digits::put_decimal;
 use acpi_values::Chain;
 use pw_base::{Failed, Sink};
 use pw_model::Reply;
 use pw_plan::Request;
-use pw_text::{Page, put_number};
+use pw_text::Page;
 
 /// The tolerance that bears any wake latency.
 const ANY_LATENCY: u32 = u32::MAX;
@@ -24,7 +25,7 @@ pub(crate) fn put_labelled<K: Sink>(
         (label.now ++ decimal number) (is_ok result) }
 {
     page.put(sink, label)?;
-    put_number(page, sink, u64::from(number))
+    put_decimal(page, sink, u64::from(number))
 }
 
 /// Puts the tolerance of an idle request, unless it bears any latency.
