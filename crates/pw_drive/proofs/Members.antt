@@ -1,0 +1,60 @@
+-- The member of a domain of performance or throttling that a request is about.
+use Rattle.std.proofs.Common.{◌≡◌, ◌<◌, ◌≤◌, ◌-◌, ◌++◌, ℕ, min, true, false, cond, List, length, Option, Some, None, ap, sym, subst, ◌∙◌, arith}
+use Rattle.std.specs.Prelude.{is_some, nat_lt}
+use Rattle.std.proofs.lemmas.Bool.Decides.{nat_tests}
+use Rattle.pw_base.specs.Room.{Bounded}
+use Rattle.acpi_values.specs.declared.operation.Op.{Op}
+use Rattle.pw_plan.specs.declared.domain.DomainKind.{DomainKind}
+use Rattle.pw_plan.specs.declared.parts.Scale.{Scale}
+use Rattle.pw_plan.specs.declared.plan.Plan.{Plan}
+use Rattle.pw_plan.specs.Parts.{count_of, scale_of}
+use Rattle.pw_plan.specs.Places.{cpu_at, domain_at, domain_of}
+use Rattle.pw_model.specs.States.{IsIndex, capped}
+use Rattle.pw_parts.specs.Calls.{level_ops, own_limit}
+use Rattle.pw_parts.specs.Effects.{ask_effect, level_effect, limit_effect, member_place, refused_above, with_ask, with_limit}
+use Rattle.pw_parts.specs.Holding.{member_in}
+use Rattle.pw_parts.specs.Records.{Part, domain}
+use Rattle.pw_parts.proofs.Calls.{calls_serve}
+use Rattle.pw_parts.proofs.Levels.{has_domain}
+
+-- a list of operations with more
+abbrev pub with_ops : Bounded Op → List Op → Bounded Op
+with_ops old ops = record old { elements = old.elements ++ ops }
+
+is_index : (scale : Option Scale) (i : ℕ) → i < count_of scale → IsIndex scale i
+is_index None i lt = absurd (omega (arith, lt))
+is_index (Some scale) i lt = lt
+
+module _ (P : Plan) (kind : DomainKind) (p : ℕ) (exists : p < length P.cpus) (some : is_some (scale_of kind (cpu_at P p)) ≡ true) where
+  module _ (d k : ℕ) (at : d ≡ domain_of P kind p) (there : k ≡ member_place (domain_at P (domain_of P kind p)).members p) where
+    pub place_within : k < length (domain_at P d).members
+    place_within = rw (at, there) ((calls_serve P).member_at (domain_of P kind p) p (has_domain P kind p exists some).member).0
+
+    index_there : (i : ℕ) → IsIndex (scale_of kind (cpu_at P p)) i → IsIndex (scale_of (domain_at P d).kind (cpu_at P (member_in (domain_at P d).members k))) i
+    index_there i h =
+        let has = has_domain P kind p exists some in
+        rw (at, there) (subst (λ (j : DomainKind). IsIndex (scale_of j (cpu_at P (member_in (domain_at P (domain_of P kind p)).members (member_place (domain_at P (domain_of P kind p)).members p)))) i) (sym has.kind_is)
+        (subst (λ q. IsIndex (scale_of kind (cpu_at P q)) i) (sym ((calls_serve P).member_at (domain_of P kind p) p has.member).1) h))
+
+    pub asked_index : (i : ℕ) → i < count_of (scale_of kind (cpu_at P p)) → IsIndex (scale_of (domain_at P d).kind (cpu_at P (member_in (domain_at P d).members k))) i
+    asked_index i lt = index_there i (is_index (scale_of kind (cpu_at P p)) i lt)
+
+    pub limited_index : (n i : ℕ) → i ≡ capped (scale_of kind (cpu_at P p)) n → IsIndex (scale_of (domain_at P d).kind (cpu_at P (member_in (domain_at P d).members k))) i
+    limited_index n i is =
+        let few = P.sound.small.some_states kind p some in
+        let below : min n (count_of (scale_of kind (cpu_at P p)) - 1) < count_of (scale_of kind (cpu_at P p)) = omega (arith, few) in
+        index_there i (is_index (scale_of kind (cpu_at P p)) i (subst (λ j. j < count_of (scale_of kind (cpu_at P p))) (sym is) below))
+
+    -- what the operations of the record's calls are
+    pub asked_ops : (i : ℕ) (x y : Part) → y ≡ with_ask k i x → own_limit x k ≤ i → level_ops P d k x y ≡ (ask_effect P kind p i (domain_of P kind p) x).ops
+    asked_ops i x y is above =
+        let D = domain_of P kind p in
+        let j = member_place (domain_at P (domain_of P kind p)).members p in
+        let le : own_limit x j ≤ i = subst (λ m. own_limit x m ≤ i) there above in
+        let within : nat_lt i (own_limit x j) ≡ false = grind (arith, nat_tests) in
+        rw (is, at, there) (sym (ap (λ b. (cond b (refused_above (domain D) x (own_limit x j)) (level_effect P kind p D x (with_ask j i x))).ops) within ∙ (calls_serve P).level_ops_are kind p x (with_ask j i x) exists some))
+
+    pub limited_ops : (n i : ℕ) (x y : Part) → i ≡ capped (scale_of kind (cpu_at P p)) n → y ≡ with_limit k i x → level_ops P d k x y ≡ (limit_effect P kind p n (domain_of P kind p) x).ops
+    limited_ops n i x y few is =
+        let j = member_place (domain_at P (domain_of P kind p)).members p in
+        rw (is, few, at, there) (sym ((calls_serve P).level_ops_are kind p x (with_limit j (capped (scale_of kind (cpu_at P p)) n) x) exists some))

@@ -1,0 +1,131 @@
+ghost use Rattle.std.specs.Prelude.{◌≡◌, ◌≤◌, ◌<◌, ◌^◌, [], length, IfErr, IfOk, IfSome};
+ghost use Rattle.std.specs.List.{AllByRecursion};
+ghost use Rattle.pw_plan.specs.Requests.{Has, ops_bound, opening_bound};
+ghost use Rattle.pw_model.specs.declared.entry.HistoryEntry.{HistoryEntry as entry};
+ghost use Rattle.pw_model.specs.Operations.{opening_ops};
+ghost use Rattle.pw_regs.specs.Seen.{registers_seen};
+ghost use Rattle.pw_script.specs.declared.script.Line.{Line as asked};
+ghost use Rattle.pw_script.specs.Lawful.{LawfulSerial};
+ghost use Rattle.pw_script.specs.Reading.{operations, requests_of};
+ghost use Rattle.pw_drive.specs.Driven.{OperatesFor};
+ghost use Rattle.pw_drive.specs.inner.Running.{Did, Stands, opening_done};
+
+use crate::records::Records;
+use crate::running::{make_all, most_operations};
+use pw_base::{List, Memory};
+use pw_core::{Ops, open_all};
+use pw_journal::{HistoryEntry, Journal};
+use pw_plan::Plan;
+use pw_regs::Registers;
+use pw_script::{Line, Script};
+use std::alloc::Global;
+
+/// What a run of a script gives. `opening` is how many operations at the start were done where a
+/// fault ended them; then no request was made.
+#[derive(Drop)]
+pub struct Driven<R> {
+    pub plan: Plan,
+    pub opening: Option<u32>,
+    pub entries: List<HistoryEntry>,
+    pub regs: R,
+}
+
+/// The records at the start, and a list with room for the operations of the start and of each line.
+fn prepare(alloc: Global, plan: &Plan, lines: &[Line]) -> Result<(Records, Ops), Memory>
+    ensures stands { IfOk result (λ held. Stands plan.now [] held.0) }
+    ensures none { IfOk result (λ held. held.1.elements ≡ []) }
+    ensures few { IfOk result (λ held. held.1.capacity < 2 ^ 32) }
+    ensures opening { IfOk result (λ held. opening_bound plan.now ≤ held.1.capacity) }
+    ensures room { IfOk result (λ held.
+        AllByRecursion (λ (l : asked). ops_bound plan.now l.request ≤ held.1.capacity) lines.now) }
+{
+    let records = Records::open(alloc, plan)?;
+    let ops = Ops::new(alloc, most_operations(plan, lines))?;
+    Ok((records, ops))
+}
+
+/// Does the operations at the start. At a fault it answers how many of them were done.
+fn open<R: Registers>(plan: &Plan, ops: &mut Ops, journal: &mut Journal<R>) -> Option<u32>
+    requires none { ops.old.elements ≡ [] }
+    requires room { opening_bound plan.now ≤ ops.old.capacity }
+    requires few { ops.old.capacity < 2 ^ 32 }
+    requires empty { journal.old.entries ≡ [] }
+    ensures room { ops.new.capacity ≡ ops.old.capacity }
+    ensures empty { journal.new.entries ≡ [] }
+    ensures space { journal.new.capacity ≡ journal.old.capacity }
+    ensures within { IfSome result (λ k. k < length (opening_ops plan.now)) }
+    ensures did { Did (opening_bound plan.now) (opening_done plan.now result) result
+        (registers_seen R.Registers journal.old.regs) (registers_seen R.Registers journal.new.regs) }
+{
+    open_all(plan, ops);
+    journal.operate(ops.list()).err()
+}
+
+/// Does the operations at the start, and makes the requests of the lines in their order, up to the first
+/// fault. Where that ended the start it answers how many operations were done.
+fn run<R: Registers>(
+    plan: &Plan,
+    records: &mut Records,
+    lines: &[Line],
+    ops: &mut Ops,
+    journal: &mut Journal<R>,
+) -> Option<u32>
+    requires has { AllByRecursion (λ (l : asked). Has plan.now l.request) lines.now }
+    requires stands { Stands plan.now [] records.old }
+    requires none { ops.old.elements ≡ [] }
+    requires few { ops.old.capacity < 2 ^ 32 }
+    requires opening { opening_bound plan.now ≤ ops.old.capacity }
+    requires room { AllByRecursion (λ (l : asked). ops_bound plan.now l.request ≤ ops.old.capacity) lines.now }
+    requires empty { journal.old.entries ≡ [] }
+    requires space { journal.old.capacity ≡ length lines.now }
+    ensures lawful { LawfulSerial plan.now (requests_of lines.now) result journal.new.entries }
+    ensures seats { AllByRecursion (λ (e : entry). e.seat ≡ 0) journal.new.entries }
+    ensures operates { OperatesFor plan.now (operations plan.now lines.now) result journal.new.entries
+        (registers_seen R.Registers journal.old.regs) (registers_seen R.Registers journal.new.regs) }
+{
+    let opening = open(plan, ops, journal);
+    if opening.is_none() {
+        make_all(plan, records, lines, ops, journal);
+    }
+    opening
+}
+
+/// Runs a script on registers: the operations at the start, and then the requests of its lines in their
+/// order, up to the first fault of a register. All memory is taken before the first operation; where
+/// there is none, the registers are given back as they were.
+pub fn serial<R: Registers>(
+    alloc: Global,
+    plan: Plan,
+    script: &Script,
+    regs: R,
+) -> Result<Driven<R>, R>
+    requires few { length script.now.lines ≤ 65536 }
+    requires has { AllByRecursion (λ (l : asked). Has plan l.request) script.now.lines }
+    ensures plan { IfOk result (λ driven. driven.plan ≡ plan) }
+    // The history is one of the lines in their order.
+    ensures lawful { IfOk result (λ driven.
+        LawfulSerial plan (requests_of script.now.lines) driven.opening driven.entries) }
+    ensures seats { IfOk result (λ driven. AllByRecursion (λ (e : entry). e.seat ≡ 0) driven.entries) }
+    // The registers' log grew by the operations of the start and of that history.
+    ensures operates { IfOk result (λ driven.
+        OperatesFor plan (operations plan script.now.lines) driven.opening driven.entries
+        (registers_seen R.Registers regs) (registers_seen R.Registers driven.regs)) }
+    ensures given_back { IfErr result (λ back. back ≡ regs) }
+{
+    let lines = script.lines.as_slice();
+    let Ok((mut records, mut ops)) = prepare(alloc, &plan, lines) else {
+        return Err(regs);
+    };
+    let mut journal = match Journal::open(alloc, lines.len() as u32, regs) {
+        Ok(journal) => journal,
+        Err(regs) => return Err(regs),
+    };
+    let opening = run(&plan, &mut records, lines, &mut ops, &mut journal);
+    let (entries, regs) = journal.finish();
+    Ok(Driven {
+        plan,
+        opening,
+        entries: List::from_vec(entries),
+        regs,
+    })
+}

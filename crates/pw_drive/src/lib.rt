@@ -1,0 +1,16 @@
+//! Scripts driven on registers: every request of a script in its order, by the records of the plan.
+#![tactic(auto)]
+
+mod climbing;
+mod driving;
+mod grouping;
+mod idling;
+mod levels;
+mod records;
+mod running;
+mod scaling;
+mod serving;
+mod voting;
+
+pub use driving::{Driven, serial};
+pub use records::Records;

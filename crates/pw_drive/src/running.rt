@@ -1,0 +1,76 @@
+ghost use Rattle.std.specs.Prelude.{◌≡◌, ◌≤◌, ◌<◌, ◌^◌, [], true, length, is_some, OnOk, OnErr};
+ghost use Rattle.std.specs.List.{AllByRecursion};
+ghost use Rattle.pw_plan.specs.Requests.{Has, ops_bound, opening_bound};
+ghost use Rattle.pw_model.specs.History.{fault_at};
+ghost use Rattle.pw_regs.specs.Seen.{registers_seen};
+ghost use Rattle.pw_script.specs.declared.script.Line.{Line as asked};
+ghost use Rattle.pw_drive.specs.inner.Running.{Ran, Stands, Turned};
+
+use crate::records::Records;
+use pw_core::Ops;
+use pw_journal::Journal;
+use pw_plan::{Plan, Request};
+use pw_regs::Registers;
+use pw_script::Line;
+
+/// How many operations the start or one of the lines has at most.
+pub fn most_operations(plan: &Plan, lines: &[Line]) -> u32
+    ensures opening { opening_bound plan.now ≤ result }
+    ensures lines { AllByRecursion (λ (l : asked). ops_bound plan.now l.request ≤ result) lines.now }
+{
+    let mut most = plan.opening_bound();
+    for line in lines {
+        most = plan.ops_bound(&line.request).max(most);
+    }
+    most
+}
+
+/// Makes a request: does its operations, and appends its entry. At a fault it answers how many of
+/// them were done.
+fn make<R: Registers>(
+    plan: &Plan,
+    records: &mut Records,
+    request: Request,
+    ops: &mut Ops,
+    journal: &mut Journal<R>,
+) -> Result<(), u32>
+    requires has { Has plan.now request }
+    requires stands { Stands plan.now journal.old.entries records.old }
+    requires space { length journal.old.entries < journal.old.capacity }
+    requires room { ops_bound plan.now request ≤ ops.old.capacity }
+    requires few { ops.old.capacity < 2 ^ 32 }
+    ensures space { journal.new.capacity ≡ journal.old.capacity }
+    ensures room { ops.new.capacity ≡ ops.old.capacity }
+    ensures turned { Turned plan.now request journal.old.entries journal.new.entries
+        (registers_seen R.Registers journal.old.regs) (registers_seen R.Registers journal.new.regs) }
+    ensures stands { OnOk result (Stands plan.now journal.new.entries records.new) }
+    ensures stopped { OnErr result (is_some (fault_at journal.new.entries) ≡ true) }
+{
+    ops.clear();
+    let _reply = records.serve(plan, request, ops);
+    journal.append(0, request, ops.list())
+}
+
+/// Makes the requests of the lines in their order, up to the first fault.
+pub fn make_all<R: Registers>(
+    plan: &Plan,
+    records: &mut Records,
+    lines: &[Line],
+    ops: &mut Ops,
+    journal: &mut Journal<R>,
+)
+    requires has { AllByRecursion (λ (l : asked). Has plan.now l.request) lines.now }
+    requires stands { Stands plan.now [] records.old }
+    requires empty { journal.old.entries ≡ [] }
+    requires space { journal.old.capacity ≡ length lines.now }
+    requires room { AllByRecursion (λ (l : asked). ops_bound plan.now l.request ≤ ops.old.capacity) lines.now }
+    requires few { ops.old.capacity < 2 ^ 32 }
+    ensures { Ran plan.now lines.now journal.new.entries
+        (registers_seen R.Registers journal.old.regs) (registers_seen R.Registers journal.new.regs) }
+{
+    for line in lines {
+        if make(plan, records, line.request, ops, journal).is_err() {
+            return;
+        }
+    }
+}
