@@ -1,30 +1,45 @@
-//! The program `pw`: the words of its command line, the files of the system, and its two outputs.
-//! What it does with them is the library's `run`.
+//! The program `pw`: the words of its command line, the files of the system, its two outputs, and registers
+//! in memory. What it does with them is the library's `run`.
 #![tactic(auto)]
 
 ghost use Rattle.std.specs.Prelude.{◌≡◌, codes, if◌then◌else◌};
 
-use pw_base::{StdFiles, StdSink, put_all};
+use pw_base::{OpenGate, StdFiles, StdSink, put_all};
 use pw_cli::run;
+use pw_regs::RegisterFile;
+use pw_script::MOST_OPERATIONS;
 use std::process::ExitCode;
 use std::{env, io};
 
 fn main(rt: HostRuntime) -> ExitCode {
     let mut out = StdSink::stdout(rt.stdout());
     let mut err = StdSink::stderr(rt.stderr());
-    match words(&rt) {
-        Ok(words) => {
-            let alloc = rt.alloc();
-            let mut files = StdFiles::new(rt, alloc);
-            let outcome = run(alloc, words.as_slice(), &mut files, &mut out, &mut err);
-            ExitCode::from(outcome.status)
-        }
-        Err(error) => {
-            let (status, line) = early_end(error.kind() == io::ErrorKind::OutOfMemory);
-            let _ = put_all(&mut err, line);
-            ExitCode::from(status)
-        }
-    }
+    let alloc = rt.alloc();
+    let words = match words(&rt) {
+        Ok(words) => words,
+        Err(error) => return end_early(&mut err, error.kind() == io::ErrorKind::OutOfMemory),
+    };
+    let Ok(regs) = RegisterFile::new(alloc, MOST_OPERATIONS) else {
+        return end_early(&mut err, true);
+    };
+    let mut files = StdFiles::new(rt, alloc);
+    let outcome = run(
+        alloc,
+        words.as_slice(),
+        &mut files,
+        &mut out,
+        &mut err,
+        regs,
+        &OpenGate,
+    );
+    ExitCode::from(outcome.status)
+}
+
+/// Ends a run before it begins.
+fn end_early(err: &mut StdSink, memory: bool) -> ExitCode {
+    let (status, line) = early_end(memory);
+    let _ = put_all(err, line);
+    ExitCode::from(status)
 }
 
 /// The words behind the program's name. One that isn't UTF-8 is an error.

@@ -1,22 +1,24 @@
 use crate::bytes::{block_of, put_bytes};
-use pw_base::{Memory, MemoryFile, MemoryFiles, MemorySink};
+use crate::outside::{Outside, SOUND};
+use pw_base::{Memory, MemoryFiles, MemorySink, OpenGate};
 use pw_cli::run;
+use pw_regs::FailingRegisters;
 use std::alloc::Global;
 
-/// As many bytes as an output has room for.
-const ROOM: u32 = 20_000_000;
-
-/// One run: what the files `a`, `b` and `c` hold, the words, how many bytes a read gives at most, and what
-/// must stand on the two outputs.
+/// One run: what the files `a`, `b` and `c` hold, the words, what the outside is like, and what must come: what
+/// stands on the two outputs, all of it or so many first bytes, and how many operations the registers saw.
 #[derive(Drop)]
 pub struct Case {
     a: Vec<u8>,
     b: Vec<u8>,
     c: Vec<u8>,
     words: Vec<String>,
-    piece: u32,
+    outside: Outside,
     out: Vec<u8>,
+    out_first: u32,
     err: Vec<u8>,
+    err_first: u32,
+    ops: u32,
 }
 
 impl Case {
@@ -26,10 +28,29 @@ impl Case {
             b: Vec::new(alloc),
             c: Vec::new(alloc),
             words: Vec::new(alloc),
-            piece: 1 << 20,
+            outside: SOUND,
             out: Vec::new(alloc),
+            out_first: u32::MAX,
             err: Vec::new(alloc),
+            err_first: u32::MAX,
+            ops: 0,
         }
+    }
+
+    /// Begins a case of the same files, words and text over another outside.
+    pub fn again(&mut self) {
+        self.outside = SOUND;
+        self.out_first = u32::MAX;
+        self.err.clear();
+        self.err_first = u32::MAX;
+    }
+
+    /// Begins a case of the same files `a` and `b`, with another script.
+    pub fn other(&mut self) {
+        self.again();
+        self.c.clear();
+        self.out.clear();
+        self.ops = 0;
     }
 
     /// Reads a line of the list.
@@ -40,20 +61,36 @@ impl Case {
         match key {
             "#" => Some(()),
             "run" => self.read_words(alloc, rest),
-            "reads-of" => {
-                self.piece = rest.parse::<u32>().ok()?;
-                Some(())
-            }
             "out" => put_line(&mut self.out, rest),
             "out-bytes" => put_bytes(alloc, &mut self.out, rest),
             "out-file" => self.put_file(rest),
             "err" => put_line(&mut self.err, rest),
             "block" => self.make_block(alloc, rest),
-            name => put_bytes(alloc, self.file(name)?, rest),
+            "script" => put_line(&mut self.c, rest),
+            _ => self.read_number(alloc, key, rest),
+        }
+    }
+
+    /// Reads a line that sets a number, or adds bytes to a file.
+    fn read_number(&mut self, alloc: Global, key: &str, rest: &str) -> Option<()> {
+        let Some(number) = self.number(key) else {
+            return put_bytes(alloc, self.file(key)?, rest);
+        };
+        *number = rest.parse::<u32>().ok()?;
+        Some(())
+    }
+
+    fn number(&mut self, key: &str) -> Option<&mut u32> {
+        match key {
+            "out-first" => Some(&mut self.out_first),
+            "err-first" => Some(&mut self.err_first),
+            "ops" => Some(&mut self.ops),
+            _ => self.outside.number(key),
         }
     }
 
     fn read_words(&mut self, alloc: Global, words: &str) -> Option<()> {
+        self.words.clear();
         for word in words.split_whitespace() {
             let word = String::from_str(alloc, word).ok()?;
             self.words.push(word).ok()?;
@@ -84,33 +121,43 @@ impl Case {
     }
 
     fn files(&self, alloc: Global) -> Result<MemoryFiles, Memory> {
-        let mut held = Vec::new(alloc);
-        held.push(MemoryFile::new(String::from_str(alloc, "a")?, self.a.clone()?))?;
-        held.push(MemoryFile::new(String::from_str(alloc, "b")?, self.b.clone()?))?;
-        held.push(MemoryFile::new(String::from_str(alloc, "c")?, self.c.clone()?))?;
-        Ok(MemoryFiles::new(held, Vec::new(alloc), self.piece.max(1)))
+        let (a, b, c) = (self.a.as_slice(), self.b.as_slice(), self.c.as_slice());
+        self.outside.files(alloc, a, b, c)
     }
 
     /// What came of the run: `as it must be`, or what else.
     pub fn run(&self, alloc: Global, status: u8) -> Option<&'static str> {
         let mut files = self.files(alloc).ok()?;
-        let mut out = sink(alloc)?;
-        let mut err = sink(alloc)?;
-        let outcome = run(alloc, self.words.as_slice(), &mut files, &mut out, &mut err);
-        Some(if outcome.status != status {
-            "another status"
-        } else if out.written() != self.out.as_slice() {
+        let mut out = self.outside.out(alloc).ok()?;
+        let mut err = self.outside.err(alloc).ok()?;
+        let regs = self.outside.regs(alloc).ok()?;
+        let words = self.words.as_slice();
+        let outcome = run(
+            alloc, words, &mut files, &mut out, &mut err, regs, &OpenGate,
+        );
+        if outcome.status != status {
+            return Some("another status");
+        }
+        Some(self.told_by(&out, &err, &outcome.regs))
+    }
+
+    /// What the outputs and the registers tell, where the status is as it must be.
+    fn told_by(&self, out: &MemorySink, err: &MemorySink, regs: &FailingRegisters) -> &'static str {
+        if out.written() != first_of(self.out.as_slice(), self.out_first) {
             "another output"
-        } else if err.written() != self.err.as_slice() {
+        } else if err.written() != first_of(self.err.as_slice(), self.err_first) {
             "another line"
+        } else if regs.log().len() != self.ops as usize {
+            "other operations"
         } else {
             "as it must be"
-        })
+        }
     }
 }
 
-fn sink(alloc: Global) -> Option<MemorySink> {
-    MemorySink::new(alloc, ROOM, Vec::new(alloc), ROOM).ok()
+/// So many first bytes, all where there are fewer.
+fn first_of(bytes: &[u8], count: u32) -> &[u8] {
+    &bytes[..(count as usize).min(bytes.len())]
 }
 
 fn put_line(bytes: &mut Vec<u8>, line: &str) -> Option<()> {

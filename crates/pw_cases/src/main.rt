@@ -5,10 +5,27 @@
 
 mod bytes;
 mod case;
+mod outside;
 
 use case::Case;
 use std::alloc::Global;
 use std::{fs, io};
+
+/// Begins the case that a line names: with nothing of the one before, with its files `a` and `b`, or with all but
+/// its outside.
+fn begun<'a>(alloc: Global, case: &mut Case, line: &'a str) -> Option<&'a str> {
+    if let Some(name) = line.strip_prefix("case ") {
+        *case = Case::new(alloc);
+        return Some(name);
+    }
+    if let Some(name) = line.strip_prefix("other ") {
+        case.other();
+        return Some(name);
+    }
+    let name = line.strip_prefix("again ")?;
+    case.again();
+    Some(name)
+}
 
 /// Reads a line that begins no case. A line with the case's status ends it, and says what came of it.
 fn took(alloc: Global, case: &mut Case, line: &str) -> Option<Option<&'static str>> {
@@ -26,8 +43,7 @@ fn main(rt: HostRuntime) -> io::Result<()> {
     let mut case = Case::new(rt.alloc());
     let mut case_name = "";
     for line in list.as_str().lines() {
-        if let Some(name) = line.strip_prefix("case ") {
-            case = Case::new(rt.alloc());
+        if let Some(name) = begun(rt.alloc(), &mut case, line) {
             case_name = name;
             continue;
         }

@@ -1,1 +1,4 @@
+pub mod Driving
+pub mod Obeying
 pub mod Complete
+pub mod Spared

@@ -1,40 +1,65 @@
 -- How a run of the program ends.
-use Rattle.std.specs.Prelude.{◌≡◌, ℕ, true, List, [], codes}
+use Rattle.std.specs.Prelude.{◌≡◌, ◌≢◌, ◌∷◌, ℕ, true, List, [], codes}
 use Rattle.std.proofs.Common.{◌⊎◌}
 use Rattle.pw_base.specs.Outside.{Rose}
 use Rattle.pw_base.specs.Seen.{FilesSeen}
+use Rattle.pw_words.specs.declared.command.Way.{Way}
+use Rattle.pw_words.specs.declared.command.WordsFault.{WordsFault}
+use Rattle.pw_words.specs.declared.command.WordsFault.TheVariants.{Refused, Memory}
 use Rattle.pw_words.specs.Words.{AskFor, Asked, IsCommand}
-use Rattle.pw_words.specs.Words.Asked.{on_blocks}
+use Rattle.pw_words.specs.Words.Asked.{on_blocks, drive}
 use Rattle.pw_ends.specs.Seen.{Seen, NoneFailed}
 use Rattle.pw_ends.specs.Ends.{Does, Ended, EndedSo, Work}
 use Rattle.pw_tasks.specs.Tasks.{work_on}
+use Rattle.pw_runs.specs.Runs.{Drives, driving}
 
 -- # What is asked for
 
--- what a command does, which words ask for
+-- what a command does, which words ask for: of `drive` what it does where no register fails
 abbrev pub work_of : Asked → FilesSeen → FilesSeen → Work
 work_of (on_blocks task names) before after = work_on task names before after
+work_of (drive way script names) before after = driving way.step script names before after
 
 -- the names of the files that it reads
 abbrev pub names_in : Asked → List (List ℕ)
 names_in (on_blocks task names) = names
+names_in (drive way script names) = script ∷ names
 
 -- # The run
+
+-- A command did its work. None but `drive` operates a register.
+abbrev pub Obeys : Asked → Seen → Seen → ℕ → List ℕ → List ℕ → Type 0
+Obeys (on_blocks task names) before after status text line =
+    Does (work_on task names before.files after.files) before.outputs after.outputs status text line × (after.regs ≡ before.regs)
+Obeys (drive way script names) before after status text line = Drives way.step script names before after status text line
+
+-- the status and the line where words are no command
+abbrev pub words_status : WordsFault → ℕ
+words_status Refused = 2
+words_status Memory = 6
+
+abbrev pub words_line : WordsFault → List ℕ
+words_line Refused = codes "words: refused\n"
+words_line Memory = codes "no memory\n"
 
 -- What a run does with words.
 pub data EndsBy (words : List (List ℕ)) (before after : Seen) : ℕ → List ℕ → List ℕ → Type 0 where
   -- they are no command
-  misworded : (IsCommand words → ⊥) → EndsBy words before after 2 [] (codes "words: refused\n")
+  misworded : (IsCommand words → ⊥) → after.regs ≡ before.regs → EndsBy words before after 2 [] (codes "words: refused\n")
   -- memory ran out before they were read
-  without_memory : EndsBy words before after 6 [] (codes "no memory\n")
+  without_memory : after.regs ≡ before.regs → EndsBy words before after 6 [] (codes "no memory\n")
   -- they ask for something, and this is done
   commanded : {status : ℕ} {text line : List ℕ} (asked : Asked) → AskFor words asked
-      → Does (work_of asked before.files after.files) before.outputs after.outputs status text line
-      → EndsBy words before after status text line
+      → Obeys asked before after status text line → EndsBy words before after status text line
 
 -- one run
 abbrev pub Ran : List (List ℕ) → Seen → Seen → ℕ → Type 0
 Ran words before after status = Ended (EndsBy words before after) before.outputs after.outputs status
+
+-- no register failed: the status doesn't say so, and their count stands
+pub record IsSpared (before after status : ℕ) : Type 0 where
+  pub status_is : status ≢ 5
+  pub count : after ≡ before
 
 -- # What must come, want of memory aside
 
@@ -42,17 +67,23 @@ Ran words before after status = Ended (EndsBy words before after) before.outputs
 abbrev pub EndsSo : Seen → Seen → ℕ → ℕ → List ℕ → List ℕ → Type 0
 EndsSo before after status so text line = EndedSo before.outputs after.outputs status so text line ⊎ (status ≡ 6)
 
+-- no register that the command operates failed
+abbrev pub RegistersHeld : Asked → Seen → Seen → Type 0
+RegistersHeld (on_blocks task names) before after = Unit {0}
+RegistersHeld (drive way script names) before after = Rose before.regs.faults after.regs.faults → ⊥
+
 -- What must come where the files tell, and no read of the command's files failed.
 pub record IsCompleteFor (asked : Asked) (before after : Seen) (status : ℕ) : Type 0 where
-  -- what the command prints is printed, if no write of the output failed
-  pub prints : (text : List ℕ) → (work_of asked before.files after.files).text text
+  -- what the command prints is printed, if no register and no write of the output failed
+  pub prints : (text : List ℕ) → (work_of asked before.files after.files).text text → RegistersHeld asked before after
       → (Rose before.outputs.out.faults after.outputs.out.faults → ⊥) → EndsSo before after status 0 text []
   -- what it refuses is refused, by its status and its line
   pub refuses : (so : ℕ) (line : List ℕ) → (work_of asked before.files after.files).refusal so line → EndsSo before after status so [] line
   -- it refuses exactly what it doesn't print
   pub unprinted : ((text : List ℕ) → (work_of asked before.files after.files).text text → ⊥)
       → ((line : List ℕ) × (work_of asked before.files after.files).refusal status line) ⊎ (status ≡ 6)
-  pub printable : (text : List ℕ) → (work_of asked before.files after.files).text text → (status ≡ 0) ⊎ (status ≡ 4) ⊎ (status ≡ 6)
+  pub printable : (text : List ℕ) → (work_of asked before.files after.files).text text → RegistersHeld asked before after
+      → (status ≡ 0) ⊎ (status ≡ 4) ⊎ (status ≡ 6)
 
 pub record IsComplete (words : List (List ℕ)) (before after : Seen) (status : ℕ) : Type 0 where
   -- words that are no command are refused, and no others

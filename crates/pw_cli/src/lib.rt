@@ -1,8 +1,7 @@
-//! The program: the words of a command line, the command's work, and what it prints.
+//! The program: the words of a command line, the command's work, and what it prints and operates.
 #![tactic(auto)]
 
-mod outcome;
 mod program;
 
-pub use outcome::Outcome;
 pub use program::run;
+pub use pw_ends::Outcome;

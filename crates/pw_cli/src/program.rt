@@ -1,64 +1,69 @@
+ghost use Rattle.std.specs.Prelude.{◌≡◌, ◌≤◌, codes};
 ghost use Rattle.pw_base.specs.Outside.{KeepsFiles, KeepsSink};
-ghost use Rattle.pw_base.specs.Seen.{files_seen};
+ghost use Rattle.pw_base.specs.Seen.{sink_seen, GrewByLine};
 ghost use Rattle.pw_words.specs.Command.{asked_of};
 ghost use Rattle.pw_words.specs.Words.{texts};
-ghost use Rattle.pw_ends.specs.Ends.{Did};
+ghost use Rattle.pw_ends.specs.Ends.{Ended};
 ghost use Rattle.pw_ends.specs.Seen.{all_seen, outputs_seen};
-ghost use Rattle.pw_cli.specs.Runs.{work_of, IsComplete, Ran};
+ghost use Rattle.pw_script.specs.declared.script.TheConstants.{MOST_OPERATIONS};
+ghost use Rattle.pw_cli.specs.Runs.{IsComplete, IsSpared, Obeys, Ran, words_line, words_status};
 
-use crate::outcome::Outcome;
-use pw_base::{Files, Sink};
-use pw_ends::{say, without_memory};
+use pw_base::{Files, Gate, Sink};
+use pw_ends::{Outcome, say, without_memory};
+use pw_regs::Registers;
+use pw_runs::drive;
 use pw_tasks::do_on_blocks;
 use pw_words::{Command, WordsFault, command_of};
 use std::alloc::Global;
 
-/// Does what a command asks for, and says the status.
-fn obey<F: Files, K: Sink>(
+/// Does what a command asks for.
+fn obey<F: Files, K: Sink, R: Registers>(
     alloc: Global,
     command: &Command<'_>,
     files: &mut F,
     out: &mut K,
     err: &mut K,
-) -> u8
+    regs: R,
+) -> Outcome<R>
     ensures keeps_files { KeepsFiles F.told F.holds F.faults files.old files.new }
     ensures keeps_out { KeepsSink K.told K.faults out.old out.new }
     ensures keeps_err { KeepsSink K.told K.faults err.old err.new }
-    ensures did { Did (work_of (asked_of command.now)
-        (files_seen F.Files files.old) (files_seen F.Files files.new))
-        (outputs_seen K.Sink out.old err.old) (outputs_seen K.Sink out.new err.new) result }
+    ensures obeyed { Ended (Obeys (asked_of command.now)
+        (all_seen F.Files K.Sink R.Registers files.old out.old err.old regs)
+        (all_seen F.Files K.Sink R.Registers files.new out.new err.new result.regs))
+        (outputs_seen K.Sink out.old err.old) (outputs_seen K.Sink out.new err.new) result.status }
 {
     match command {
-        Command::OnBlocks { task, blocks } => do_on_blocks(
+        Command::OnBlocks { task, blocks } => {
+            let status = do_on_blocks(alloc, *task, blocks.as_slice(), files, out, err);
+            Outcome { status, regs }
+        }
+        Command::Drive {
+            way,
+            script,
+            blocks,
+        } => drive(
             alloc,
-            *task,
+            way.step,
+            script,
             blocks.as_slice(),
             files,
             out,
             err,
+            regs,
         ),
     }
 }
 
-/// Does what the words ask for, and says the status.
-fn obey_words<F: Files, K: Sink>(
-    alloc: Global,
-    words: &[String],
-    files: &mut F,
-    out: &mut K,
-    err: &mut K,
-) -> u8
-    ensures keeps_files { KeepsFiles F.told F.holds F.faults files.old files.new }
-    ensures keeps_out { KeepsSink K.told K.faults out.old out.new }
-    ensures keeps_err { KeepsSink K.told K.faults err.old err.new }
-    ensures ran { Ran (texts words.now) (all_seen F.Files K.Sink files.old out.old err.old)
-        (all_seen F.Files K.Sink files.new out.new err.new) result }
+/// Says why words are no command, and the status.
+fn refuse_words<K: Sink>(err: &mut K, fault: WordsFault) -> u8
+    ensures status { result ≡ words_status fault }
+    ensures keeps { KeepsSink K.told K.faults err.old err.new }
+    ensures line { GrewByLine (sink_seen K.Sink err.old) (sink_seen K.Sink err.new) (words_line fault) }
 {
-    let mut room = Vec::new(alloc);
-    match command_of(alloc, words, &mut room) {
-        Ok(command) => obey(alloc, &command, files, out, err),
-        Err(WordsFault::Memory) => without_memory(err),
-        Err(WordsFault::Refused) => {
+    match fault {
+        WordsFault::Memory => without_memory(err),
+        WordsFault::Refused => {
             say(err, b"words: refused\n");
             2
         }
@@ -66,25 +71,38 @@ fn obey_words<F: Files, K: Sink>(
 }
 
 /// The whole run of the program on these words, which leave out the program's name: the files that it
-/// reads, its output and its error output.
-pub fn run<F: Files, K: Sink>(
+/// reads, its output and its error output, the registers that it operates, and the gate that a request
+/// passes where several processors are driven at once.
+pub fn run<F: Files, K: Sink, R: Registers, G: Gate>(
     alloc: Global,
     words: &[String],
     files: &mut F,
     out: &mut K,
     err: &mut K,
-) -> Outcome
+    regs: R,
+    _gate: &G,
+) -> Outcome<R>
     ensures keeps_files { KeepsFiles F.told F.holds F.faults files.old files.new }
     ensures keeps_out { KeepsSink K.told K.faults out.old out.new }
     ensures keeps_err { KeepsSink K.told K.faults err.old err.new }
-    // The status, with its cause, and what stands on the two outputs.
-    ensures ran { Ran (texts words.now) (all_seen F.Files K.Sink files.old out.old err.old)
-        (all_seen F.Files K.Sink files.new out.new err.new) result.status }
+    // The status, with its cause, what stands on the two outputs, and what registers saw.
+    ensures ran { Ran (texts words.now)
+        (all_seen F.Files K.Sink R.Registers files.old out.old err.old regs)
+        (all_seen F.Files K.Sink R.Registers files.new out.new err.new result.regs) result.status }
     // What must come where nothing outside fails, unless memory runs out.
     ensures complete { IsComplete (texts words.now)
-        (all_seen F.Files K.Sink files.old out.old err.old)
-        (all_seen F.Files K.Sink files.new out.new err.new) result.status }
+        (all_seen F.Files K.Sink R.Registers files.old out.old err.old regs)
+        (all_seen F.Files K.Sink R.Registers files.new out.new err.new result.regs) result.status }
+    // Registers that promise room for as many operations as a script may have never fail in a run.
+    ensures spared { MOST_OPERATIONS ≤ R.room regs →
+        IsSpared (R.faults regs) (R.faults result.regs) result.status }
 {
-    let status = obey_words(alloc, words, files, out, err);
-    Outcome { status }
+    let mut room = Vec::new(alloc);
+    match command_of(alloc, words, &mut room) {
+        Ok(command) => obey(alloc, &command, files, out, err, regs),
+        Err(fault) => Outcome {
+            status: refuse_words(err, fault),
+            regs,
+        },
+    }
 }

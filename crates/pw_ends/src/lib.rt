@@ -2,5 +2,7 @@
 #![tactic(auto)]
 
 mod ending;
+mod outcome;
 
 pub use ending::{printed, say, unread, unwritten, without_memory};
+pub use outcome::Outcome;

@@ -1,9 +1,10 @@
 -- What a command works on, step by step, and why a step refuses it.
 use Rattle.std.specs.Prelude.{◌≡◌, ℕ, false, List, [], length, Err}
+use Rattle.std.proofs.Common.{◌⊎◌}
 use Rattle.pw_base.specs.Seen.{FilesSeen, OfFiles}
 use Rattle.aml_block.specs.declared.block.Block.{Block}
-use Rattle.acpi_space.specs.Distinct.{IsFirstRepeat}
-use Rattle.acpi_space.specs.Namespace.{Entry, places_of}
+use Rattle.acpi_space.specs.Distinct.{IsDistinct, IsFirstRepeat}
+use Rattle.acpi_space.specs.Namespace.{Entry, entries_in, places_of}
 use Rattle.acpi_space.specs.Places.{Place}
 use Rattle.acpi_build.specs.declared.fault.BuildFault.{BuildFault}
 use Rattle.acpi_build.specs.declared.fault.BuildFault.TheVariants.{Object, Limit, Memory as no_memory}
@@ -83,6 +84,12 @@ pub record IsUnplanned (entries : List Entry) (status : ℕ) (line : List ℕ) :
   pub fault : BuildFault
   pub first : parts_within entries [] ≡ Err fault
   pub says : line ≡ refusal_line fault
+
+-- Blocks make no plan: a place is given twice, or else their objects make none.
+abbrev pub IsNoPlanOf : List Block → ℕ → List ℕ → Type 0
+IsNoPlanOf blocks status line =
+    IsGivenTwice (entries_in blocks) status line
+    ⊎ (IsDistinct (places_of (entries_in blocks)) × IsUnplanned (entries_in blocks) status line)
 
 -- to make a plan
 abbrev pub planning : List Entry → Work

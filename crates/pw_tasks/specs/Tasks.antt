@@ -1,7 +1,6 @@
 -- What a task prints of blocks, or why it refuses them.
 use Rattle.std.specs.Prelude.{◌≡◌, ℕ, Bool, true, false, List}
 use Rattle.std.specs.List.{flat_map}
-use Rattle.std.proofs.Common.{◌⊎◌}
 use Rattle.pw_base.specs.Seen.{FilesSeen}
 use Rattle.aml_block.specs.declared.block.Block.{Block}
 use Rattle.aml_block.specs.Written.{written_block}
@@ -16,7 +15,7 @@ use Rattle.pw_check.specs.CheckText.{check_text}
 use Rattle.pw_words.specs.declared.command.Task.{Task}
 use Rattle.pw_words.specs.declared.command.Task.TheVariants.{Show, ShowAsJson, Rewrite, Check}
 use Rattle.pw_ends.specs.Ends.{Work}
-use Rattle.pw_load.specs.Steps.{AreHeldBy, IsGivenTwice, IsOneUnread, IsUnplanned, IsUnspelled}
+use Rattle.pw_load.specs.Steps.{AreHeldBy, IsGivenTwice, IsNoPlanOf, IsOneUnread, IsUnplanned, IsUnspelled}
 
 -- # Over objects
 
@@ -48,9 +47,7 @@ abbrev pub IsRefusalOf : Task → List Block → ℕ → List ℕ → Type 0
 IsRefusalOf Show blocks status line = IsGivenTwice (entries_in blocks) status line
 IsRefusalOf ShowAsJson blocks status line = IsGivenTwice (entries_in blocks) status line
 IsRefusalOf Rewrite blocks status line = ⊥
-IsRefusalOf Check blocks status line =
-    IsGivenTwice (entries_in blocks) status line
-    ⊎ (IsDistinct (places_of (entries_in blocks)) × IsUnplanned (entries_in blocks) status line)
+IsRefusalOf Check blocks status line = IsNoPlanOf blocks status line
 
 -- JSON is made an object at a time, while it is printed
 abbrev pub is_in_pieces : Task → Bool

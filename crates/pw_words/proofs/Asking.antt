@@ -1,28 +1,27 @@
 -- What words ask for: one thing at most, of 1 to 64 files, and which words ask for something.
-use Rattle.std.proofs.Common.{◌≡◌, ◌∙◌, ◌∷◌, ◌++◌, ◌&&◌, ◌↔◌, Bool, cond, true, false, refl, sym, ap, ap₂, subst, List, []}
-use Rattle.std.proofs.Common.{codes, true≢false}
+use Rattle.std.proofs.Common.{◌≡◌, ◌∙◌, ◌↔◌, Bool, cond, true, false, refl, sym, ap, ap₂, subst, List}
+use Rattle.std.proofs.Common.{codes, Some, true≢false}
 use Rattle.std.specs.Prelude.{MatchResult, Result, if◌then◌else◌}
-use Rattle.std.specs.List.{filter}
 use Rattle.std.specs.Str.{bytes_eq}
 use Rattle.std.proofs.lemmas.Result.{MatchResult-weaker}
 use Rattle.clap.specs.Walk.{Row, Text, all_of}
 use Rattle.pw_words.specs.declared.command.Command.{Command}
 use Rattle.pw_words.specs.declared.command.Task.{Task}
 use Rattle.pw_words.specs.declared.command.Task.TheVariants.{Show, ShowAsJson, Rewrite, Check}
+use Rattle.pw_words.specs.declared.command.Way.{Way}
 use Rattle.pw_words.specs.declared.command.WordsFault.{WordsFault}
 use Rattle.pw_words.specs.declared.command.WordsFault.TheVariants.{Refused}
 use Rattle.pw_words.specs.Command.{asked_of}
 use Rattle.pw_words.specs.Stated.{Enters, IsRefused, IsTaken, is_used}
-use Rattle.pw_words.specs.Words.{AreFiles, AreStated, AskFor, Asked, IsCommand, IsLine, Say, SayTask, are_bare, are_flags_of, command_name}
-use Rattle.pw_words.specs.Words.{is_bare, is_dashed, is_plain, moved, task_flags, task_name}
-use Rattle.pw_words.specs.Words.Asked.{on_blocks}
+use Rattle.pw_words.specs.Words.{AreStated, AskFor, Asked, IsCommand, IsLine, Say, SayTask, SayWay}
+use Rattle.pw_words.specs.Words.{command_name, is_plain, moved, task_name}
+use Rattle.pw_words.specs.Words.Asked.{drive, on_blocks}
 use Rattle.pw_words.specs.inner.Reading.{Reads, given}
 use Rattle.pw_words.proofs.Bounds.{HasFew}
 use Rattle.pw_words.proofs.Getters.{inside}
 use Rattle.pw_words.proofs.Lines.{line_stated, plain_line}
-use Rattle.pw_words.proofs.Present.{files_met, rows_met, stated_of}
+use Rattle.pw_words.proofs.Present.{files_met, not_drive, rows_met, stated_of}
 use Rattle.pw_words.proofs.Subcommands.{met}
-use Rattle.pw_words.proofs.Walked.{bare_parts}
 
 -- ---- one thing
 
@@ -37,10 +36,23 @@ is_task ShowAsJson rows said = ap (task_by (codes "show")) said
 is_task Rewrite rows said = refl
 is_task Check rows said = refl
 
+-- the way that is told by the flags
+abbrev way_by : List Row → Way
+way_by rows = record { serial = is_used (codes "serial") rows; step = is_used (codes "step") rows }
+
+is_way : (way : Way) (rows : List Row) → SayWay rows way → way_by rows ≡ way
+is_way way rows said = ap₂ (λ (x y : Bool). (let w : Way = record { serial = x; step = y } in w)) said.0 said.1
+
 one_said : (a b : Asked) (rows : List Row) → command_name a ≡ command_name b → Say rows a → Say rows b → a ≡ b
 one_said (on_blocks s us) (on_blocks t vs) rows same p q =
     let task = sym (is_task s rows p.0) ∙ ap (λ n. task_by n (is_used (codes "json") rows)) same ∙ is_task t rows q.0 in
     ap₂ on_blocks task (inside us vs (sym p.1 ∙ q.1))
+one_said (drive s x us) (drive t y vs) rows same p q =
+    let way = sym (is_way s rows p.0) ∙ is_way t rows q.0 in
+    let names = ap₂ (drive s) (inside x y (sym p.1 ∙ q.1)) (inside us vs (sym p.2 ∙ q.2)) in
+    names ∙ ap (λ (w : Way). drive w y vs) way
+one_said (on_blocks s us) (drive t y vs) rows same p q = absurd (not_drive s same)
+one_said (drive s x us) (on_blocks t vs) rows same p q = absurd (not_drive t (sym same))
 
 module _ (words : List Text) where
   name_entered : {m n : Text} {p q : List Row} → Enters words m p → Enters words n q → m ≡ n
@@ -64,7 +76,7 @@ by_plainness {A} words plain other = go (is_plain words) refl
     go true e = plain e
     go false e = other e
 
-plain_asks : (words : List Text) (asked : Asked) → is_plain words ≡ true → IsLine (moved words) asked → AskFor words asked
+pub plain_asks : (words : List Text) (asked : Asked) → is_plain words ≡ true → IsLine (moved words) asked → AskFor words asked
 plain_asks words asked plain line = record { plain = λ e. line; other = λ e. absurd (true≢false (sym plain ∙ e)) }
 
 other_asks : (words : List Text) (asked : Asked) → is_plain words ≡ false → AreStated words asked → AskFor words asked
@@ -75,16 +87,22 @@ one_asked words a b p q = by_plainness words
     (λ e. one_stated (moved words) a b (line_stated (moved words) a (p.plain e)) (line_stated (moved words) b (q.plain e)))
     (λ e. one_stated words a b (p.other e) (q.other e))
 
-few_stated : (words : List Text) (task : Task) (blocks : List Text) → AreStated words (on_blocks task blocks) → HasFew blocks
-few_stated words task blocks h =
+-- the files of what the matches say
+few_files : (words : List Text) (blocks : List Text) (asked : Asked) (h : AreStated words asked)
+    → all_of (codes "blocks") h.rows ≡ Some blocks → HasFew blocks
+few_files words blocks asked h said =
     let m = met words h.taken in
     let files = files_met m in
     let rows : rows_met m ≡ h.rows = rows_entered words m.command h.command in
-    subst HasFew (inside files.0 blocks (sym files.1 ∙ ap (all_of (codes "blocks")) rows ∙ h.said.1)) files.2
+    subst HasFew (inside files.0 blocks (sym files.1 ∙ ap (all_of (codes "blocks")) rows ∙ said)) files.2
 
 pub few_asked : (words : List Text) (task : Task) (blocks : List Text) → AskFor words (on_blocks task blocks) → HasFew blocks
-few_asked words task blocks p =
-    by_plainness words (λ e. ((p.plain e).1.some, (p.plain e).1.few)) (λ e. few_stated words task blocks (p.other e))
+few_asked words task blocks p = by_plainness words (λ e. ((p.plain e).1.some, (p.plain e).1.few))
+    (λ e. (let h = p.other e in few_files words blocks (on_blocks task blocks) h h.said.1))
+
+pub few_driven : (words : List Text) (way : Way) (script : Text) (blocks : List Text) → AskFor words (drive way script blocks) → HasFew blocks
+few_driven words way script blocks p = by_plainness words (λ e. ((p.plain e).2.some, (p.plain e).2.few))
+    (λ e. (let h = p.other e in few_files words blocks (drive way script blocks) h h.said.2))
 
 pub taken_other : (words : List Text) → is_plain words ≡ false → IsCommand words ↔ IsTaken words
 taken_other words other = (
@@ -121,47 +139,3 @@ reads words r h = by_plainness words
 pub taken_or_refused : (words : List Text) (r : Result Command WordsFault) → Reads (given words) r → is_plain words ≡ false
     → MatchResult r (λ _. IsTaken words) (λ e. e ≡ Refused → IsRefused words)
 taken_or_refused words r h other = MatchResult-weaker r (as_other words r other h) (λ c stated. stated.taken) (λ e refused. refused)
-
--- ---- the usual line
-
--- names of files are none of the words that begin with a hyphen, and all of the others
-none_dashed : (files : List Text) → are_bare files ≡ true → filter is_dashed files ≡ []
-none_dashed [] bare = refl
-none_dashed (f ∷ fs) bare = let parts = bare_parts f fs bare in rw parts.0 (none_dashed fs parts.1)
-
-all_bare : (files : List Text) → are_bare files ≡ true → filter is_bare files ≡ files
-all_bare [] bare = refl
-all_bare (f ∷ fs) bare = let parts = bare_parts f fs bare in rw parts.0 (ap (λ xs. f ∷ xs) (all_bare fs parts.1))
-
--- the flag among the files is moved before them
-flag_moved : (before after : List Text) → are_bare (before ++ after) ≡ true
-    → (filter is_dashed (before ++ codes "--json" ∷ after) ≡ codes "--json" ∷ [])
-    × (filter is_bare (before ++ codes "--json" ∷ after) ≡ before ++ after)
-flag_moved [] after bare = (ap (λ xs. codes "--json" ∷ xs) (none_dashed after bare), all_bare after bare)
-flag_moved (f ∷ fs) after bare =
-    let parts = bare_parts f (fs ++ after) bare in
-    let rest = flag_moved fs after parts.1 in
-    (rw parts.0 rest.0, rw parts.0 (ap (λ xs. f ∷ xs) rest.1))
-
--- words whose flags are those of the task, and whose others are the files
-parted_asks : (task : Task) (rest blocks : List Text) → are_flags_of (task_name task) (task_flags task) ≡ true
-    → is_bare (task_name task) ≡ true
-    → filter is_dashed rest ≡ task_flags task → filter is_bare rest ≡ blocks → AreFiles blocks
-    → AskFor (task_name task ∷ rest) (on_blocks task blocks)
-parted_asks task rest blocks ours bare flags files are = plain_asks (task_name task ∷ rest) (on_blocks task blocks)
-    (ap₂ (λ x y. x && y) bare (ap (are_flags_of (task_name task)) flags ∙ ours)) (ap₂ (λ xs ys. task_name task ∷ xs ++ ys) flags files, are)
-
-pub usual_asks : (task : Task) (blocks : List Text) → AreFiles blocks
-    → AskFor (task_name task ∷ task_flags task ++ blocks) (on_blocks task blocks)
-usual_asks Show blocks are = parted_asks Show blocks blocks refl refl (none_dashed blocks are.bare) (all_bare blocks are.bare) are
-usual_asks ShowAsJson blocks are =
-    let parts = flag_moved [] blocks are.bare in
-    parted_asks ShowAsJson (codes "--json" ∷ blocks) blocks refl refl parts.0 parts.1 are
-usual_asks Rewrite blocks are = parted_asks Rewrite blocks blocks refl refl (none_dashed blocks are.bare) (all_bare blocks are.bare) are
-usual_asks Check blocks are = parted_asks Check blocks blocks refl refl (none_dashed blocks are.bare) (all_bare blocks are.bare) are
-
-pub flag_asks : (before after : List Text) → AreFiles (before ++ after)
-    → AskFor (codes "show" ∷ before ++ codes "--json" ∷ after) (on_blocks ShowAsJson (before ++ after))
-flag_asks before after are =
-    let parts = flag_moved before after are.bare in
-    parted_asks ShowAsJson (before ++ codes "--json" ∷ after) (before ++ after) refl refl parts.0 parts.1 are

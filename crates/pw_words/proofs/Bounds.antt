@@ -2,13 +2,13 @@
 use Rattle.std.proofs.Common.{◌≡◌, ◌∙◌, ◌∷◌, ◌++◌, ◌<◌, ◌≤◌, ◌&&◌, ◌||◌, inl, inr, arith, ℕ, Bool, cond, true, false, option_map}
 use Rattle.std.proofs.Common.{refl, sym, ap, subst, List, [], length, codes, Option, Some, None, true≢false, append-nil, lt-ltb, le-ltb}
 use Rattle.std.proofs.Common.{ne_eqb, ◌==◌, nat_lt}
-use Rattle.std.specs.Prelude.{IfSome, find}
+use Rattle.std.specs.Prelude.{IfSome, find, option_and_then, slice_get}
 use Rattle.std.specs.Str.{bytes_eq}
 use Rattle.std.specs.Option.{option_map_or, option_or}
 use Rattle.std.proofs.lemmas.Bool.{cases_lt}
 use Rattle.std.proofs.lemmas.List.Folds.{find-append}
 use Rattle.clap.specs.Facts.{explicit_source}
-use Rattle.clap.specs.Walk.{Row, Rule, Text, all_of, at_row, default_rows, more_values, reading_by, has_row, nothing_held}
+use Rattle.clap.specs.Walk.{Row, Rule, Text, all_of, at_row, default_rows, first_of, more_values, reading_by, has_row, nothing_held}
 use Rattle.clap.specs.Walk.{rows_after, values_or_missing, with_values, without}
 use Rattle.clap.specs.Simple.{filled, with_index}
 use Rattle.clap.specs.Kinds.{or_else, range_kinds}
@@ -20,8 +20,9 @@ use Rattle.clap.specs.declared.parser.matches.ValueSource.{ValueSource}
 use Rattle.clap.specs.declared.parser.matches.ValueSource.TheVariants.{DefaultValue}
 use Rattle.clap.specs.declared.error.kind.ErrorKind.TheVariants as kind
 use Rattle.pw_words.specs.App.{flag_rule}
+use Rattle.pw_words.proofs.Driving.{drive_leaf}
 use Rattle.pw_words.proofs.Kept.{Keeps, KeepsFilled, level_keeps, none_of_both, some_kind}
-use Rattle.pw_words.proofs.Walked.{blocks_at}
+use Rattle.pw_words.proofs.Walked.{blocks_at, word_at}
 use Rattle.pw_words.proofs.Levels.{blocks_leaf, show_leaf, task_leaf}
 use Rattle.pw_words.specs.declared.command.Task.{Task}
 use Rattle.pw_words.specs.declared.command.Task.TheVariants.{Show, ShowAsJson, Rewrite, Check}
@@ -89,6 +90,14 @@ module _ (x : Text) (P : List Text → Type 0) where
       let parts = set_parts a (values_or_missing a values) rows 0 0 (length values) free in
       replaced x P name _ _ (values_or_missing a values) rows parts.1 (λ e. absurd (true≢false (sym e ∙ other))) has
 
+  word_keeps : (id : Text) (p : ℕ)
+      → (bytes_eq id x ≡ true → (values : List Text) → range_kinds 1 1 (length values) ≡ [] → P (values_or_missing (word_at id p) values))
+      → Keeps (Has x P) false (word_at id p)
+  word_keeps id p fits values rows free has =
+      let a = word_at id p in
+      let parts = set_parts a (values_or_missing a values) rows 1 1 (length values) free in
+      replaced x P id _ _ (values_or_missing a values) rows parts.1 (λ e. fits e values parts.0) has
+
   blocks_keeps : (p : ℕ)
       → (bytes_eq (codes "blocks") x ≡ true → (values : List Text) → range_kinds 1 64 (length values) ≡ []
       → P (values_or_missing (blocks_at p) values)) → Keeps (Has x P) false (blocks_at p)
@@ -118,6 +127,13 @@ module _ (x : Text) (P : List Text → Type 0) where
 
 abbrev pub HasFew : List Text → Type 0
 HasFew values = (1 ≤ length values) × (length values ≤ 64)
+
+abbrev HasSome : List Text → Type 0
+HasSome values = 1 ≤ length values
+
+some : (id : Text) (p : ℕ) (values : List Text) → range_kinds 1 1 (length values) ≡ [] → HasSome (values_or_missing (word_at id p) values)
+some id p [] e = absurd (some_kind [] kind.InvalidValue e)
+some id p (v ∷ vs) e = omega arith
 
 pub over : (n : ℕ) → 64 < n → range_kinds 1 64 n ≡ [] → ⊥
 over n many e =
@@ -155,6 +171,45 @@ blocks_bound name words free =
     level_keeps blocks_in (blocks_leaf name) words (blocks_keeps (codes "blocks") HasFew 1 (λ _. few 1), tt)
     (bare_filled (codes "blocks") HasFew (blocks_at 1) refl, tt) tt free
 
+abbrev script_in : List Row → Type 0
+script_in = Has (codes "script") HasSome
+
+pub drive_bound : (words : List Text) → level_fault drive_leaf [] nothing_held words false [] ≡ []
+    → blocks_in (rows_after drive_leaf.rules [] words)
+drive_bound words free =
+    let x = codes "blocks" in
+    level_keeps blocks_in drive_leaf words (
+      flag_keeps x HasFew (codes "serial") 1 refl,
+      (
+        flag_keeps x HasFew (codes "step") 1 refl,
+        (word_keeps x HasFew (codes "script") 1 (λ e. never e), (blocks_keeps x HasFew 2 (λ _. few 2), tt)),
+      ),
+    ) (
+      flag_filled x HasFew (codes "serial") 1 refl,
+      (
+        flag_filled x HasFew (codes "step") 1 refl,
+        (bare_filled x HasFew (word_at (codes "script") 1) refl, (bare_filled x HasFew (blocks_at 2) refl, tt)),
+      ),
+    ) tt free
+
+pub script_bound : (words : List Text) → level_fault drive_leaf [] nothing_held words false [] ≡ []
+    → script_in (rows_after drive_leaf.rules [] words)
+script_bound words free =
+    let x = codes "script" in
+    level_keeps script_in drive_leaf words (
+      flag_keeps x HasSome (codes "serial") 1 refl,
+      (
+        flag_keeps x HasSome (codes "step") 1 refl,
+        (word_keeps x HasSome (codes "script") 1 (λ _. some (codes "script") 1), (blocks_keeps x HasSome 2 (λ e. never e), tt)),
+      ),
+    ) (
+      flag_filled x HasSome (codes "serial") 1 refl,
+      (
+        flag_filled x HasSome (codes "step") 1 refl,
+        (bare_filled x HasSome (word_at (codes "script") 1) refl, (bare_filled x HasSome (blocks_at 2) refl, tt)),
+      ),
+    ) tt free
+
 pub task_bound : (task : Task) (words : List Text) → level_fault (task_leaf task) [] nothing_held words false [] ≡ []
     → blocks_in (rows_after (task_leaf task).rules [] words)
 task_bound Show words free = show_bound words free
@@ -171,3 +226,17 @@ stated_values id P rows = go (find (λ r. bytes_eq r.id id) rows)
         → (values : List Text) × (option_map (λ r. r.values) o ≡ Some values) × (P values)
     go None e has = never e
     go (Some r) e has = (r.values, refl, has)
+
+-- and its first one
+pub stated_first : (id : Text) (rows : List Row) → is_given id rows ≡ true → Has id HasSome rows
+    → (value : Text) × (first_of id rows ≡ Some value)
+stated_first id rows = go (find (λ r. bytes_eq r.id id) rows)
+  where
+    first : (values : List Text) → HasSome values → (value : Text) × (slice_get values 0 ≡ Some value)
+    first [] h = absurd (omega arith)
+    first (v ∷ vs) h = (v, refl)
+
+    go : (o : Option Row) → option_map_or (λ r. explicit_source r.source) o false ≡ true → IfSome o (λ r. HasSome r.values)
+        → (value : Text) × (option_and_then (λ (r : Row). slice_get r.values 0) o ≡ Some value)
+    go None e has = never e
+    go (Some r) e has = first r.values has

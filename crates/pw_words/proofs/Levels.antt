@@ -57,20 +57,20 @@ pub or_none : (k : Kinds) → or_else k [] ≡ k
 or_none [] = refl
 or_none (x ∷ xs) = refl
 
-values_none : (values : List Text) → values_kinds false vp.String values ≡ []
+pub values_none : (values : List Text) → values_kinds false vp.String values ≡ []
 values_none [] = refl
 values_none (v ∷ vs) = values_none vs
 
 module _ (s : Shape) (p : ℕ) (here : arg_by_index s.rules p ≡ Some (blocks_at p)) (rows : List Row) (pending : Option (Text × List Text))
     (other : is_pending (blocks_at p) pending ≡ false) where
-  all_walked : (f : Text) (fs : List Text) → are_bare (f ∷ fs) ≡ true
+  pub all_walked : (f : Text) (fs : List Text) → are_bare (f ∷ fs) ≡ true
       → fold (walked s.rules []) (idle_at p (held rows pending)) (f ∷ fs) ≡ among_files p (settled_rows s.rules pending rows) (f ∷ fs)
   all_walked f fs bare =
       let parts = bare_parts f fs bare in
       ap (λ w. fold (walked s.rules []) w fs) (first_walked s p here rows pending f parts.0 other)
       ∙ files_walked s p here (settled_rows s.rules pending rows) (f ∷ []) fs parts.1
 
-  all_fault : (f : Text) (fs : List Text) → are_bare (f ∷ fs) ≡ true
+  pub all_fault : (f : Text) (fs : List Text) → are_bare (f ∷ fs) ≡ true
       → walk_fault s [] (idle_at p (held rows pending)) (f ∷ fs) ≡ settle_fault s.rules s.args_override_self (held rows pending)
   unfolding walk_fault
   all_fault f fs bare =
@@ -86,17 +86,21 @@ abbrev pub files_kinds : List Text → Kinds
 files_kinds [] = kind.MissingRequiredArgument ∷ []
 files_kinds (f ∷ fs) = range_kinds 1 64 (length (f ∷ fs))
 
--- ---- a task's flags and files
-
--- what its flags leave
-abbrev flag_rows : Task → List Row
-flag_rows ShowAsJson = record {
-  id = codes "json";
+-- what a flag leaves
+abbrev pub flag_row : Text → Row
+flag_row name = record {
+  id = name;
   values = codes "true" ∷ [];
   count = None;
   source = Some CommandLine;
   reading = reading.AsWritten;
-} ∷ []
+}
+
+-- ---- a task's flags and files
+
+-- what its flags leave
+abbrev flag_rows : Task → List Row
+flag_rows ShowAsJson = flag_row (codes "json") ∷ []
 flag_rows _ = []
 
 files_here : (task : Task) → arg_by_index (task_leaf task).rules 1 ≡ Some (blocks_at 1)

@@ -1,5 +1,6 @@
 pub mod Walked
 pub mod Levels
+pub mod Driving
 pub mod Getters
 pub mod Kept
 pub mod Subcommands
@@ -7,3 +8,6 @@ pub mod Bounds
 pub mod Present
 pub mod Lines
 pub mod Asking
+pub mod Usual
+pub mod Moving
+pub mod Same

@@ -1,11 +1,10 @@
 -- The lines of the table are the words that `clap` takes, where the flags stand behind the first word and no file's name begins
 -- with a hyphen.
 use Rattle.std.proofs.Common.{◌≡◌, ◌∙◌, ◌∷◌, ◌++◌, ◌≤◌, ◌⊎◌, ◌==◌, inl, inr, arith, ℕ, Bool, cond, true, false, not, is_some, refl, sym, ap}
-use Rattle.std.proofs.Common.{ap₂, subst, List, [], length, codes, Some, None, true≢false, le-ltb, ne_eqb, nat_lt}
+use Rattle.std.proofs.Common.{ap₂, subst, List, [], length, codes, Some, None, le-ltb, ne_eqb, nat_lt}
 use Rattle.std.specs.Prelude.{fold}
 use Rattle.std.specs.List.{filter}
 use Rattle.std.specs.Str.{bytes_eq}
-use Rattle.std.specs.Option.{option_map_or}
 use Rattle.std.proofs.lemmas.Bool.{cases_lt}
 use Rattle.std.proofs.lemmas.Slice.Eq.{bytes_eq-Decides}
 use Rattle.clap.specs.Walk.{Held, Names, Step, Text, Walk, finished, idle, nothing_held, rows_after, settled, subcommand_met}
@@ -21,15 +20,17 @@ use Rattle.clap.proofs.SimpleLemmas.{is_false}
 use Rattle.clap.proofs.FaultLemmas.{stopped_fault}
 use Rattle.pw_words.specs.declared.command.Task.{Task}
 use Rattle.pw_words.specs.declared.command.Task.TheVariants.{Show, ShowAsJson, Rewrite, Check}
+use Rattle.pw_words.specs.declared.command.Way.{Way}
 use Rattle.pw_words.specs.App.{line_app}
 use Rattle.pw_words.specs.Stated.{IsTaken}
-use Rattle.pw_words.specs.Words.{AreFiles, AreStated, Asked, IsLine, Say, are_bare, are_flags_of, flag_of, is_bare}
-use Rattle.pw_words.specs.Words.{is_dashed, is_plain, moved, task_flags, task_name}
-use Rattle.pw_words.specs.Words.Asked.{on_blocks}
+use Rattle.pw_words.specs.Words.{AreFiles, AreStated, Asked, IsLine, Say, are_bare, are_flags_of, in_table_order, is_among, is_bare}
+use Rattle.pw_words.specs.Words.{is_dashed, is_plain, moved, task_flags, task_name, way_flags}
+use Rattle.pw_words.specs.Words.Asked.{drive, on_blocks}
 use Rattle.pw_words.proofs.Bounds.{over}
+use Rattle.pw_words.proofs.Driving.{drive_leaf, drive_level, drive_rows, drive_said, names_kinds}
 use Rattle.pw_words.proofs.Kept.{none_of_both, some_kind}
 use Rattle.pw_words.proofs.Levels.{files_kinds, or_none, task_leaf, task_level, task_rows, task_said}
-use Rattle.pw_words.proofs.Walked.{bare_fault, bare_met}
+use Rattle.pw_words.proofs.Walked.{bare_fault, bare_met, bare_parts}
 
 -- ---- the first word
 
@@ -83,12 +84,23 @@ rows_at ShowAsJson rest = named_rows (codes "show") rest refl
 rows_at Rewrite rest = named_rows (codes "rewrite") rest refl
 rows_at Check rest = named_rows (codes "check") rest refl
 
+-- and of those of `drive`
+drive_fault_at : (rest : List Text) → fault_of line_app (codes "drive" ∷ rest) ≡ level_fault drive_leaf [] nothing_held rest false []
+unfolding clap_on_literals
+drive_fault_at rest = named_fault (codes "drive") rest refl refl refl
+
+drive_rows_at : (rest : List Text)
+    → subcommand_of line_app (codes "drive" ∷ rest) ≡ Some (codes "drive", rows_after drive_leaf.rules [] rest)
+unfolding clap_on_literals
+drive_rows_at rest = named_rows (codes "drive") rest refl
+
 -- a first word that names no subcommand
 abbrev IsOther : Text → Type 0
-IsOther word = (bytes_eq (codes "show") word ≡ false) × (bytes_eq (codes "rewrite") word ≡ false) × (bytes_eq (codes "check") word ≡ false)
+IsOther word = (bytes_eq (codes "show") word ≡ false) × (bytes_eq (codes "rewrite") word ≡ false)
+    × (bytes_eq (codes "check") word ≡ false) × (bytes_eq (codes "drive") word ≡ false)
 
 none_met : (word : Text) → IsOther word → subcommand_met names idle word ≡ None
-none_met word other = rw (other.0, other.1, other.2) refl
+none_met word other = rw (other.0, other.1, other.2, other.3) refl
 
 other_refused : (word : Text) (rest : List Text) → is_dashed word ≡ false → IsOther word → fault_of line_app (word ∷ rest) ≡ [] → ⊥
 unfolding walk_fault
@@ -134,6 +146,19 @@ said_of : (task : Task) (files : List Text) → AreFiles files → Say (task_row
 said_of task [] h = let bad = h.some in absurd (omega arith)
 said_of task (f ∷ fs) h = task_said task f fs h.bare
 
+drive_fault : (way : Way) (names : List Text) → are_bare names ≡ true
+    → fault_of line_app (codes "drive" ∷ way_flags way ++ names) ≡ names_kinds names
+drive_fault way names bare = drive_fault_at (way_flags way ++ names) ∙ drive_level way names bare
+
+-- names none of which begins with a hyphen
+pub bare_names : (script : Text) (files : List Text) → is_dashed script ≡ false → are_bare files ≡ true → are_bare (script ∷ files) ≡ true
+bare_names script files dash bare = ap (λ b. cond b false (are_bare files)) dash ∙ bare
+
+drive_said_of : (way : Way) (script : Text) (files : List Text) → is_dashed script ≡ false → AreFiles files
+    → Say (drive_rows way (script ∷ files)) (drive way script files)
+drive_said_of way script [] dash h = let bad = h.some in absurd (omega arith)
+drive_said_of way script (f ∷ fs) dash h = drive_said way script f fs (bare_names script (f ∷ fs) dash h.bare)
+
 pub line_stated : (words : List Text) (asked : Asked) → IsLine words asked → AreStated words asked
 line_stated words (on_blocks task files) h = record {
   rows = task_rows task files;
@@ -141,45 +166,64 @@ line_stated words (on_blocks task files) h = record {
   command = ap (subcommand_of line_app) h.0 ∙ rows_at task (task_flags task ++ files);
   said = said_of task files h.1;
 }
+line_stated words (drive way script files) h = record {
+  rows = drive_rows way (script ∷ files);
+  taken = ap (fault_of line_app) h.0 ∙ drive_fault way (script ∷ files) (bare_names script files h.1 h.2.bare) ∙ files_taken files h.2;
+  command = ap (subcommand_of line_app) h.0 ∙ drive_rows_at (way_flags way ++ script ∷ files);
+  said = drive_said_of way script files h.1 h.2;
+}
 
 -- ---- plain words that are taken are a line
 
--- words and flags are those of a task
-abbrev IsTask : Text → List Text → Task → Type 0
-IsTask word flags task = (word ≡ task_name task) × (flags ≡ task_flags task)
+-- the word and the flags, in order, are those of a task, or of `drive` in some way
+abbrev IsTask : Text → List Text → Type 0
+IsTask word flags = (task : Task) × (word ≡ task_name task) × (in_table_order word flags ≡ task_flags task)
+
+abbrev IsDrive : Text → List Text → Type 0
+IsDrive word flags = (way : Way) × (word ≡ codes "drive") × (in_table_order word flags ≡ way_flags way)
+
+abbrev Named : List Text → Text → Type 0
+Named flags word = IsTask word flags ⊎ (IsDrive word flags ⊎ IsOther word)
+
+show_flags : (flags : List Text) → IsTask (codes "show") flags
+show_flags flags = go (is_among flags (codes "--json"))
+  where
+    go : (b : Bool) → (task : Task) × (codes "show" ≡ task_name task) × (cond b (codes "--json" ∷ []) [] ≡ task_flags task)
+    go true = (ShowAsJson, refl, refl)
+    go false = (Show, refl, refl)
+
+drive_flags : (flags : List Text) → IsDrive (codes "drive") flags
+drive_flags flags =
+    let serial = is_among flags (codes "--serial") in
+    let step = is_among flags (codes "--step") in
+    (record { serial = serial; step = step }, refl, go serial step)
+  where
+    go : (a b : Bool) → cond a (codes "--serial" ∷ cond b (codes "--step" ∷ []) []) (cond b (codes "--step" ∷ []) [])
+        ≡ cond a (codes "--serial" ∷ []) [] ++ cond b (codes "--step" ∷ []) []
+    go true b = refl
+    go false b = refl
 
 same_text : (a b : Text) → bytes_eq a b ≡ true → a ≡ b
 same_text a b e = (bytes_eq-Decides a b).0 e
 
-show_flags : (flags : List Text) → are_flags_of (codes "show") flags ≡ true → (task : Task) × IsTask (codes "show") flags task
-show_flags [] e = (Show, (refl, refl))
-show_flags (d ∷ []) e = (ShowAsJson, (refl, ap (λ x. x ∷ []) (same_text d (codes "--json") e)))
-show_flags (d ∷ f ∷ rest) e = absurd (true≢false (sym e))
-
-no_flags : (word : Text) (flags : List Text) → flag_of word ≡ None → are_flags_of word flags ≡ true → flags ≡ []
-no_flags word [] has e = refl
-no_flags word (d ∷ []) has e = absurd (true≢false (sym e ∙ ap (λ o. option_map_or (bytes_eq d) o false) has))
-no_flags word (d ∷ f ∷ rest) has e = absurd (true≢false (sym e))
-
-abbrev Named : Text → List Text → Type 0
-Named word flags = ((task : Task) × IsTask word flags task) ⊎ IsOther word
-
--- which task a word and its flags name
-named : (word : Text) (flags : List Text) → are_flags_of word flags ≡ true → Named word flags
-named word flags ours = go (bytes_eq (codes "show") word) (bytes_eq (codes "rewrite") word) (bytes_eq (codes "check") word) refl refl refl
+-- what a word names
+named : (flags : List Text) (word : Text) → Named flags word
+named flags word =
+    go (bytes_eq (codes "show") word) (bytes_eq (codes "rewrite") word) (bytes_eq (codes "check") word) (bytes_eq (codes "drive") word)
+    refl refl refl refl
   where
-    at : (name : Text) → bytes_eq name word ≡ true → ((are_flags_of name flags ≡ true) → (task : Task) × IsTask name flags task)
-        → Named word flags
-    at name e f = inl (subst (λ w. are_flags_of w flags ≡ true → (task : Task) × IsTask w flags task) (same_text name word e) f ours)
+    at : (name : Text) → bytes_eq name word ≡ true → Named flags name → Named flags word
+    at name e = subst (Named flags) (same_text name word e)
 
-    go : (a b c : Bool) → bytes_eq (codes "show") word ≡ a → bytes_eq (codes "rewrite") word ≡ b → bytes_eq (codes "check") word ≡ c
-        → Named word flags
-    go true b c p q r = at (codes "show") p (show_flags flags)
-    go false true c p q r = at (codes "rewrite") q (λ e. (Rewrite, (refl, no_flags (codes "rewrite") flags refl e)))
-    go false false true p q r = at (codes "check") r (λ e. (Check, (refl, no_flags (codes "check") flags refl e)))
-    go false false false p q r = inr (p, q, r)
+    go : (a b c d : Bool) → bytes_eq (codes "show") word ≡ a → bytes_eq (codes "rewrite") word ≡ b → bytes_eq (codes "check") word ≡ c
+        → bytes_eq (codes "drive") word ≡ d → Named flags word
+    go true b c d p q r s = at (codes "show") p (inl (show_flags flags))
+    go false true c d p q r s = at (codes "rewrite") q (inl (Rewrite, refl, refl))
+    go false false true d p q r s = at (codes "check") r (inl (Check, refl, refl))
+    go false false false true p q r s = at (codes "drive") s (inr (inl (drive_flags flags)))
+    go false false false false p q r s = inr (inr (p, q, r, s))
 
-bare_filtered : (words : List Text) → are_bare (filter is_bare words) ≡ true
+pub bare_filtered : (words : List Text) → are_bare (filter is_bare words) ≡ true
 bare_filtered [] = refl
 bare_filtered (w ∷ ws) = go (is_dashed w) refl (bare_filtered ws)
   where
@@ -188,14 +232,26 @@ bare_filtered (w ∷ ws) = go (is_dashed w) refl (bare_filtered ws)
     go true e later = later
     go false e later = ap (λ x. cond x false (are_bare (filter is_bare ws))) e ∙ later
 
-parted_line : (word : Text) (flags files : List Text) → is_dashed word ≡ false → are_flags_of word flags ≡ true → are_bare files ≡ true
-    → IsTaken (word ∷ flags ++ files) → (asked : Asked) × IsLine (word ∷ flags ++ files) asked
-parted_line word flags files dash ours bare taken = elim (named word flags ours) [
+-- names that are taken are a script and files
+drive_line : (words : List Text) (way : Way) (names : List Text) → words ≡ codes "drive" ∷ way_flags way ++ names → are_bare names ≡ true
+    → names_kinds names ≡ [] → (asked : Asked) × IsLine words asked
+drive_line words way [] are bare kinds = absurd (some_kind [] kind.MissingRequiredArgument kinds)
+drive_line words way (script ∷ files) are bare kinds =
+    let parts = bare_parts script files bare in
+    (drive way script files, (are, parts.0, are_files files parts.1 kinds))
+
+parted_line : (word : Text) (flags names : List Text) → is_dashed word ≡ false → are_bare names ≡ true
+    → IsTaken (word ∷ in_table_order word flags ++ names) → (asked : Asked) × IsLine (word ∷ in_table_order word flags ++ names) asked
+parted_line word flags names dash bare taken = elim (named flags word) [
   | inl t ↦
-      let are : word ∷ flags ++ files ≡ task_name t.0 ∷ task_flags t.0 ++ files = ap₂ (λ w xs. w ∷ xs ++ files) t.1.0 t.1.1 in
-      let kinds = sym (task_fault t.0 files bare) ∙ ap (fault_of line_app) (sym are) ∙ taken in
-      (on_blocks t.0 files, (are, are_files files bare kinds))
-  | inr other ↦ absurd (other_refused word (flags ++ files) dash other taken)
+      let are : word ∷ in_table_order word flags ++ names ≡ task_name t.0 ∷ task_flags t.0 ++ names = ap₂ (λ w xs. w ∷ xs ++ names) t.1 t.2 in
+      let kinds = sym (task_fault t.0 names bare) ∙ ap (fault_of line_app) (sym are) ∙ taken in
+      (on_blocks t.0 names, (are, are_files names bare kinds))
+  | inr (inl t) ↦
+      let are : word ∷ in_table_order word flags ++ names ≡ codes "drive" ∷ way_flags t.0 ++ names = ap₂ (λ w xs. w ∷ xs ++ names) t.1 t.2 in
+      drive_line (word ∷ in_table_order word flags ++ names) t.0 names are bare
+      (sym (drive_fault t.0 names bare) ∙ ap (fault_of line_app) (sym are) ∙ taken)
+  | inr (inr other) ↦ absurd (other_refused word (in_table_order word flags ++ names) dash other taken)
 ]
 
 empty_refused : IsTaken [] → ⊥
@@ -206,4 +262,4 @@ pub plain_line : (words : List Text) → is_plain words ≡ true → IsTaken (mo
 plain_line [] plain taken = absurd (empty_refused taken)
 plain_line (word ∷ rest) plain taken =
     let parts = both (is_bare word) (are_flags_of word (filter is_dashed rest)) plain in
-    parted_line word (filter is_dashed rest) (filter is_bare rest) (is_false (is_dashed word) parts.0) parts.1 (bare_filtered rest) taken
+    parted_line word (filter is_dashed rest) (filter is_bare rest) (is_false (is_dashed word) parts.0) (bare_filtered rest) taken

@@ -1,10 +1,10 @@
 -- The walk of `clap` over words that begin with no hyphen.
-use Rattle.std.proofs.Common.{◌≡◌, ◌∙◌, ◌∷◌, ◌&&◌, is_some, ◌++◌, ℕ, Bool, cond, true, false, refl, sym, ap, ap₂, List, [], codes, Option}
-use Rattle.std.proofs.Common.{Some, None, true≢false, append-nil, append_assoc}
+use Rattle.std.proofs.Common.{◌≡◌, ◌∙◌, ◌∷◌, ◌+◌, ◌&&◌, min, is_some, ◌++◌, ℕ, Bool, cond, true, false, refl, sym, ap, ap₂, List, [], codes}
+use Rattle.std.proofs.Common.{Option, Some, None, true≢false, append-nil, append_assoc}
 use Rattle.std.specs.Prelude.{fold, option_and_then}
 use Rattle.std.specs.Str.{bytes_eq}
 use Rattle.std.specs.Option.{option_map_or}
-use Rattle.clap.specs.Lexer.{long_of, long_of_rest, short_of, short_of_rest, strip_byte}
+use Rattle.clap.specs.Lexer.{long_of, long_of_rest, short_of, short_of_rest, strip_byte, usize_max}
 use Rattle.clap.specs.Walk.{after_step, pushed, settled_rows, to_positional, Held, Names, Row, Rule, Step, Text, Waiting, Walk}
 use Rattle.clap.specs.Walk.{arg_by_index, idle, is_pending, long_or_other, plain_word, positional, settled, short_or_plain, subcommand_met}
 use Rattle.clap.specs.Walk.{subcommand_or_other, trailing, value, walked, word_met}
@@ -12,7 +12,7 @@ use Rattle.clap.specs.Simple.{Shape, filled, with_index}
 use Rattle.clap.specs.Kinds.{Kinds, or_else}
 use Rattle.clap.specs.Faults.{bundle_fault, flag_word_fault, positional_fault, other_fault, settle_fault, step_fault, stray_fault}
 use Rattle.clap.specs.Faults.{turn_fault, walk_fault, word_fault}
-use Rattle.pw_words.specs.App.{blocks_rule}
+use Rattle.pw_words.specs.App.{blocks_rule, word_rule}
 use Rattle.pw_words.specs.Words.{are_bare, is_dashed}
 
 stripped : (word : Text) → is_dashed word ≡ false → strip_byte 45 word ≡ None
@@ -49,7 +49,10 @@ bare_fault s names waiting word h bare none =
     ∙ ap (λ o. flag_word_fault s.rules s.args_override_self o word h) (no_long word bare)
     ∙ ap (λ o. option_map_or (λ flags. bundle_fault s.rules s.args_override_self flags h) o []) (no_short word bare)
 
--- the rule of the files at a position, as building fills it in
+-- the rule of one word at a position, and that of the files, as building fills them in
+abbrev pub word_at : Text → ℕ → Rule
+word_at id p = with_index p (filled (word_rule id))
+
 abbrev pub blocks_at : ℕ → Rule
 blocks_at p = with_index p (filled blocks_rule)
 
@@ -87,6 +90,22 @@ module _ (s : Shape) (p : ℕ) where
       ∙ bare_met s.rules [] w.waiting w.position word w.held bare none plain in
       ap (λ (o : Option (Text × List Text)). cond (is_some o) [] (or_else fault (step_fault s w.position step.0 step.1))) go_on
       ∙ ap₂ (λ (k : Kinds) (m : Held × Step). or_else k (step_fault s w.position m.0 m.1)) faults met
+
+-- an argument of one word
+module _ (s : Shape) (p : ℕ) (id : Text) (here : arg_by_index s.rules p ≡ Some (word_at id p)) (h : Held) (word : Text)
+    (bare : is_dashed word ≡ false) (other : is_pending (word_at id p) h.pending ≡ false) where
+  pub word_walked : walked s.rules [] (idle_at p h) word ≡ idle_at (min (p + 1) usize_max) (pushed id word (settled s.rules h))
+  unfolding walked
+  word_walked =
+      ap (λ (m : Held × Step). after_step s.rules word (idle_at p h) m.0 m.1) (bare_met s.rules [] idle p word h bare refl refl)
+      ∙ ap (λ o. to_positional s.rules o word (idle_at p h) h) here
+      ∙ ap (λ b. idle_at (min (p + 1) usize_max) (pushed id word (cond (b && false) h (settled s.rules h)))) other
+
+  pub word_turn : turn_fault s [] (idle_at p h) word ≡ settle_fault s.rules s.args_override_self h
+  word_turn =
+      bare_turn s p (idle_at p h) word refl refl refl refl bare
+      ∙ ap (λ o. option_map_or (λ a. positional_fault s.rules s.args_override_self a h) o (stray_fault s)) here
+      ∙ ap (λ b. cond (b && false) [] (settle_fault s.rules s.args_override_self h)) other
 
 module _ (s : Shape) (p : ℕ) (here : arg_by_index s.rules p ≡ Some (blocks_at p)) where
   -- the first file

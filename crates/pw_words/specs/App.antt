@@ -25,6 +25,14 @@ blocks_app name = with_rule (new_app name) blocks_rule
 abbrev pub show_app : App
 show_app = with_rule (blocks_app (codes "show")) (flag_rule (codes "json"))
 
+-- `drive [--serial] [--step]`, with no names yet
+abbrev pub way_app : App
+way_app = with_rule (with_rule (new_app (codes "drive")) (flag_rule (codes "serial"))) (flag_rule (codes "step"))
+
+-- `drive [--serial] [--step] SCRIPT BLOCK..`
+abbrev pub drive_app : App
+drive_app = with_rule (with_rule way_app (word_rule (codes "script"))) blocks_rule
+
 -- no subcommand yet; no help, no version, and no name of the program before the words
 abbrev pub bare_app : App
 bare_app = record {
@@ -41,5 +49,7 @@ bare_app = record {
 -- all of it
 abbrev pub line_app : App
 line_app = with_subcommand
+    (with_subcommand
     (with_subcommand (with_subcommand bare_app show_app.top) (blocks_app (codes "rewrite")).top)
-    (blocks_app (codes "check")).top
+    (blocks_app (codes "check")).top)
+    drive_app.top

@@ -1,15 +1,15 @@
 -- The words of a command line, without the program's name, and what they ask for.
 use Rattle.std.specs.Prelude.{◌≡◌, ◌≤◌, ◌==◌, ◌&&◌, Bool, true, false, not, String}
-use Rattle.std.specs.Prelude.{List, [], ◌∷◌, ◌++◌, length, map, Option, Some, None, codes, if◌then◌else◌}
-use Rattle.std.specs.List.{filter}
-use Rattle.std.specs.Option.{option_map_or}
+use Rattle.std.specs.Prelude.{List, [], ◌∷◌, ◌++◌, length, map, Some, codes, if◌then◌else◌}
+use Rattle.std.specs.List.{filter, list_any}
 use Rattle.std.specs.Str.{bytes_eq}
 use Rattle.std.specs.String.{string_bytes}
 use Rattle.std.specs.declared.alloc.Global.{Global}
-use Rattle.clap.specs.Words.{Row, Text, all_of}
+use Rattle.clap.specs.Words.{Row, Text, all_of, first_of}
 use Rattle.pw_words.specs.Stated.{Enters, IsTaken, is_used}
 use Rattle.pw_words.specs.declared.command.Task.{Task}
 use Rattle.pw_words.specs.declared.command.Task.TheVariants.{Show, ShowAsJson, Rewrite, Check}
+use Rattle.pw_words.specs.declared.command.Way.{Way}
 
 -- the bytes of each word
 abbrev pub texts : List (String Global) → List Text
@@ -19,6 +19,8 @@ texts words = map string_bytes words
 pub data Asked : Type 0 where
   -- a task, of the blocks in the files of these names
   on_blocks : Task → List Text → Asked
+  -- a script run in this way: the name of its file, and those of the blocks' files
+  drive : Way → Text → List Text → Asked
 
 -- # The table of commands
 
@@ -33,6 +35,14 @@ task_name Check = codes "check"
 abbrev pub task_flags : Task → List Text
 task_flags ShowAsJson = codes "--json" ∷ []
 task_flags _ = []
+
+-- a flag where it is given
+abbrev pub flag_words : Text → Bool → List Text
+flag_words flag given = if given then flag ∷ [] else []
+
+-- the flags that tell the way in which a script is run
+abbrev pub way_flags : Way → List Text
+way_flags way = flag_words (codes "--serial") way.serial ++ flag_words (codes "--step") way.step
 
 -- a word that begins with a hyphen, the byte 45
 abbrev pub is_dashed : Text → Bool
@@ -53,31 +63,42 @@ pub record AreFiles (files : List Text) : Type 0 where
   pub some : 1 ≤ length files
   pub few : length files ≤ 64
 
--- The words are a line of the table: `show BLOCK..`, `show --json BLOCK..`, `rewrite BLOCK..`, `check BLOCK..`.
+-- The words are a line of the table: `show BLOCK..`, `show --json BLOCK..`, `rewrite BLOCK..`, `check BLOCK..`,
+-- `drive [--serial] [--step] SCRIPT BLOCK..`.
 abbrev pub IsLine : List Text → Asked → Type 0
 IsLine words (on_blocks task blocks) = (words ≡ task_name task ∷ task_flags task ++ blocks) × AreFiles blocks
+IsLine words (drive way script blocks) =
+    (words ≡ codes "drive" ∷ way_flags way ++ script ∷ blocks) × (is_dashed script ≡ false) × AreFiles blocks
 
 -- # Plain words: those whose flags may stand anywhere behind the first word
 
--- the flag of the command that the word names
-abbrev pub flag_of : Text → Option Text
-flag_of word = if bytes_eq word (codes "show") then Some (codes "--json") else None
+-- the flags of the command that the word names, in the order of its line of the table
+abbrev pub flags_of : Text → List Text
+flags_of word = if bytes_eq word (codes "show") then codes "--json" ∷ []
+    else (if bytes_eq word (codes "drive") then codes "--serial" ∷ codes "--step" ∷ [] else [])
 
--- these are no words, or the flag of the command, once
+-- the word is one of these
+abbrev pub is_among : List Text → Text → Bool
+is_among words word = list_any (λ w. bytes_eq w word) words
+
+-- each of these is a flag of the command, and is there once
 abbrev pub are_flags_of : Text → List Text → Bool
 are_flags_of word [] = true
-are_flags_of word (flag ∷ []) = option_map_or (bytes_eq flag) (flag_of word) false
-are_flags_of word (flag ∷ again ∷ rest) = false
+are_flags_of word (flag ∷ rest) = is_among (flags_of word) flag && (not (is_among rest flag) && are_flags_of word rest)
 
 -- The first word doesn't begin with a hyphen, and each further word that does is a flag of its command, which is there once.
 abbrev pub is_plain : List Text → Bool
 is_plain [] = true
 is_plain (word ∷ rest) = is_bare word && are_flags_of word (filter is_dashed rest)
 
--- the words with those that begin with a hyphen moved behind the first
+-- these flags of the command in the order of its line of the table
+abbrev pub in_table_order : Text → List Text → List Text
+in_table_order word flags = filter (is_among flags) (flags_of word)
+
+-- plain words with their flags moved behind the first
 abbrev pub moved : List Text → List Text
 moved [] = []
-moved (word ∷ rest) = word ∷ filter is_dashed rest ++ filter is_bare rest
+moved (word ∷ rest) = word ∷ in_table_order word (filter is_dashed rest) ++ filter is_bare rest
 
 -- # Other words
 
@@ -87,15 +108,22 @@ SayTask rows Show = is_used (codes "json") rows ≡ false
 SayTask rows ShowAsJson = is_used (codes "json") rows ≡ true
 SayTask rows _ = Unit {0}
 
+-- the matches say which of the flags were given that tell the way
+abbrev pub SayWay : List Row → Way → Type 0
+SayWay rows way = (is_used (codes "serial") rows ≡ way.serial) × (is_used (codes "step") rows ≡ way.step)
+
 -- the subcommand by which it is asked for
 abbrev pub command_name : Asked → Text
 command_name (on_blocks task blocks) = task_name task
+command_name (drive way script blocks) = codes "drive"
 
--- the matches of the subcommand have what is asked for: the task and the names of the files
+-- the matches of the subcommand have what is asked for: the task or the way, and the names of the files
 abbrev pub Say : List Row → Asked → Type 0
 Say rows (on_blocks task blocks) = SayTask rows task × (all_of (codes "blocks") rows ≡ Some blocks)
+Say rows (drive way script blocks) =
+    SayWay rows way × (first_of (codes "script") rows ≡ Some script) × (all_of (codes "blocks") rows ≡ Some blocks)
 
--- `clap` takes the words, and states this of them: the subcommand, its flag and its arguments.
+-- `clap` takes the words, and states this of them: the subcommand, its flags and its arguments.
 pub record AreStated (words : List Text) (asked : Asked) : Type 0 where
   pub rows : List Row
   pub taken : IsTaken words

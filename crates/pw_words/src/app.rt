@@ -1,8 +1,8 @@
 ghost use Rattle.std.specs.Prelude.{◌≡◌, IfOk, false};
 ghost use Rattle.clap.specs.Words.{app_of, rule_of, with_subcommand};
 ghost use Rattle.clap.specs.declared.builder.command.Command.TheViews.{out-Command as fields_of};
-ghost use Rattle.pw_words.specs.App.{bare_app, blocks_app, blocks_rule, flag_rule, line_app};
-ghost use Rattle.pw_words.specs.App.{show_app, word_rule};
+ghost use Rattle.pw_words.specs.App.{bare_app, blocks_app, blocks_rule, drive_app, flag_rule};
+ghost use Rattle.pw_words.specs.App.{line_app, show_app, way_app, word_rule};
 
 use clap::{Arg, ArgAction, Command};
 use std::alloc::{AllocError, Global};
@@ -46,6 +46,24 @@ fn show<'a>(alloc: Global) -> Result<Command<'a>, AllocError>
     on_blocks(alloc, "show")?.arg(flag(alloc, "json"))
 }
 
+/// `drive [--serial] [--step]`, with no names yet.
+fn drive_flags<'a>(alloc: Global) -> Result<Command<'a>, AllocError>
+    ensures { IfOk result (λ c. (app_of c ≡ way_app) × ((fields_of c).has_globals ≡ false)) }
+{
+    Command::new(alloc, "drive")
+        .arg(flag(alloc, "serial"))?
+        .arg(flag(alloc, "step"))
+}
+
+/// `drive [--serial] [--step] SCRIPT BLOCK..`.
+fn drive<'a>(alloc: Global) -> Result<Command<'a>, AllocError>
+    ensures { IfOk result (λ c. (app_of c ≡ drive_app) × ((fields_of c).has_globals ≡ false)) }
+{
+    drive_flags(alloc)?
+        .arg(word(alloc, "script"))?
+        .arg(blocks(alloc))
+}
+
 /// The command with no subcommand yet.
 fn bare<'a>(alloc: Global) -> Command<'a>
     ensures app { app_of result ≡ bare_app }
@@ -76,5 +94,6 @@ pub(crate) fn line<'a>(alloc: Global) -> Result<Command<'a>, AllocError>
 {
     let command = with(bare(alloc), show(alloc)?)?;
     let command = with(command, on_blocks(alloc, "rewrite")?)?;
-    with(command, on_blocks(alloc, "check")?)
+    let command = with(command, on_blocks(alloc, "check")?)?;
+    with(command, drive(alloc)?)
 }

@@ -21,11 +21,31 @@ pub enum Task {
     Check,
 }
 
+/// How a script is run.
+#[derive(Clone, Copy)]
+pub struct Way {
+    /// `--serial`: one thread makes all requests, in the script's order; else one worker a
+    /// processor makes those of its own.
+    pub serial: bool,
+    /// `--step`: a notice moves a limit by one towards the platform's value; else to it.
+    pub step: bool,
+}
+
 /// What the words of a command line ask for.
 #[derive(Drop)]
 pub enum Command<'a> {
     /// A task, of the definition blocks in the files of these names, 1 to 64 of them.
-    OnBlocks { task: Task, blocks: Vec<&'a str> },
+    OnBlocks {
+        task: Task,
+        blocks: Vec<&'a str>,
+    },
+    /// `drive [--serial] [--step] SCRIPT BLOCK..`: the script in the file of this name, run on the
+    /// machine that the blocks describe, in 1 to 64 files.
+    Drive {
+        way: Way,
+        script: &'a str,
+        blocks: Vec<&'a str>,
+    },
 }
 
 /// Why words give no command.

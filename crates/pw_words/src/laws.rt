@@ -1,30 +1,49 @@
-ghost use Rattle.std.specs.Prelude.{◌≡◌, ◌≤◌, ◌↔◌, ◌∷◌, ◌++◌, [], false, codes, length, List};
+ghost use Rattle.std.specs.Prelude.{◌≡◌, ◌≤◌, ◌↔◌, ◌∷◌, ◌++◌, ◌⊎◌, [], false, true, codes, length};
+ghost use Rattle.std.specs.Prelude.{List, reverse};
+ghost use Rattle.std.specs.List.{filter};
+ghost use Rattle.std.specs.List.Sorted.{IsPermutation};
 ghost use Rattle.clap.specs.Words.{Text};
 ghost use Rattle.pw_words.specs.Stated.{IsTaken};
-ghost use Rattle.pw_words.specs.Words.{AreFiles, AskFor, Asked, IsCommand, is_plain};
-ghost use Rattle.pw_words.specs.Words.{task_flags, task_name};
-ghost use Rattle.pw_words.specs.Words.Asked.{on_blocks};
+ghost use Rattle.pw_words.specs.Words.{AreFiles, AskFor, Asked, IsCommand, is_bare, is_dashed};
+ghost use Rattle.pw_words.specs.Words.{is_plain, moved, task_flags, task_name, way_flags};
+ghost use Rattle.pw_words.specs.Words.Asked.{drive, on_blocks};
 ghost use Rattle.pw_words.specs.declared.command.Task.{Task as task_type};
 ghost use Rattle.pw_words.specs.declared.command.Task.TheVariants.{Show, ShowAsJson};
+ghost use Rattle.pw_words.specs.declared.command.Way.{Way as way_type};
 
 /// Words ask for one thing at most.
 pub fn one_command()
     ensures { (words : List Text) (a b : Asked) → AskFor words a → AskFor words b → a ≡ b }
 {}
 
-/// They name 1 to 64 files.
+/// They name 1 to 64 files of blocks.
 pub fn few_blocks()
-    ensures { (words : List Text) (task : task_type) (blocks : List Text) →
+    ensures task { (words : List Text) (task : task_type) (blocks : List Text) →
         AskFor words (on_blocks task blocks) → (1 ≤ length blocks) × (length blocks ≤ 64) }
+    ensures drive { (words : List Text) (way : way_type) (script : Text) (blocks : List Text) →
+        AskFor words (drive way script blocks) → (1 ≤ length blocks) × (length blocks ≤ 64) }
 {}
 
-/// A line of the table asks for itself, and so does one whose flag stands among the files.
+/// A line of the table asks for itself, and so does one whose flags stand among the names.
 pub fn usual_line()
     ensures line { (task : task_type) (blocks : List Text) → AreFiles blocks →
         AskFor (task_name task ∷ task_flags task ++ blocks) (on_blocks task blocks) }
     ensures flag { (before after : List Text) → AreFiles (before ++ after) →
         AskFor (codes "show" ∷ before ++ codes "--json" ∷ after)
         (on_blocks ShowAsJson (before ++ after)) }
+    ensures drive { (way : way_type) (script : Text) (blocks : List Text) →
+        is_dashed script ≡ false → AreFiles blocks →
+        AskFor (codes "drive" ∷ way_flags way ++ script ∷ blocks) (drive way script blocks) }
+    // Wherever its flags stand among the names, in either order.
+    ensures flags { (way : way_type) (script : Text) (blocks rest : List Text) →
+        AreFiles blocks → filter is_bare rest ≡ script ∷ blocks →
+        (filter is_dashed rest ≡ way_flags way) ⊎ (filter is_dashed rest ≡ reverse (way_flags way)) →
+        AskFor (codes "drive" ∷ rest) (drive way script blocks) }
+{}
+
+/// Plain words whose flags are moved are the same words in another order.
+pub fn same_words()
+    ensures { (words : List Text) → is_plain words ≡ true → IsPermutation words (moved words) }
 {}
 
 /// Words that aren't plain are a command exactly where `clap` takes them.
@@ -33,10 +52,15 @@ pub fn taken_words()
 {}
 
 /// Of words that aren't plain: behind `--` a file's name may begin with a hyphen, but a flag ends
-/// the names that stand before it.
+/// the names that stand before it, and none may be given twice.
 pub fn other_words()
     ensures behind { AskFor (codes "show" ∷ codes "--" ∷ codes "--json" ∷ [])
         (on_blocks Show (codes "--json" ∷ [])) }
     ensures between { IsCommand
         (codes "show" ∷ codes "a" ∷ codes "--json" ∷ codes "--" ∷ codes "-b" ∷ []) → ⊥ }
+    ensures script { AskFor
+        (codes "drive" ∷ codes "--step" ∷ codes "--" ∷ codes "--serial" ∷ codes "-b" ∷ [])
+        (drive (record { serial = false; step = true }) (codes "--serial") (codes "-b" ∷ [])) }
+    ensures twice { IsCommand (codes "drive" ∷ codes "--step" ∷ codes "--step" ∷ codes "s"
+        ∷ codes "b" ∷ []) → ⊥ }
 {}

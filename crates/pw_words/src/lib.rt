@@ -7,5 +7,5 @@ mod laws;
 mod matches;
 mod order;
 
-pub use command::{Command, Task, WordsFault, command_of};
-pub use laws::{few_blocks, one_command, other_words, taken_words, usual_line};
+pub use command::{Command, Task, Way, WordsFault, command_of};
+pub use laws::{few_blocks, one_command, other_words, same_words, taken_words, usual_line};

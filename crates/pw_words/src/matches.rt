@@ -1,14 +1,14 @@
 ghost use Rattle.std.specs.Prelude.{◌≡◌, true, codes, is_some, IfOk, Some};
-ghost use Rattle.clap.specs.Words.{all_of, found_of, kind_of, rows_of};
+ghost use Rattle.clap.specs.Words.{all_of, first_of, found_of, kind_of, rows_of};
 ghost use Rattle.clap.specs.declared.error.kind.ErrorKind.TheVariants.{OutOfMemory};
 ghost use Rattle.pw_words.specs.Command.{asked_of, slice_texts};
 ghost use Rattle.pw_words.specs.Stated.{from_words, is_used};
-ghost use Rattle.pw_words.specs.Words.{Say, SayTask, command_name, task_name};
+ghost use Rattle.pw_words.specs.Words.{Say, SayTask, SayWay, command_name, task_name};
 ghost use Rattle.pw_words.specs.declared.command.WordsFault.TheVariants.{Refused};
 ghost use Rattle.pw_words.specs.inner.Reading.{CanSay, IsOnBlocks, Reads};
 
 use crate::app::line;
-use crate::command::{Command, Task, WordsFault};
+use crate::command::{Command, Task, Way, WordsFault};
 use clap::error::ErrorKind;
 use clap::parser::ValueSource;
 use clap::{ArgMatches, Error};
@@ -40,6 +40,27 @@ fn blocks_in<'a>(alloc: Global, matches: &ArgMatches<'a>) -> Result<Vec<&'a str>
     }
 }
 
+/// The name of the script's file that the matches have.
+fn script_in<'a>(matches: &ArgMatches<'a>) -> &'a str
+    requires { is_some (first_of (codes "script") (rows_of (found_of matches.now))) ≡ true }
+    ensures { first_of (codes "script") (rows_of (found_of matches.now)) ≡ Some result.now }
+{
+    match matches.get_str("script") {
+        Some(script) => script,
+        None => unreachable!(),
+    }
+}
+
+/// The way that the matches tell.
+fn way_in(matches: &ArgMatches<'_>) -> Way
+    ensures { SayWay (rows_of (found_of matches.now)) result }
+{
+    Way {
+        serial: was_given(matches, "serial"),
+        step: was_given(matches, "step"),
+    }
+}
+
 /// The task of the subcommand of this name, by its matches.
 fn task_in(name: &str, matches: &ArgMatches<'_>) -> Task
     requires { IsOnBlocks name.now }
@@ -60,6 +81,37 @@ fn task_in(name: &str, matches: &ArgMatches<'_>) -> Task
     }
 }
 
+/// A task on blocks, by the matches of its subcommand.
+fn on_blocks_in<'a>(
+    alloc: Global,
+    name: &str,
+    matches: &ArgMatches<'a>,
+) -> Result<Command<'a>, AllocError>
+    requires known { IsOnBlocks name.now }
+    requires blocks { is_some (all_of (codes "blocks") (rows_of (found_of matches.now))) ≡ true }
+    ensures { IfOk result (λ c. (command_name (asked_of c) ≡ name.now)
+        × Say (rows_of (found_of matches.now)) (asked_of c)) }
+{
+    Ok(Command::OnBlocks {
+        task: task_in(name, matches),
+        blocks: blocks_in(alloc, matches)?,
+    })
+}
+
+/// A script to run, by the matches of `drive`.
+fn drive_in<'a>(alloc: Global, matches: &ArgMatches<'a>) -> Result<Command<'a>, AllocError>
+    requires script { is_some (first_of (codes "script") (rows_of (found_of matches.now))) ≡ true }
+    requires blocks { is_some (all_of (codes "blocks") (rows_of (found_of matches.now))) ≡ true }
+    ensures { IfOk result (λ c. (command_name (asked_of c) ≡ codes "drive")
+        × Say (rows_of (found_of matches.now)) (asked_of c)) }
+{
+    Ok(Command::Drive {
+        way: way_in(matches),
+        script: script_in(matches),
+        blocks: blocks_in(alloc, matches)?,
+    })
+}
+
 /// The command of the subcommand of this name, by its matches.
 fn command_in<'a>(
     alloc: Global,
@@ -70,10 +122,10 @@ fn command_in<'a>(
     ensures { IfOk result (λ c. (command_name (asked_of c) ≡ name.now)
         × Say (rows_of (found_of matches.now)) (asked_of c)) }
 {
-    Ok(Command::OnBlocks {
-        task: task_in(name, matches),
-        blocks: blocks_in(alloc, matches)?,
-    })
+    match name {
+        "drive" => drive_in(alloc, matches),
+        _ => on_blocks_in(alloc, name, matches),
+    }
 }
 
 /// What an error of `clap` comes to.

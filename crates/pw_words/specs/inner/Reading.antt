@@ -1,6 +1,6 @@
 -- What the parts of reading words come to.
 use Rattle.std.specs.Prelude.{◌≡◌, ◌⊎◌, Bool, true, is_some, List, MatchResult, Result, codes, if◌then◌else◌}
-use Rattle.clap.specs.Words.{Row, Text, all_of}
+use Rattle.clap.specs.Words.{Row, Text, all_of, first_of}
 use Rattle.pw_words.specs.declared.command.Command.{Command}
 use Rattle.pw_words.specs.declared.command.WordsFault.{WordsFault}
 use Rattle.pw_words.specs.declared.command.WordsFault.TheVariants.{Refused}
@@ -22,8 +22,9 @@ IsOnBlocks name = (name ≡ codes "show") ⊎ ((name ≡ codes "rewrite") ⊎ (n
 
 -- the matches are those of a subcommand, and have its arguments
 pub record CanSay (name : Text) (rows : List Row) : Type 0 where
-  pub known : IsOnBlocks name
+  pub known : IsOnBlocks name ⊎ (name ≡ codes "drive")
   pub blocks : is_some (all_of (codes "blocks") rows) ≡ true
+  pub script : name ≡ codes "drive" → is_some (first_of (codes "script") rows) ≡ true
 
 -- the command is what `clap` states of the words, and they are refused only where it doesn't take them
 abbrev pub Reads : List Text → Result Command WordsFault → Type 0

@@ -10,4 +10,5 @@ pub returns : goal.returns
 returns c =
     let one = c.in_ok-command.ensures.0 ∙ ap₂ with c.bare.ensures.app c.in_ok-show.ensures.0 in
     let two = c.in_ok-command-2.ensures.0 ∙ ap₂ with one c.in_ok-on_blocks.ensures.0 in
-    IfOk-weaker c.with-3.result _ _ (λ x h. h.0 ∙ ap₂ with two c.in_ok-on_blocks-2.ensures.0) c.with-3.ensures
+    let three = c.in_ok-command-3.ensures.0 ∙ ap₂ with two c.in_ok-on_blocks-2.ensures.0 in
+    IfOk-weaker c.with-4.result _ _ (λ x h. h.0 ∙ ap₂ with three c.in_ok-drive.ensures.0) c.with-4.ensures

@@ -1,5 +1,8 @@
-use Rattle.pw_words.proofs.Asking.{few_asked}
+use Rattle.pw_words.proofs.Asking.{few_asked, few_driven}
 use Rattle.pw_words.proofs.laws.few_blocks.Goals as goal
 
-pub returns : goal.returns
-returns c = few_asked
+pub returns-clause-task : goal.returns-clause-task
+returns-clause-task c = few_asked
+
+pub returns-clause-drive : goal.returns-clause-drive
+returns-clause-drive c = few_driven

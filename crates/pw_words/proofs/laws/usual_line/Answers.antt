@@ -1,4 +1,4 @@
-use Rattle.pw_words.proofs.Asking.{usual_asks, flag_asks}
+use Rattle.pw_words.proofs.Usual.{drive_asks, flag_asks, flags_ask, usual_asks}
 use Rattle.pw_words.proofs.laws.usual_line.Goals as goal
 
 pub returns-clause-line : goal.returns-clause-line
@@ -6,3 +6,9 @@ returns-clause-line c = usual_asks
 
 pub returns-clause-flag : goal.returns-clause-flag
 returns-clause-flag c = flag_asks
+
+pub returns-clause-drive : goal.returns-clause-drive
+returns-clause-drive c = λ way script blocks bare are. drive_asks way script blocks are bare
+
+pub returns-clause-flags : goal.returns-clause-flags
+returns-clause-flags c = λ way script blocks rest are. flags_ask way script blocks are rest

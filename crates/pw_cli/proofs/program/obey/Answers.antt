@@ -1,0 +1,6 @@
+use Rattle.std.proofs.Common.{refl}
+use Rattle.pw_ends.proofs.Outcomes.{ended_as}
+use Rattle.pw_cli.proofs.program.obey.Goals as goal
+
+pub returns-in-OnBlocks-clause-obeyed : goal.returns-in-OnBlocks-clause-obeyed
+returns-in-OnBlocks-clause-obeyed g c = rw c.in-OnBlocks.is (ended_as (λ text line way. (way, refl)) (rw c.as_slice.ensures.value at c.do_on_blocks-status.ensures.did))

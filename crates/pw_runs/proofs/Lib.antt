@@ -1,0 +1,9 @@
+pub mod Cuts
+pub mod Histories
+pub mod OnePlan
+pub mod Parsed
+pub mod Printing
+pub mod Repeats
+pub mod One
+pub mod Steps
+pub mod Worded

@@ -1,0 +1,12 @@
+//! The command `drive`: a script's requests on the machine that blocks describe, and the history that is printed.
+#![tactic(auto)]
+
+mod given;
+mod planned;
+mod print;
+mod refusal;
+mod running;
+mod say;
+mod script;
+
+pub use running::drive;

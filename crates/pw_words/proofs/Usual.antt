@@ -1,0 +1,123 @@
+-- A line of the table asks for itself, and so does one whose flags stand among the names.
+use Rattle.std.proofs.Common.{◌≡◌, ◌∙◌, ◌∷◌, ◌++◌, ◌&&◌, ◌⊎◌, inl, inr, Bool, true, false, refl, sym, ap, ap₂, subst, List, [], codes}
+use Rattle.std.specs.Prelude.{reverse}
+use Rattle.std.specs.List.{filter}
+use Rattle.clap.specs.Walk.{Text}
+use Rattle.pw_words.specs.declared.command.Task.{Task}
+use Rattle.pw_words.specs.declared.command.Task.TheVariants.{Show, ShowAsJson, Rewrite, Check}
+use Rattle.pw_words.specs.declared.command.Way.{Way}
+use Rattle.pw_words.specs.Words.{AreFiles, AskFor, Asked, IsLine, are_bare, are_flags_of, in_table_order, is_bare, is_dashed, task_flags}
+use Rattle.pw_words.specs.Words.{task_name, way_flags}
+use Rattle.pw_words.specs.Words.Asked.{drive, on_blocks}
+use Rattle.pw_words.proofs.Asking.{plain_asks}
+use Rattle.pw_words.proofs.Driving.{flags_by}
+use Rattle.pw_words.proofs.Lines.{bare_filtered, bare_names}
+use Rattle.pw_words.proofs.Walked.{bare_parts}
+
+-- names of files are none of the words that begin with a hyphen, and all of the others
+none_dashed : (files : List Text) → are_bare files ≡ true → filter is_dashed files ≡ []
+none_dashed [] bare = refl
+none_dashed (f ∷ fs) bare = let parts = bare_parts f fs bare in rw parts.0 (none_dashed fs parts.1)
+
+all_bare : (files : List Text) → are_bare files ≡ true → filter is_bare files ≡ files
+all_bare [] bare = refl
+all_bare (f ∷ fs) bare = let parts = bare_parts f fs bare in rw parts.0 (ap (λ xs. f ∷ xs) (all_bare fs parts.1))
+
+-- words, by those behind the first that begin with a hyphen, and by the others
+parted_asks : (word : Text) (rest flags names : List Text) (asked : Asked) → is_bare word ≡ true
+    → filter is_dashed rest ≡ flags → filter is_bare rest ≡ names → are_flags_of word flags ≡ true
+    → IsLine (word ∷ in_table_order word flags ++ names) asked → AskFor (word ∷ rest) asked
+parted_asks word rest flags names asked bare dashed others ours line = plain_asks (word ∷ rest) asked
+    (ap₂ (λ x y. x && y) bare (ap (are_flags_of word) dashed ∙ ours))
+    (subst (λ (w : List Text). IsLine w asked) (sym (ap₂ (λ xs ys. word ∷ in_table_order word xs ++ ys) dashed others)) line)
+
+-- ---- a task on blocks
+
+-- the flag among the files is moved before them
+flag_moved : (before after : List Text) → are_bare (before ++ after) ≡ true
+    → (filter is_dashed (before ++ codes "--json" ∷ after) ≡ codes "--json" ∷ [])
+    × (filter is_bare (before ++ codes "--json" ∷ after) ≡ before ++ after)
+flag_moved [] after bare = (ap (λ xs. codes "--json" ∷ xs) (none_dashed after bare), all_bare after bare)
+flag_moved (f ∷ fs) after bare =
+    let parts = bare_parts f (fs ++ after) bare in
+    let rest = flag_moved fs after parts.1 in
+    (rw parts.0 rest.0, rw parts.0 (ap (λ xs. f ∷ xs) rest.1))
+
+task_asks : (task : Task) (rest blocks : List Text) → filter is_dashed rest ≡ task_flags task → filter is_bare rest ≡ blocks
+    → AreFiles blocks → AskFor (task_name task ∷ rest) (on_blocks task blocks)
+task_asks Show rest bs flags files are = parted_asks (codes "show") rest [] bs (on_blocks Show bs) refl flags files refl (refl, are)
+task_asks ShowAsJson rest bs flags files are =
+    parted_asks (codes "show") rest (codes "--json" ∷ []) bs (on_blocks ShowAsJson bs) refl flags files refl (refl, are)
+task_asks Rewrite rest bs flags files are = parted_asks (codes "rewrite") rest [] bs (on_blocks Rewrite bs) refl flags files refl (refl, are)
+task_asks Check rest bs flags files are = parted_asks (codes "check") rest [] bs (on_blocks Check bs) refl flags files refl (refl, are)
+
+pub usual_asks : (task : Task) (blocks : List Text) → AreFiles blocks
+    → AskFor (task_name task ∷ task_flags task ++ blocks) (on_blocks task blocks)
+usual_asks Show blocks are = task_asks Show blocks blocks (none_dashed blocks are.bare) (all_bare blocks are.bare) are
+usual_asks ShowAsJson blocks are =
+    let parts = flag_moved [] blocks are.bare in task_asks ShowAsJson (codes "--json" ∷ blocks) blocks parts.0 parts.1 are
+usual_asks Rewrite blocks are = task_asks Rewrite blocks blocks (none_dashed blocks are.bare) (all_bare blocks are.bare) are
+usual_asks Check blocks are = task_asks Check blocks blocks (none_dashed blocks are.bare) (all_bare blocks are.bare) are
+
+pub flag_asks : (before after : List Text) → AreFiles (before ++ after)
+    → AskFor (codes "show" ∷ before ++ codes "--json" ∷ after) (on_blocks ShowAsJson (before ++ after))
+flag_asks before after are =
+    let parts = flag_moved before after are.bare in
+    task_asks ShowAsJson (before ++ codes "--json" ∷ after) (before ++ after) parts.0 parts.1 are
+
+-- ---- `drive`
+
+-- its flags in the table's order, or in the other
+module _ (way : Way) where
+  abbrev Ordered : List Text → Type 0
+  Ordered flags = (are_flags_of (codes "drive") flags ≡ true) × (in_table_order (codes "drive") flags ≡ way_flags way)
+
+  in_order : Ordered (way_flags way)
+  in_order = go way.serial way.step
+    where
+      go : (a b : Bool) → (are_flags_of (codes "drive") (flags_by a b) ≡ true)
+          × (in_table_order (codes "drive") (flags_by a b) ≡ flags_by a b)
+      go true true = (refl, refl)
+      go true false = (refl, refl)
+      go false true = (refl, refl)
+      go false false = (refl, refl)
+
+  turned : Ordered (reverse (way_flags way))
+  turned = go way.serial way.step
+    where
+      go : (a b : Bool) → (are_flags_of (codes "drive") (reverse (flags_by a b)) ≡ true)
+          × (in_table_order (codes "drive") (reverse (flags_by a b)) ≡ flags_by a b)
+      go true true = (refl, refl)
+      go true false = (refl, refl)
+      go false true = (refl, refl)
+      go false false = (refl, refl)
+
+-- the flags in front of the names
+front : (serial step : Bool) (names : List Text) → are_bare names ≡ true
+    → (filter is_dashed (flags_by serial step ++ names) ≡ flags_by serial step) × (filter is_bare (flags_by serial step ++ names) ≡ names)
+front true true names bare = (ap (λ xs. codes "--serial" ∷ codes "--step" ∷ xs) (none_dashed names bare), all_bare names bare)
+front true false names bare = (ap (λ xs. codes "--serial" ∷ xs) (none_dashed names bare), all_bare names bare)
+front false true names bare = (ap (λ xs. codes "--step" ∷ xs) (none_dashed names bare), all_bare names bare)
+front false false names bare = (none_dashed names bare, all_bare names bare)
+
+module _ (way : Way) (script : Text) (blocks : List Text) (are : AreFiles blocks) where
+  way_asks : (rest flags : List Text) → Ordered way flags → filter is_dashed rest ≡ flags → filter is_bare rest ≡ script ∷ blocks
+      → is_dashed script ≡ false → AskFor (codes "drive" ∷ rest) (drive way script blocks)
+  way_asks rest flags order dashed others bare =
+      parted_asks (codes "drive") rest flags (script ∷ blocks) (drive way script blocks) refl dashed others order.0
+      (ap (λ xs. codes "drive" ∷ xs ++ script ∷ blocks) order.1, bare, are)
+
+  pub drive_asks : is_dashed script ≡ false → AskFor (codes "drive" ∷ way_flags way ++ script ∷ blocks) (drive way script blocks)
+  drive_asks bare =
+      let parts = front way.serial way.step (script ∷ blocks) (bare_names script blocks bare are.bare) in
+      way_asks (way_flags way ++ script ∷ blocks) (way_flags way) (in_order way) parts.0 parts.1 bare
+
+  pub flags_ask : (rest : List Text) → filter is_bare rest ≡ script ∷ blocks
+      → (filter is_dashed rest ≡ way_flags way) ⊎ (filter is_dashed rest ≡ reverse (way_flags way))
+      → AskFor (codes "drive" ∷ rest) (drive way script blocks)
+  flags_ask rest others dashed =
+      let bare = (bare_parts script blocks (ap are_bare (sym others) ∙ bare_filtered rest)).0 in
+      elim dashed [
+        | inl e ↦ way_asks rest (way_flags way) (in_order way) e others bare
+        | inr e ↦ way_asks rest (reverse (way_flags way)) (turned way) e others bare
+      ]
