@@ -203,19 +203,19 @@ def scales(domain, count, states):
     )
 
 
-def processor(number, states):
-    """A processor of a cluster of eight: every second cluster has C states in place of low power idle states."""
+def processor(number, states, has_c_states):
+    """A processor of a cluster of eight: every second cluster may have C states in place of low power idle states."""
     cluster = number // 8
-    idle = c_states(cluster, 8) if cluster % 2 else low_power((10, 50, 200))
+    idle = c_states(cluster, 8) if has_c_states and cluster % 2 else low_power((10, 50, 200))
     named = b"\x08_HID\x0dACPI0007\x00\x08_UID\x0b" + number.to_bytes(2, "little")
     return holder(DEVICE, b"P%03X" % number, named + idle + scales(cluster, 8, states))
 
 
-def clusters(count, states):
+def clusters(count, states, has_c_states=True):
     """So many processors in clusters of eight."""
     for first in range(0, count, 8):
         inside = b"\x08_HID\x0dACPI0010\x00" + low_power((100, 500))
-        inside += b"".join(processor(number, states) for number in range(first, first + 8))
+        inside += b"".join(processor(number, states, has_c_states) for number in range(first, first + 8))
         yield holder(DEVICE, b"CL%02X" % (first // 8), inside)
 
 
@@ -398,4 +398,5 @@ def main():
     machines(program, plain)
 
 
-main()
+if __name__ == "__main__":
+    main()

@@ -98,4 +98,5 @@ def main():
                 before = took[0]
 
 
-main()
+if __name__ == "__main__":
+    main()

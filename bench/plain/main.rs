@@ -5,13 +5,18 @@
 //! before; `show` prints each, and `check` reads the tables of processors and prints the plan of
 //! the machine. Which fault a block has it doesn't tell; that of a table it does.
 //! `--json` makes values first, as the program does, and `--json --direct` writes the text without.
+//! `drive` makes the requests of a script on the machine, and prints their history.
 //! usage: plain show|rewrite|check [--json [--direct]] FILE..
+//!        plain drive [--serial] [--step] SCRIPT FILE..
+//!        plain read|print SCRIPT ROUNDS
 
 mod check;
+mod drive;
 mod json;
 mod machine;
 mod plan;
 mod read;
+mod script;
 mod show;
 mod space;
 mod tables;
@@ -45,6 +50,18 @@ fn rewrite(blocks: &[(Vec<u8>, Vec<Term>)], mut out: impl Write) -> io::Result<E
     for (block, terms) in blocks {
         out.write_all(&written::written(block, terms))?;
     }
+    Ok(ExitCode::SUCCESS)
+}
+
+/// Drives the machine of the blocks by a script.
+fn drive(script: &str, flags: &[String], blocks: &[(Vec<u8>, Vec<Term>)]) -> io::Result<ExitCode> {
+    let space = Space::of(blocks).expect("no place is given twice");
+    let mut machine = machine::machine(&space).unwrap_or_else(|_| panic!("the objects make a machine"));
+    let plan = plan::plan(&mut machine).unwrap_or_else(|_| panic!("the machine has a plan"));
+    let text = std::fs::read(script)?;
+    let step = flags.iter().any(|flag| flag == "--step");
+    drive::drive(&space, machine, plan, &text, step, BufWriter::with_capacity(1 << 16, io::stdout()))?;
+    std::mem::forget(space);
     Ok(ExitCode::SUCCESS)
 }
 
@@ -83,14 +100,20 @@ fn main() -> ExitCode {
     let (flags, words): (Vec<String>, Vec<String>) =
         std::env::args().skip(1).partition(|word| word.starts_with("--"));
     let Some((command, files)) = words.split_first() else {
-        panic!("usage: plain show|rewrite|check [--json [--direct]] FILE..");
+        panic!("usage: plain show|rewrite|check|drive|read|print [FLAG..] FILE..");
     };
+    if let ("read" | "print", [file, rounds]) = (command.as_str(), files) {
+        script::rounds(command, file, rounds.parse().expect("a number of rounds"));
+        return ExitCode::SUCCESS;
+    }
+    let (scripts, files) = files.split_at(usize::from(command == "drive"));
     let Some(blocks) = read_all(files) else {
         eprintln!("block: refused");
         return ExitCode::from(1);
     };
     let done = match command.as_str() {
         "rewrite" => rewrite(&blocks, io::stdout().lock()),
+        "drive" => drive(&scripts[0], &flags, &blocks),
         command => on_objects(command, &flags, &blocks),
     };
     std::mem::forget(blocks);

@@ -1,8 +1,6 @@
-//! What `bench/scripts` measures, in plain Rust with nothing proved: reads a script on a machine of 256 processors over and
-//! over, or prints the history of its lines. Its coordinator is one for low power idle states in nested containers and for
-//! domains of each coordination type; of C states it has nothing.
-//!
-//! usage: plain_script read|print FILE ROUNDS
+//! Scripts on a machine: their lines, a coordinator that keeps what was asked, and the history that is printed. It is one for
+//! low power idle states in nested containers and for domains of each coordination type; of C states `drive.rs` has more.
+//! `bench/scripts` measures reading a script on a machine of 256 processors over and over, and printing its history.
 
 use std::collections::HashMap;
 use std::fs::File;
@@ -11,7 +9,7 @@ use std::os::fd::AsFd;
 
 const PROCESSORS: u32 = 256;
 const CLUSTER: u32 = 8;
-const ANY_LATENCY: u32 = u32::MAX;
+pub const ANY_LATENCY: u32 = u32::MAX;
 const MOST_BYTES: usize = 4_194_304;
 const MOST_LINES: usize = 65_536;
 const MOST_OPERATIONS: u64 = 1_048_576;
@@ -19,56 +17,59 @@ const MOST_OPERATIONS: u64 = 1_048_576;
 // # The machine
 
 #[derive(Clone, Copy)]
-struct Register {
-    space: u8,
-    width: u8,
-    offset: u8,
-    access: u8,
-    address: u64,
+pub struct Register {
+    pub space: u8,
+    pub width: u8,
+    pub offset: u8,
+    pub access: u8,
+    pub address: u64,
 }
 
 #[derive(Clone, Copy)]
-enum Entry {
+pub enum Entry {
     Register(Register),
     Integer(u64),
 }
 
-struct Row {
-    enabled: bool,
-    latency: u32,
-    residency: u32,
-    parent: u32,
-    entry: Entry,
+pub struct Row {
+    pub enabled: bool,
+    pub latency: u32,
+    pub residency: u32,
+    pub parent: u32,
+    pub entry: Entry,
 }
 
-enum Child {
+pub enum Child {
     Cpu(u32),
     #[allow(dead_code)]
     Container(u32),
 }
 
-struct Container {
-    parent: Option<u32>,
-    rows: Vec<Row>,
-    children: Vec<Child>,
+pub struct Container {
+    pub parent: Option<u32>,
+    pub rows: Vec<Row>,
+    pub children: Vec<Child>,
 }
 
-struct Scale {
-    controls: Vec<u32>,
-    register: Register,
-    domain: usize,
+pub struct Scale {
+    pub controls: Vec<u32>,
+    pub register: Register,
+    pub limit: u32,
+    pub domain: usize,
 }
 
-struct Cpu {
-    segs: Vec<[u8; 4]>,
-    parent: Option<u32>,
-    /// Its low power idle states, none where it has no table.
-    rows: Vec<Row>,
-    scales: [Option<Scale>; 2],
+pub struct Cpu {
+    pub segs: Vec<[u8; 4]>,
+    pub parent: Option<u32>,
+    /// Its idle states, none where it has no table.
+    pub rows: Vec<Row>,
+    /// How many operations an idle request of it has at most.
+    pub idle_bound: u64,
+    pub scales: [Option<Scale>; 2],
 }
 
 #[derive(Clone, Copy)]
-enum Coord {
+pub enum Coord {
     SwAll,
     #[allow(dead_code)]
     SwAny,
@@ -76,22 +77,22 @@ enum Coord {
     HwAll,
 }
 
-struct Domain {
-    kind: Kind,
-    coord: Coord,
+pub struct Domain {
+    pub kind: Kind,
+    pub coord: Coord,
     /// Why its members don't agree, 0 where they do.
-    unfit: u8,
-    members: Vec<u32>,
+    pub unfit: u8,
+    pub members: Vec<u32>,
 }
 
-struct Machine {
-    containers: Vec<Container>,
-    cpus: Vec<Cpu>,
-    domains: Vec<Domain>,
+pub struct Machine {
+    pub containers: Vec<Container>,
+    pub cpus: Vec<Cpu>,
+    pub domains: Vec<Domain>,
 }
 
 #[derive(Clone, Copy)]
-enum Kind {
+pub enum Kind {
     Perf,
     Throttle,
 }
@@ -111,7 +112,7 @@ fn fixed(address: u64) -> Entry {
 
 fn scale(port: u64, domain: u32) -> Option<Scale> {
     let register = Register { space: 1, width: 16, offset: 0, access: 2, address: port };
-    Some(Scale { controls: (0x1800..0x1808).collect(), register, domain: domain as usize })
+    Some(Scale { controls: (0x1800..0x1808).collect(), register, limit: 0, domain: domain as usize })
 }
 
 fn members(cluster: u32) -> Vec<u32> {
@@ -129,6 +130,7 @@ fn machine() -> Machine {
         segs: vec![*b"_SB_", numbered(b'C', number / CLUSTER), numbered(b'P', number)],
         parent: Some(number / CLUSTER),
         rows: vec![row(10, 0, fixed(1)), row(50, 1, fixed(2)), row(200, 2, fixed(3))],
+        idle_bound: 1,
         scales: [scale(0xB2, number / CLUSTER), scale(0xB4, clusters + number / CLUSTER)],
     };
     let domain = |kind| move |cluster| Domain { kind, coord: Coord::SwAll, unfit: 0, members: members(cluster) };
@@ -142,7 +144,7 @@ fn machine() -> Machine {
 // # Requests
 
 #[derive(Clone, Copy)]
-enum Request {
+pub enum Request {
     Idle { cpu: u32, state: u32, tolerance: u32 },
     Wake { cpu: u32 },
     Ask { kind: Kind, cpu: u32, index: u32 },
@@ -150,7 +152,7 @@ enum Request {
 }
 
 impl Request {
-    fn cpu(&self) -> u32 {
+    pub fn cpu(&self) -> u32 {
         match *self {
             Request::Idle { cpu, .. } | Request::Wake { cpu } => cpu,
             Request::Ask { cpu, .. } | Request::Limit { cpu, .. } => cpu,
@@ -159,20 +161,25 @@ impl Request {
 }
 
 impl Machine {
-    fn scale_of(&self, kind: Kind, cpu: u32) -> Option<&Scale> {
+    pub fn scale_of(&self, kind: Kind, cpu: u32) -> Option<&Scale> {
         self.cpus[cpu as usize].scales[kind as usize].as_ref()
     }
 
     /// How many operations a request has at most.
     fn bound(&self, request: &Request) -> u64 {
         match *request {
-            Request::Idle { .. } => 1,
+            Request::Idle { cpu, .. } => self.cpus[cpu as usize].idle_bound,
             Request::Wake { .. } => 0,
             Request::Ask { kind, cpu, .. } | Request::Limit { kind, cpu, .. } => match self.scale_of(kind, cpu) {
                 None => 1,
                 Some(scale) => self.domains[scale.domain].bound(),
             },
         }
+    }
+
+    /// The limit that a processor opens with.
+    pub fn opening_limit(&self, kind: Kind, cpu: u32) -> u8 {
+        self.scale_of(kind, cpu).map_or(0, |scale| scale.limit.min(scale.controls.len() as u32 - 1) as u8)
     }
 
     fn opening_bound(&self) -> u64 {
@@ -210,11 +217,11 @@ enum Fault {
     Line { number: u32, why: Why },
 }
 
-struct Line {
+pub struct Line {
     /// Its number in the text, as the proved reader keeps it too.
     #[allow(dead_code)]
-    number: u32,
-    request: Request,
+    pub number: u32,
+    pub request: Request,
 }
 
 /// A number of digits alone; none inside where 32 bits don't hold it.
@@ -284,11 +291,11 @@ fn deepest(rows: &[Row], tolerance: u32, residency: u32) -> u32 {
     rows.iter().rposition(suits).map_or(0, |at| at as u32 + 1)
 }
 
-fn follow(count: u32, _current: u32, value: u32) -> u32 {
+pub fn follow(count: u32, _current: u32, value: u32) -> u32 {
     value.min(count - 1)
 }
 
-fn step(count: u32, current: u32, value: u32) -> u32 {
+pub fn step(count: u32, current: u32, value: u32) -> u32 {
     let target = follow(count, current, value);
     match current.cmp(&target) {
         std::cmp::Ordering::Less => current + 1,
@@ -297,23 +304,26 @@ fn step(count: u32, current: u32, value: u32) -> u32 {
     }
 }
 
+/// The limit that is to stand: of how many states, the one that stands, and the platform's value.
+pub type Handler = fn(u32, u32, u32) -> u32;
+
 /// What reads lines: the processors by their paths, room for a path, and the limits behind the lines before.
 struct Reader<'a> {
     machine: &'a Machine,
+    handlers: [Handler; 2],
     index: HashMap<Vec<u8>, u32>,
     name: Vec<u8>,
     limits: [Vec<u32>; 2],
 }
 
 impl<'a> Reader<'a> {
-    fn new(machine: &'a Machine) -> Reader<'a> {
+    fn new(machine: &'a Machine, handlers: [Handler; 2]) -> Reader<'a> {
         let mut index = HashMap::new();
         for (number, cpu) in machine.cpus.iter().enumerate() {
             index.entry(cpu.segs.concat()).or_insert(number as u32);
         }
-        // Each machine here opens with the limit 0.
-        let limits = [vec![0; machine.cpus.len()], vec![0; machine.cpus.len()]];
-        Reader { machine, index, name: Vec::new(), limits }
+        let opened = |kind| (0..machine.cpus.len() as u32).map(|cpu| u32::from(machine.opening_limit(kind, cpu))).collect();
+        Reader { machine, handlers, index, name: Vec::new(), limits: [opened(Kind::Perf), opened(Kind::Throttle)] }
     }
 
     /// What a line asks for, if anything.
@@ -353,11 +363,12 @@ impl<'a> Reader<'a> {
     }
 
     fn noticed(&mut self, cpu: u32, what: u32, value: u32) -> Result<Request, Why> {
-        let (kind, answer): (Kind, fn(u32, u32, u32) -> u32) = match what {
-            128 => (Kind::Perf, follow),
-            130 => (Kind::Throttle, step),
+        let kind = match what {
+            128 => Kind::Perf,
+            130 => Kind::Throttle,
             _ => return Err(Why::Number),
         };
+        let answer = self.handlers[kind as usize];
         let n = match self.machine.scale_of(kind, cpu) {
             None => value,
             Some(scale) => answer(scale.controls.len() as u32, self.limits[kind as usize][cpu as usize], value),
@@ -374,11 +385,11 @@ fn lines_of(bytes: &[u8]) -> impl Iterator<Item = &[u8]> {
     })
 }
 
-fn parse(machine: &Machine, bytes: &[u8]) -> Result<Vec<Line>, Fault> {
+fn parse(machine: &Machine, bytes: &[u8], handlers: [Handler; 2]) -> Result<Vec<Line>, Fault> {
     if bytes.len() > MOST_BYTES || lines_of(bytes).count() > MOST_LINES {
         return Err(Fault::TooLong);
     }
-    let mut reader = Reader::new(machine);
+    let mut reader = Reader::new(machine, handlers);
     let mut lines = Vec::new();
     let mut bound = machine.opening_bound();
     for (number, text) in (1..).zip(lines_of(bytes)) {
@@ -396,12 +407,12 @@ fn parse(machine: &Machine, bytes: &[u8]) -> Result<Vec<Line>, Fault> {
 // # The coordinator
 
 #[derive(Clone, Copy)]
-struct Vote {
-    state: u8,
-    tolerance: u32,
+pub struct Vote {
+    pub state: u8,
+    pub tolerance: u32,
 }
 
-const RUNNING: Vote = Vote { state: 0, tolerance: ANY_LATENCY };
+pub const RUNNING: Vote = Vote { state: 0, tolerance: ANY_LATENCY };
 
 struct State {
     votes: Vec<Vote>,
@@ -411,12 +422,12 @@ struct State {
 
 /// The state of a processor and those of its containers upwards, as far as they are above 0.
 #[derive(Clone, Copy)]
-struct Chain {
-    len: usize,
-    states: [u8; 9],
+pub struct Chain {
+    pub len: usize,
+    pub states: [u8; 9],
 }
 
-enum Reply {
+pub enum Reply {
     Entered(Chain),
     Running,
     Stands(u8),
@@ -428,7 +439,7 @@ enum Reply {
     TooSlow(u32),
 }
 
-enum Op {
+pub enum Op {
     Set { cpu: u32, register: Register, value: u64 },
     Enter { cpu: u32, register: Register },
 }
@@ -570,7 +581,7 @@ impl State {
 }
 
 /// What a processor enters in a chain of its state and those of its containers.
-fn entered(machine: &Machine, cpu: u32, chain: Chain) -> Register {
+pub fn entered(machine: &Machine, cpu: u32, chain: Chain) -> Register {
     let own = &machine.cpus[cpu as usize];
     let mut register = match own.rows[chain.states[0] as usize - 1].entry {
         Entry::Register(register) => register,
@@ -589,7 +600,7 @@ fn entered(machine: &Machine, cpu: u32, chain: Chain) -> Register {
     register
 }
 
-fn set_each(machine: &Machine, kind: Kind, members: &[u32], stands: u8, ops: &mut Vec<Op>) {
+pub fn set_each(machine: &Machine, kind: Kind, members: &[u32], stands: u8, ops: &mut Vec<Op>) {
     for cpu in members {
         if let Some(scale) = machine.scale_of(kind, *cpu) {
             let value = u64::from(scale.controls[stands as usize]);
@@ -616,7 +627,7 @@ fn opening(machine: &Machine, state: &State, ops: &mut Vec<Op>) {
 // # Printing
 
 /// A number in decimal, by digits: the formatter of the standard library takes several times as long.
-fn put_number(out: &mut impl Write, mut number: u64) -> io::Result<()> {
+pub fn put_number(out: &mut impl Write, mut number: u64) -> io::Result<()> {
     let mut digits = [0; 20];
     let mut at = digits.len();
     loop {
@@ -643,7 +654,7 @@ fn put_hex(out: &mut impl Write, mut number: u64) -> io::Result<()> {
     }
 }
 
-fn put_path(out: &mut impl Write, machine: &Machine, cpu: u32) -> io::Result<()> {
+pub fn put_path(out: &mut impl Write, machine: &Machine, cpu: u32) -> io::Result<()> {
     let mut lead = b"\\";
     for seg in &machine.cpus[cpu as usize].segs {
         out.write_all(lead)?;
@@ -668,7 +679,7 @@ fn put_register(out: &mut impl Write, register: Register) -> io::Result<()> {
     out.write_all(b"]")
 }
 
-fn put_ops(out: &mut impl Write, machine: &Machine, ops: &[Op]) -> io::Result<()> {
+pub fn put_ops(out: &mut impl Write, machine: &Machine, ops: &[Op]) -> io::Result<()> {
     for op in ops {
         match *op {
             Op::Set { cpu, register, value } => {
@@ -691,7 +702,7 @@ fn put_ops(out: &mut impl Write, machine: &Machine, ops: &[Op]) -> io::Result<()
     Ok(())
 }
 
-fn put_request(out: &mut impl Write, request: Request) -> io::Result<()> {
+pub fn put_request(out: &mut impl Write, request: Request) -> io::Result<()> {
     match request {
         Request::Idle { state, tolerance, .. } => {
             put_word(out, b" idle ", state)?;
@@ -708,8 +719,8 @@ fn put_request(out: &mut impl Write, request: Request) -> io::Result<()> {
     }
 }
 
-fn put_reply(out: &mut impl Write, reply: Reply) -> io::Result<()> {
-    match reply {
+pub fn put_reply(out: &mut impl Write, reply: &Reply) -> io::Result<()> {
+    match *reply {
         Reply::Entered(chain) => {
             out.write_all(b" entered")?;
             for state in &chain.states[..chain.len] {
@@ -745,7 +756,7 @@ fn print_history(out: &mut impl Write, machine: &Machine, lines: &[Line]) -> io:
         put_path(out, machine, line.request.cpu())?;
         put_request(out, line.request)?;
         out.write_all(b" ->")?;
-        put_reply(out, reply)?;
+        put_reply(out, &reply)?;
         out.write_all(b"\n")?;
         put_ops(out, machine, &ops)?;
     }
@@ -753,30 +764,26 @@ fn print_history(out: &mut impl Write, machine: &Machine, lines: &[Line]) -> io:
 }
 
 /// The lines of a text that is a script.
-fn script(machine: &Machine, text: &str) -> Vec<Line> {
-    match parse(machine, text.as_bytes()) {
+pub fn script(machine: &Machine, text: &[u8], handlers: [Handler; 2]) -> Vec<Line> {
+    match parse(machine, text, handlers) {
         Ok(lines) => lines,
         Err(Fault::TooLong) => panic!("the script is too long"),
         Err(Fault::Line { number, why }) => panic!("line {number}: {why:?}"),
     }
 }
 
-fn main() {
-    let words: Vec<String> = std::env::args().collect();
-    let [_, work, file, rounds] = words.as_slice() else {
-        panic!("usage: plain_script read|print FILE ROUNDS");
-    };
+/// Reads a script, or prints the history of its lines, over and over.
+pub fn rounds(work: &str, file: &str, rounds: u32) {
     let text = std::fs::read_to_string(file).expect("the file can be read");
-    let rounds: u32 = rounds.parse().expect("a number of rounds");
     let machine = machine();
     if work == "read" {
         let mut last = Vec::new();
         for _ in 0..rounds {
-            last = script(&machine, &text);
+            last = script(&machine, text.as_bytes(), [follow, step]);
         }
         println!("{} lines", last.len());
     } else {
-        let lines = script(&machine, &text);
+        let lines = script(&machine, text.as_bytes(), [follow, step]);
         // Not by way of the standard library's output, which looks for the ends of lines.
         let out = File::from(io::stdout().as_fd().try_clone_to_owned().expect("an output"));
         for _ in 0..rounds {

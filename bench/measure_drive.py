@@ -1,0 +1,90 @@
+"""Measures `drive --serial` by scripts of growing length on machines of growing size, beside plain Rust.
+
+Of each size there is a machine with low power idle states in every cluster, and one with C states in every second.
+
+usage: measure_drive.py PROGRAM [PLAIN]
+Times are the least of several runs, as the program's own processor time; runs of both programs alternate. PLAIN is a program
+that does the same in plain Rust: it is to print the same bytes. The output of measured runs goes to the null device.
+"""
+
+import itertools
+import os
+import random
+import subprocess
+import sys
+import tempfile
+from pathlib import Path
+
+from machine import busy, processor
+from measure import SCOPE, block, clusters, holder
+from measure_scripts import FORMS
+
+RUNS = 9
+SIZES = ((256, 16384), (256, 32768), (256, 65536), (8, 65536), (64, 65536))
+
+
+def machine(count, has_c_states):
+    """So many processors in clusters of eight, with eight performance and eight throttling states."""
+    return block(holder(SCOPE, b"\\_SB_", b"".join(clusters(count, 8, has_c_states))))
+
+
+def script(processors, count):
+    """The same lines at each call, so many of them: each form on any processor."""
+    draw = random.Random(1)
+    lines = []
+    for _ in range(count):
+        cpu = draw.randrange(processors)
+        word, _, bounds = draw.choices(FORMS, [form[1] for form in FORMS])[0]
+        numbers = "".join(f" {draw.randint(low, high)}" for low, high in bounds)
+        lines.append(f"\\_SB.CL{cpu // 8:02X}.P{cpu:03X} {word}{numbers}\n")
+    return "".join(lines)
+
+
+def milliseconds(programs, words):
+    """Of each program the least processor milliseconds of a run."""
+    least = {}
+    for _ in range(RUNS):
+        for program in programs:
+            before = busy()
+            subprocess.run([program, *words], stdout=subprocess.DEVNULL, check=True)
+            took = busy() - before
+            least[program] = min(took, least.get(program, took))
+    return [1e3 * least[program] for program in programs]
+
+
+def peak(program, words):
+    """Peak resident KiB of one run, as GNU time says it; none where it isn't installed."""
+    if not os.access("/usr/bin/time", os.X_OK):
+        return None
+    done = subprocess.run(["/usr/bin/time", "-f", "%M", program, *words], stdout=subprocess.DEVNULL, stderr=subprocess.PIPE, check=True)
+    return int(done.stderr)
+
+
+def main():
+    programs = sys.argv[1:]
+    print(f"{os.cpu_count()} processor cores, {processor() or 'of no known name'}; least of {RUNS} runs.")
+    print()
+    heads = ["idle states", "processors", "lines", "script, bytes", "output, bytes", "processor, ms", "ns a line", "peak memory, KiB"]
+    heads += ["plain Rust, ms", "against plain Rust", "plain Rust, KiB", "memory against plain Rust"]
+    print("| " + " | ".join(heads) + " |")
+    print("|---" * len(heads) + "|")
+    with tempfile.TemporaryDirectory() as folder:
+        text, table = Path(folder) / "script", Path(folder) / "block"
+        words = ["drive", "--serial", str(text), str(table)]
+        for idle, (processors, count) in itertools.product(("low power", "C states too"), SIZES):
+            table.write_bytes(machine(processors, idle != "low power"))
+            text.write_text(script(processors, count), encoding="ascii")
+            outputs = [subprocess.run([program, *words], stdout=subprocess.PIPE, check=True).stdout for program in programs]
+            if any(output != outputs[0] for output in outputs):
+                raise SystemExit(f"{programs[1]} prints other bytes")
+            took = milliseconds(programs, words)
+            peaks = [peak(program, words) for program in programs]
+            cells = [idle, processors, count, text.stat().st_size, len(outputs[0]), f"{took[0]:.1f}", f"{took[0] * 1e6 / count:.0f}"]
+            cells += [peaks[0] or "no GNU time"]
+            cells += [f"{took[1]:.1f}", f"{took[0] / took[1]:.2f}"] if len(took) > 1 else ["", ""]
+            cells += [peaks[1], f"{peaks[0] / peaks[1]:.2f}"] if len(took) > 1 and peaks[0] else ["", ""]
+            print("| " + " | ".join(str(cell) for cell in cells) + " |", flush=True)
+
+
+if __name__ == "__main__":
+    main()
