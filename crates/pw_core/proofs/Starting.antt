@@ -1,20 +1,16 @@
 -- What is set at the start.
-use Rattle.std.proofs.Common.{◌≡◌, ◌<◌, ◌≤◌, ℕ, suc, min, max, true, false, cond, List, [], ◌∷◌, map, length, get_or, refl, ap, sym, ◌∙◌, arith}
-use Rattle.std.specs.Prelude.{fold, nat_lt, is_some, All, Option, Some, None}
+use Rattle.std.proofs.Common.{◌≡◌, ◌<◌, ◌≤◌, ℕ, suc, min, max, true, false, cond, List, [], ◌∷◌, map, length, refl, ap, sym, ◌∙◌, arith}
+use Rattle.std.specs.Prelude.{fold, nat_lt, All, Some}
 use Rattle.std.specs.List.{AllByRecursion, slice_get}
 use Rattle.std.proofs.lemmas.Bool.Decides.{nat_tests}
-use Rattle.std.proofs.lemmas.List.{get_or-map, length-map}
 use Rattle.acpi_values.specs.declared.dependency.Coord.TheVariants.{SwAll, SwAny, HwAll}
 use Rattle.pw_plan.specs.declared.domain.Domain.{Domain}
 use Rattle.pw_plan.specs.declared.domain.DomainKind.{DomainKind}
 use Rattle.pw_plan.specs.declared.domain.DomainKind.TheVariants as kinds
-use Rattle.pw_plan.specs.declared.parts.CpuParts.{CpuParts}
-use Rattle.pw_plan.specs.declared.parts.Scale.{Scale}
 use Rattle.pw_plan.specs.declared.plan.Plan.{Plan}
 use Rattle.pw_plan.specs.Groups.{is_idle, is_software, no_domain}
-use Rattle.pw_plan.specs.Parts.{count_of, no_cpu, scale_of}
-use Rattle.pw_plan.specs.Places.{cpu_at, domain_at}
-use Rattle.pw_model.specs.States.{IsIndex, IsState, ask_of, limit_of, opening, opening_limit, running}
+use Rattle.pw_plan.specs.Places.{domain_at}
+use Rattle.pw_model.specs.States.{ask_of, limit_of, opening}
 use Rattle.pw_model.specs.Domains.{standing, stands_at}
 use Rattle.pw_model.specs.Operations.{first_member, opening_at, opening_ops_of, set_on}
 use Rattle.pw_model.proofs.Maps.{map_agree}

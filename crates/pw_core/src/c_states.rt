@@ -1,5 +1,7 @@
-ghost use Rattle.std.specs.Prelude.{◌≡◌, ◌<◌, ◌&&◌, length, All};
+ghost use Rattle.std.specs.Prelude.{◌≡◌, ◌<◌, ◌&&◌, true, length, All};
 ghost use Rattle.std.specs.List.{list_any};
+ghost use Rattle.pw_plan.specs.declared.domain.DomainKind.TheVariants.{Idle};
+ghost use Rattle.pw_plan.specs.Covering.{covers};
 ghost use Rattle.pw_model.specs.States.{IsState, with_change};
 ghost use Rattle.pw_model.specs.Domains.{c_state, governs};
 ghost use Rattle.pw_model.specs.Domains.{is_gathered, is_sw_all, may_enter};
@@ -8,7 +10,7 @@ ghost use Rattle.pw_model.specs.Operations.{is_drawn};
 use crate::reads::vote_under;
 use acpi_values::Coord;
 use pw_model::{Change, State};
-use pw_plan::{Domain, DomainKind, Plan, covers};
+use pw_plan::{Domain, Plan};
 
 /// Whether each member votes for the domain's state or a deeper one.
 fn is_gathered(state: &State, change: Change, domain: &Domain) -> bool
@@ -23,14 +25,12 @@ fn is_gathered(state: &State, change: Change, domain: &Domain) -> bool
     true
 }
 
-/// Whether it is an idle domain of this processor that software coordinates, about this C state.
-fn governs(cpu: u32, level: u8, domain: &Domain) -> bool
-    ensures { result ≡ governs cpu level domain.now }
+/// Whether software coordinates the idle domain of this processor, and it is about this C state.
+fn governs(_cpu: u32, level: u8, domain: &Domain) -> bool
+    requires { covers Idle _cpu domain.now ≡ true }
+    ensures { result ≡ governs _cpu level domain.now }
 {
-    // The tests that cost least come first.
-    u64::from(domain.index) + 1 == u64::from(level)
-        && !matches!(domain.coord, Coord::HwAll)
-        && covers(DomainKind::Idle, cpu, domain)
+    u64::from(domain.index) + 1 == u64::from(level) && !matches!(domain.coord, Coord::HwAll)
 }
 
 /// Whether each domain that governs this C state of the processor is gathered.
@@ -82,6 +82,9 @@ pub fn is_drawn(plan: &Plan, state: &State, change: Change, cpu: u32) -> bool
     requires fits { IsState plan.now state.now }
     ensures { result ≡ is_drawn plan.now state.now (with_change state.now change) cpu }
 {
+    // The C state before costs most and is looked for last.
     let after = c_state(plan, state, change, cpu);
-    c_state(plan, state, Change::Nothing, cpu) < after && is_set_on_all(plan, cpu, after)
+    after > 0
+        && is_set_on_all(plan, cpu, after)
+        && c_state(plan, state, Change::Nothing, cpu) < after
 }

@@ -1,4 +1,4 @@
-use Rattle.std.proofs.Common.{◌≡◌, ◌∙◌, sym, arith}
+use Rattle.std.proofs.Common.{◌∙◌, sym, arith}
 use Rattle.pw_model.specs.States.{with_change}
 use Rattle.pw_model.specs.Domains.{may_enter}
 use Rattle.pw_model.proofs.Greatest.{greatest-here, greatest-step}

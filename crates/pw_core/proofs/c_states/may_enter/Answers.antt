@@ -3,7 +3,7 @@ use Rattle.pw_plan.specs.Groups.{no_domain}
 use Rattle.pw_plan.proofs.Indexing.{idle_within}
 use Rattle.pw_model.specs.States.{with_change}
 use Rattle.pw_model.specs.Domains.{is_gathered}
-use Rattle.pw_core.proofs.Owning.{all_governing}
+use Rattle.pw_core.proofs.Owning.{all_governing, idle_covers}
 use Rattle.pw_core.proofs.c_states.may_enter.Goals as goal
 
 pub loop-membership-init : goal.loop-membership-init
@@ -20,3 +20,8 @@ is_gathered-requires c =
     let lt : k < length P.domains =
     rw c.idle_domains_of-membership-items.ensures (idle_within P.domains c.args.cpu c.loop-membership.membership-index (record { place = 0; member = 0 }) (rw c.idle_domains_of-membership-items.ensures at c.loop-membership-test.true)) in
     rw (c.domain-domain.ensures, c.requires.votes) (P.sound.domains.members k no_domain lt)
+
+pub governs-requires : goal.governs-requires
+governs-requires c =
+    let covered = idle_covers c.args.plan.now c.args.cpu c.loop-membership.membership-index (record { place = 0; member = 0 }) (rw c.idle_domains_of-membership-items.ensures at c.loop-membership-test.true) in
+    rw (c.domain-domain.ensures, c.idle_domains_of-membership-items.ensures) covered
