@@ -159,3 +159,12 @@ pub fn container_vote(
     }
     vote_in(deepest(&plan.container(node).idle, least), least.tolerance)
 }
+
+/// The state of a container.
+pub fn container_state(plan: &Plan, state: &State, node: u32) -> u8
+    requires node { node < length plan.now.containers }
+    requires fits { IsState plan.now state.now }
+    ensures { result ≡ (container_vote plan.now state.now node).state }
+{
+    container_vote(plan, state, Change::Nothing, node, None).state
+}
