@@ -1,6 +1,8 @@
-ghost use Rattle.std.specs.Prelude.{◌≡◌, ◌<◌, ◌≤◌, ◌+◌, ◌++◌, ◌==◌, ◌&&◌, not, nat_le, length, map, filter, slice_index_or, slice_set, All, IfOk};
+ghost use Rattle.std.specs.Prelude.{◌≡◌, ◌<◌, ◌≤◌, ◌+◌, ◌++◌, ◌==◌, ◌&&◌, not, true, nat_le, length, map, filter, slice_index_or, slice_set, All, IfOk};
 ghost use Rattle.std.specs.List.{list_any};
 ghost use Rattle.acpi_values.specs.Idle.{rows_of};
+ghost use Rattle.pw_plan.specs.declared.domain.DomainKind.TheVariants.{Idle};
+ghost use Rattle.pw_plan.specs.Covering.{covers};
 ghost use Rattle.pw_plan.specs.Places.{cpu_at, group_at};
 ghost use Rattle.pw_model.specs.Operations.{own_entry};
 ghost use Rattle.pw_model.specs.Domains.{governs, is_sw_all};
@@ -17,7 +19,7 @@ use crate::setting::enter_c;
 use acpi_values::{Coord, IdleKind, Op};
 use pw_base::{List, Memory};
 use pw_ops::Ops;
-use pw_plan::{Domain, DomainKind, Plan, covers};
+use pw_plan::{Domain, Plan};
 use std::alloc::Global;
 
 /// The place of a processor among these, or how many there are.
@@ -68,13 +70,12 @@ fn is_gathered(domain: &Domain, members: &[u32], states: &[u8], place: usize, ow
     true
 }
 
-/// Whether it is an idle domain of this processor that software coordinates, about this C state.
-fn governs(cpu: u32, level: u8, domain: &Domain) -> bool
-    ensures { result ≡ governs cpu level domain.now }
+/// Whether software coordinates the idle domain of this processor, and it is about this C state.
+fn governs(_cpu: u32, level: u8, domain: &Domain) -> bool
+    requires { covers Idle _cpu domain.now ≡ true }
+    ensures { result ≡ governs _cpu level domain.now }
 {
-    u64::from(domain.index) + 1 == u64::from(level)
-        && !matches!(domain.coord, Coord::HwAll)
-        && covers(DomainKind::Idle, cpu, domain)
+    u64::from(domain.index) + 1 == u64::from(level) && !matches!(domain.coord, Coord::HwAll)
 }
 
 /// Whether each domain that governs this C state of the processor is gathered.
@@ -143,9 +144,11 @@ fn joins(
     if other == cpu {
         return false;
     }
-    let before = c_state_in(plan, members, states, place, states[place], other);
+    // The C state before costs most and is looked for last.
     let after = c_state_in(plan, members, states, place, own, other);
-    before < after && is_set_on_all(plan, other, after)
+    after > 0
+        && is_set_on_all(plan, other, after)
+        && c_state_in(plan, members, states, place, states[place], other) < after
 }
 
 /// A processor enters its C state, unless that is 0.

@@ -1,7 +1,7 @@
 use Rattle.std.proofs.Common.{set}
 use Rattle.pw_plan.proofs.Indexing.{idle_within}
 use Rattle.pw_parts.specs.Effects.{gathered_by}
-use Rattle.pw_core.proofs.Owning.{all_governing}
+use Rattle.pw_core.proofs.Owning.{all_governing, idle_covers}
 use Rattle.pw_domain.proofs.group.may_enter.Goals as goal
 
 pub loop-membership-init : goal.loop-membership-init
@@ -10,3 +10,8 @@ loop-membership-init c = rw c.idle_domains_of-membership-items.ensures (all_gove
 pub domain-domain-requires : goal.domain-domain-requires
 domain-domain-requires c =
     rw c.idle_domains_of-membership-items.ensures (idle_within c.args.plan.now.domains c.args.cpu c.loop-membership.membership-index (record { place = 0; member = 0 }) (rw c.idle_domains_of-membership-items.ensures at c.loop-membership-test.true))
+
+pub governs-requires : goal.governs-requires
+governs-requires c =
+    let covered = idle_covers c.args.plan.now c.args.cpu c.loop-membership.membership-index (record { place = 0; member = 0 }) (rw c.idle_domains_of-membership-items.ensures at c.loop-membership-test.true) in
+    rw (c.domain-domain.ensures, c.idle_domains_of-membership-items.ensures) covered
