@@ -21,7 +21,7 @@ use Rattle.pw_model.proofs.Opening.{opening_fits}
 use Rattle.pw_model.proofs.Staying.{after_fits}
 use Rattle.pw_governor.specs.Choices.{ChoosesAs, IsLawful}
 use Rattle.pw_notice.specs.Handling.{Handles, HandlesAs}
-use Rattle.pw_notice.specs.Limits.{AnsweredBy, IsAnswer, answer_by, kind_of, limit_request, made_from, own, own_limit}
+use Rattle.pw_notice.specs.Limits.{AnsweredBy, IsAnswer, answer_by, kind_of, made_from, own, own_limit}
 use Rattle.pw_script.specs.declared.script.Line.{Line as line}
 use Rattle.pw_script.specs.declared.script.LineWhy.{LineWhy}
 use Rattle.pw_script.specs.declared.script.LineWhy.TheVariants.{Number}

@@ -3,6 +3,7 @@ pub mod Counts
 pub mod Cutting
 mod Examples
 pub mod Existing
+pub mod Feeds
 pub mod Leading
 pub mod Lined
 pub mod Making

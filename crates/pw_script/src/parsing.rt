@@ -1,5 +1,6 @@
-ghost use Rattle.std.specs.Prelude.{◌≡◌, ◌≢◌, ◌<◌, ◌≤◌, ◌⊎◌, [], List as list, None, Some};
+ghost use Rattle.std.specs.Prelude.{◌≡◌, ◌≢◌, ◌<◌, ◌≤◌, ◌==◌, ◌⊎◌, [], List as list, None, Some};
 ghost use Rattle.std.specs.Prelude.{length, nat_lt, IfOk, IfErr};
+ghost use Rattle.std.specs.List.{count_by};
 ghost use Rattle.pw_governor.specs.Choices.{Chooses};
 ghost use Rattle.pw_notice.specs.Handling.{Handles};
 ghost use Rattle.pw_notice.specs.Limits.{AnsweredBy};
@@ -10,6 +11,7 @@ ghost use Rattle.pw_script.specs.Lines.{lines_of};
 ghost use Rattle.pw_script.specs.Asking.{CanBeAsked};
 ghost use Rattle.pw_script.specs.Reading.{AreLines, Fit, LawfullyChosen, first_bad, operations, refused};
 ghost use Rattle.pw_script.specs.Reading.{requests_of};
+ghost use Rattle.pw_script.specs.inner.Feeds.{is_open};
 
 use crate::asking::request_of;
 use crate::index::index_of;
@@ -24,18 +26,32 @@ use pw_notice::Handlers;
 use pw_plan::Plan;
 use std::alloc::Global;
 
+/// How many line feeds there are.
+fn count_feeds(bytes: &[u8]) -> usize
+    ensures { result ≡ count_by (λ b. b == 10) bytes.now }
+{
+    let mut feeds = 0;
+    for byte in bytes {
+        if *byte == b'\n' {
+            feeds += 1;
+        }
+    }
+    feeds
+}
+
+/// Whether the last line has no line feed.
+fn is_open(bytes: &[u8]) -> bool
+    ensures { result ≡ is_open bytes.now }
+{
+    !bytes.is_empty() && bytes[bytes.len() - 1] != b'\n'
+}
+
 /// How many lines there are.
 fn count_lines(bytes: &[u8]) -> usize
     ensures { result ≡ length (lines_of bytes.now) }
 {
-    let mut count = 0;
-    let mut left = bytes;
-    while !left.is_empty() {
-        let (_, rest) = first_line(left);
-        count += 1;
-        left = rest;
-    }
-    count
+    let feeds = count_feeds(bytes);
+    if is_open(bytes) { feeds + 1 } else { feeds }
 }
 
 /// Whether the lines have too many operations, with those at the start.
