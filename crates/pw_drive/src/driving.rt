@@ -1,5 +1,6 @@
 ghost use Rattle.std.specs.Prelude.{◌≡◌, ◌≤◌, ◌<◌, ◌^◌, [], length, IfErr, IfOk, IfSome};
 ghost use Rattle.std.specs.List.{AllByRecursion};
+ghost use Rattle.pw_plan.specs.declared.request.Request.{Request as request};
 ghost use Rattle.pw_plan.specs.Requests.{Has, ops_bound, opening_bound};
 ghost use Rattle.pw_model.specs.declared.entry.HistoryEntry.{HistoryEntry as entry};
 ghost use Rattle.pw_model.specs.Operations.{opening_ops};
@@ -30,17 +31,16 @@ pub struct Driven<R> {
     pub regs: R,
 }
 
-/// The records at the start, and a list with room for the operations of the start and of each line.
-fn prepare(alloc: Global, plan: &Plan, lines: &[Line]) -> Result<(Records, Ops), Memory>
+/// The records at the start, and a list with room for the operations of the start and of each request.
+fn prepare(alloc: Global, plan: &Plan) -> Result<(Records, Ops), Memory>
     ensures stands { IfOk result (λ held. Stands plan.now [] held.0) }
     ensures none { IfOk result (λ held. held.1.elements ≡ []) }
     ensures few { IfOk result (λ held. held.1.capacity < 2 ^ 32) }
     ensures opening { IfOk result (λ held. opening_bound plan.now ≤ held.1.capacity) }
-    ensures room { IfOk result (λ held.
-        AllByRecursion (λ (l : asked). ops_bound plan.now l.request ≤ held.1.capacity) lines.now) }
+    ensures room { IfOk result (λ held. (q : request) → ops_bound plan.now q ≤ held.1.capacity) }
 {
     let records = Records::open(alloc, plan)?;
-    let ops = Ops::new(alloc, most_operations(plan, lines))?;
+    let ops = Ops::new(alloc, most_operations(plan))?;
     Ok((records, ops))
 }
 
@@ -75,7 +75,7 @@ fn run<R: Registers>(
     requires none { ops.old.elements ≡ [] }
     requires few { ops.old.capacity < 2 ^ 32 }
     requires opening { opening_bound plan.now ≤ ops.old.capacity }
-    requires room { AllByRecursion (λ (l : asked). ops_bound plan.now l.request ≤ ops.old.capacity) lines.now }
+    requires room { (q : request) → ops_bound plan.now q ≤ ops.old.capacity }
     requires empty { journal.old.entries ≡ [] }
     requires space { journal.old.capacity ≡ length lines.now }
     ensures lawful { LawfulSerial plan.now (requests_of lines.now) result journal.new.entries }
@@ -113,7 +113,7 @@ pub fn serial<R: Registers>(
     ensures given_back { IfErr result (λ back. back ≡ regs) }
 {
     let lines = script.lines.as_slice();
-    let Ok((mut records, mut ops)) = prepare(alloc, &plan, lines) else {
+    let Ok((mut records, mut ops)) = prepare(alloc, &plan) else {
         return Err(regs);
     };
     let mut journal = match Journal::open(alloc, lines.len() as u32, regs) {

@@ -1,5 +1,6 @@
 ghost use Rattle.std.specs.Prelude.{◌≡◌, ◌≤◌, ◌<◌, ◌^◌, [], true, length, is_some, OnOk, OnErr};
 ghost use Rattle.std.specs.List.{AllByRecursion};
+ghost use Rattle.pw_plan.specs.declared.request.Request.{Request as request};
 ghost use Rattle.pw_plan.specs.Requests.{Has, ops_bound, opening_bound};
 ghost use Rattle.pw_model.specs.History.{fault_at};
 ghost use Rattle.pw_regs.specs.Seen.{registers_seen};
@@ -13,16 +14,15 @@ use pw_plan::{Plan, Request};
 use pw_regs::Registers;
 use pw_script::Line;
 
-/// How many operations the start or one of the lines has at most.
-pub fn most_operations(plan: &Plan, lines: &[Line]) -> u32
+/// The most operations of one request.
+const MOST_OF_A_REQUEST: u32 = 256;
+
+/// How many operations the start or any request has at most.
+pub fn most_operations(plan: &Plan) -> u32
     ensures opening { opening_bound plan.now ≤ result }
-    ensures lines { AllByRecursion (λ (l : asked). ops_bound plan.now l.request ≤ result) lines.now }
+    ensures requests { (q : request) → ops_bound plan.now q ≤ result }
 {
-    let mut most = plan.opening_bound();
-    for line in lines {
-        most = plan.ops_bound(&line.request).max(most);
-    }
-    most
+    plan.opening_bound().max(MOST_OF_A_REQUEST)
 }
 
 /// Makes a request: does its operations, and appends its entry. At a fault it answers how many of
@@ -63,7 +63,7 @@ pub fn make_all<R: Registers>(
     requires stands { Stands plan.now [] records.old }
     requires empty { journal.old.entries ≡ [] }
     requires space { journal.old.capacity ≡ length lines.now }
-    requires room { AllByRecursion (λ (l : asked). ops_bound plan.now l.request ≤ ops.old.capacity) lines.now }
+    requires room { (q : request) → ops_bound plan.now q ≤ ops.old.capacity }
     requires few { ops.old.capacity < 2 ^ 32 }
     ensures { Ran plan.now lines.now journal.new.entries
         (registers_seen R.Registers journal.old.regs) (registers_seen R.Registers journal.new.regs) }

@@ -10,4 +10,4 @@ returns-clause-stands c = stands_first c.args.plan.now c.in_ok-records.records c
 pub returns-clause-room : goal.returns-clause-room
 returns-clause-room c =
     let same = ap (λ (b : Bounded Op). b.capacity) c.in_ok-ops.ensures in
-    rw same c.most_operations.ensures.lines
+    rw same c.most_operations.ensures.requests
