@@ -1,0 +1,153 @@
+ghost use Rattle.std.specs.Prelude.{◌≡◌, ◌≤◌, ◌<◌, ◌∷◌, [], ◌++◌, map, IfOk, OnOk};
+ghost use Rattle.std.specs.List.{range_with_len};
+ghost use Rattle.aml_data.specs.declared.data.Data.TheVariants.{Text as string};
+ghost use Rattle.aml_data.specs.Segment.{IsSegment};
+ghost use Rattle.aml_terms.specs.declared.term.Term.TheVariants.{Device as device};
+ghost use Rattle.aml_block.specs.Written.{IsWritableBlock};
+ghost use Rattle.pw_generate.specs.Machines.{container_objects, container_term, cpu_objects, cpu_term};
+ghost use Rattle.pw_generate.specs.Machines.{from_here, from_root, machine_block, named};
+
+use crate::names::{container_seg, cpu_seg};
+use crate::tables::{
+    CPUS_EACH, MOST_CONTAINERS, block_header, container_lpi, control_pair, cpu_lpi, dependency,
+    p_states,
+};
+use acpi_idle::write_lpi;
+use acpi_perf::{write_control, write_dependency, write_pss};
+use aml_block::Block;
+use aml_data::{Data, Path, Seg};
+use aml_terms::Term;
+use pw_base::{CompactList, Memory};
+use std::alloc::Global;
+
+/// The path of one segment from where it stands.
+fn relative(alloc: Global, seg: Seg) -> Result<Path, Memory>
+    ensures { IfOk result (λ path. path ≡ from_here seg) }
+{
+    let segs = CompactList::from_slice(alloc, &[seg])?;
+    Ok(Path {
+        root: false,
+        ups: 0,
+        segs,
+    })
+}
+
+/// The path from the root by one segment.
+fn absolute(alloc: Global, seg: Seg) -> Result<Path, Memory>
+    ensures { IfOk result (λ path. path ≡ from_root seg) }
+{
+    let segs = CompactList::from_slice(alloc, &[seg])?;
+    Ok(Path {
+        root: true,
+        ups: 0,
+        segs,
+    })
+}
+
+/// A string.
+fn text_of(alloc: Global, text: &[u8]) -> Result<Data, Memory>
+    ensures { IfOk result (λ object. object ≡ string text.now) }
+{
+    Ok(Data::Text(CompactList::from_slice(alloc, text)?))
+}
+
+/// A device of this name, with these terms in it.
+fn make_device(alloc: Global, seg: Seg, terms: Vec<Term>) -> Result<Term, Memory>
+    ensures { IfOk result (λ term. term ≡ device (from_here seg) terms.items) }
+{
+    let terms = CompactList::from_vec(alloc, terms)?;
+    let path = relative(alloc, seg)?;
+    Ok(Term::Device { path, terms })
+}
+
+/// Appends an object of this name.
+fn push_named(alloc: Global, terms: &mut Vec<Term>, seg: [u8; 4], value: Data) -> Result<(), Memory>
+    requires { IsSegment seg }
+    ensures { OnOk result (terms.new.items ≡ terms.old.items ++ named seg value ∷ []) }
+{
+    let path = relative(alloc, Seg::of_segment(seg))?;
+    terms.push(Term::Name { path, value })?;
+    Ok(())
+}
+
+/// The objects of a processor of this container.
+#[tactic(auto, unfolding(crate::specs::Tables::cpu_idle, crate::specs::Tables::cpu_perf))]
+fn tables_of_cpu(alloc: Global, container: u32) -> Result<Vec<Term>, Memory>
+    ensures { IfOk result (λ terms. terms.items ≡ cpu_objects container) }
+{
+    let mut terms = Vec::new(alloc);
+    push_named(alloc, &mut terms, *b"_HID", text_of(alloc, b"ACPI0007")?)?;
+    let idle = cpu_lpi(alloc)?;
+    push_named(alloc, &mut terms, *b"_LPI", write_lpi(alloc, &idle)?)?;
+    push_named(alloc, &mut terms, *b"_PSS", write_pss(alloc, &p_states())?)?;
+    let control = write_control(alloc, &control_pair())?;
+    push_named(alloc, &mut terms, *b"_PCT", control)?;
+    let domain = write_dependency(alloc, &dependency(container))?;
+    push_named(alloc, &mut terms, *b"_PSD", domain)?;
+    Ok(terms)
+}
+
+/// The objects of a container, without its processors.
+#[tactic(auto, unfolding(crate::specs::Tables::container_idle))]
+fn tables_of_container(alloc: Global) -> Result<Vec<Term>, Memory>
+    ensures { IfOk result (λ terms. terms.items ≡ container_objects) }
+{
+    let mut terms = Vec::new(alloc);
+    push_named(alloc, &mut terms, *b"_HID", text_of(alloc, b"ACPI0010")?)?;
+    let idle = container_lpi(alloc)?;
+    push_named(alloc, &mut terms, *b"_LPI", write_lpi(alloc, &idle)?)?;
+    Ok(terms)
+}
+
+/// A processor of a container.
+#[tactic(auto, unfolding(crate::specs::Machines::cpu_term))]
+fn make_cpu(alloc: Global, container: u32, cpu: u32) -> Result<Term, Memory>
+    ensures { IfOk result (λ term. term ≡ cpu_term container cpu) }
+{
+    let terms = tables_of_cpu(alloc, container)?;
+    make_device(alloc, cpu_seg(cpu), terms)
+}
+
+/// A container, with its processors.
+#[tactic(auto, unfolding(crate::specs::Machines::container_term))]
+fn make_container(alloc: Global, container: u32) -> Result<Term, Memory>
+    requires { container < MOST_CONTAINERS }
+    ensures { IfOk result (λ term. term ≡ container_term container) }
+{
+    let mut terms = tables_of_container(alloc)?;
+    let first = CPUS_EACH * container;
+    for cpu in first..first + CPUS_EACH {
+        terms.push(make_cpu(alloc, container, cpu)?)?;
+    }
+    make_device(alloc, container_seg(container), terms)
+}
+
+/// So many containers.
+fn make_containers(alloc: Global, n: u32) -> Result<CompactList<Term>, Memory>
+    requires { n ≤ MOST_CONTAINERS }
+    ensures { IfOk result (λ terms. terms ≡ map container_term (range_with_len 0 n)) }
+{
+    let mut terms = Vec::new(alloc);
+    for container in 0..n {
+        terms.push(make_container(alloc, container)?)?;
+    }
+    CompactList::from_vec(alloc, terms)
+}
+
+/// The definition block of a machine of so many containers, each of eight processors, which can be
+/// written (ACPI 6.5, 8.4.2).
+#[tactic(auto, unfolding(crate::specs::Machines::machine_block))]
+pub fn generate_block(alloc: Global, n: u32) -> Result<Block, Memory>
+    requires { n ≤ MOST_CONTAINERS }
+    ensures value { IfOk result (λ block. block ≡ machine_block n) }
+    ensures writable { IfOk result IsWritableBlock }
+{
+    let terms = make_containers(alloc, n)?;
+    let path = absolute(alloc, Seg::of_segment(*b"_SB_"))?;
+    let scope = Term::Scope { path, terms };
+    let terms = CompactList::from_vec(alloc, vec![in alloc; scope]?)?;
+    Ok(Block {
+        header: block_header(),
+        terms,
+    })
+}
