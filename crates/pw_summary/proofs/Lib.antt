@@ -1,0 +1,6 @@
+pub mod Apart
+pub mod Counted
+mod Examples
+pub mod Orders
+pub mod Printed
+pub mod Summaries
