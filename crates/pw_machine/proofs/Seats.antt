@@ -1,0 +1,231 @@
+-- The steps on word 0: numbers, split, join and read.
+use Rattle.std.proofs.Common.{◌≡◌, ◌≢◌, ⊎_elim, ℕ, ◌+◌, List, [], ◌∷◌, false, get_or, set, refl, ap, ◌∙◌, subst, arith}
+use mathlib.Core.Option.{some}
+use mathlib.Core.Logic.{dite}
+use native.Mathlib.Decide.{ℕ_discrete}
+use lib.ListN.{get_elem?}
+use Rattle.pw_plan.specs.declared.plan.Plan.{Plan}
+use Rattle.pw_model.specs.declared.entry.HistoryEntry.{HistoryEntry}
+use Rattle.pw_model.specs.History.{replay}
+use Rattle.pw_machine.specs.declared.view.View.{View}
+use Rattle.pw_machine.specs.Books.{longer, entries_of, count_in, Knows}
+use Rattle.pw_machine.specs.Machine.{Machine, now, count_held, spent_view, furthest, total, bit, as_number, holds, leads, marks, ServesRequest, Fits, Invariant}
+use Rattle.pw_machine.specs.Steps.{draw_number, miss_draw, split_seat, join_seats, read_made, drawn, missed, left_of, right_of, joined, looked, IsIdle, May, after}
+use Rattle.pw_machine.proofs.Lists.{at_set, at_snoc, set_else, total-append, total-set, one, none-of, off, once_more}
+use Rattle.pw_machine.proofs.Books.{begins_furthest, empty_front, knows_without, count_without, longer_both, knows-append, count-append, knows_between, list_is}
+use Rattle.pw_machine.proofs.Turns.{as_none, one_more}
+use Rattle.pw_machine.proofs.Facts.{other_unmarked, number_below, other_count}
+use Rattle.pw_machine.proofs.Changes.{turns_stay}
+use Rattle.pw_machine.proofs.Requests.{serves_nothing}
+use Rattle.pw_machine.proofs.Takes.{unturned}
+
+fits_spent : (P : Plan) (history : List HistoryEntry) (made count : ℕ) → Fits P history made count spent_view
+fits_spent P history made count = record {
+  reads = record { begins = (history, refl); begins_too = tt; lists = tt; entries = tt };
+  own = λ h. absurd (omega (arith, h));
+  serves = λ _. serves_nothing P (replay P history);
+  holds_records = λ t more. absurd (omega (arith, more));
+  slots = λ t more. absurd (omega (arith, more));
+  leader = λ h. off false refl h;
+  found = λ h. off false refl h;
+  notes = record { at_take = tt; at_release = tt; at_read = tt };
+  spent = λ _. refl;
+}
+
+-- a view that holds nothing
+idle_serves : (P : Plan) (history : List HistoryEntry) (made count : ℕ) (v : View) → Fits P history made count v → IsIdle v
+    → ServesRequest P (replay P history) v.held v.leads v.request v.releasing
+idle_serves P history made count v f idle = f.serves idle.unmarked
+
+module _ (m : Machine) (i : Invariant m) (j : ℕ) (v : View) (at : get_elem? m.views j ≡ some v) where
+  pub keeps_draw : May m j v draw_number → Invariant (after m j v draw_number)
+  keeps_draw may =
+      let a = may.0 in let f = i.fits j v at in
+      let none-yet : entries_of m.made m.history ≡ [] = i.numbers.strangers m.made (omega arith) in
+      unturned m i j v at (drawn m.made v) (m.made + 1) a.live a.unmarked a.unmarked refl refl refl refl (λ n. omega (arith, once_more n m.made)) (omega arith) (omega (arith, may.1)) record {
+        reads = record {
+          begins = f.reads.begins;
+          begins_too = f.reads.begins_too;
+          lists = (none-yet, f.reads.lists);
+          entries = (empty_front m.made m.history (furthest v.told v.seen) (begins_furthest m.history v.seen v.told f.reads.begins f.reads.begins_too) none-yet, f.reads.entries);
+        };
+        own = λ h. let own = f.own h in let low = number_below m i j v at v.number (omega (arith, own)) in omega (arith, own, none-of m.made v.number (λ e. omega (arith, e, low)));
+        serves = f.serves;
+        holds_records = f.holds_records;
+        slots = f.slots;
+        leader = f.leader;
+        found = f.found;
+        notes = record { at_take = f.notes.at_take; at_release = f.notes.at_release; at_read = omega arith };
+        spent = λ z. absurd (omega (arith, z, a.live));
+      }
+
+  pub keeps_miss : May m j v miss_draw → Invariant (after m j v miss_draw)
+  keeps_miss may =
+      let a = may.0 in let f = i.fits j v at in
+      unturned m i j v at (missed m.made v) m.made a.live a.unmarked a.unmarked refl refl refl refl (λ n. refl) (omega arith) i.numbers.most record {
+        reads = f.reads;
+        own = f.own;
+        serves = f.serves;
+        holds_records = f.holds_records;
+        slots = f.slots;
+        leader = f.leader;
+        found = f.found;
+        notes = record { at_take = f.notes.at_take; at_release = f.notes.at_release; at_read = omega arith };
+        spent = λ z. absurd (omega (arith, z, a.live));
+      }
+
+  pub keeps_read : May m j v read_made → Invariant (after m j v read_made)
+  keeps_read a =
+      let f = i.fits j v at in
+      unturned m i j v at (looked m.made v) m.made a.live a.unmarked a.unmarked refl refl refl refl (λ n. refl) (omega arith) i.numbers.most record {
+        reads = record { begins = begins_furthest m.history v.seen v.told f.reads.begins f.reads.begins_too; begins_too = tt; lists = f.reads.lists; entries = f.reads.entries };
+        own = f.own;
+        serves = f.serves;
+        holds_records = f.holds_records;
+        slots = f.slots;
+        leader = λ h. off v.leads a.no_journal h;
+        found = f.found;
+        notes = record { at_take = f.notes.at_take; at_release = f.notes.at_release; at_read = omega arith };
+        spent = λ z. absurd (omega (arith, z, a.live));
+      }
+
+  -- # Split
+
+  module _ (n parts : ℕ) (may : May m j v (split_seat n parts)) where
+    fits_left : Fits m.given.plan m.history m.made m.count (left_of n parts v)
+    fits_left =
+        let a = may.0 in let spare = may.2 in let f = i.fits j v at in
+        record {
+          reads = record { begins = f.reads.begins; begins_too = f.reads.begins_too; lists = knows_without n v.book m.history f.reads.lists; entries = knows_without n v.book (furthest v.told v.seen) f.reads.entries };
+          own = λ h. (count_without n v.number v.book).1 spare.other ∙ f.own (omega (arith, may.4));
+          serves = f.serves;
+          holds_records = f.holds_records;
+          slots = f.slots;
+          leader = f.leader;
+          found = f.found;
+          notes = f.notes;
+          spent = λ z. absurd (omega (arith, z, may.4));
+        }
+
+    -- the number has no entry yet
+    no_entry : entries_of n m.history ≡ []
+    no_entry = let spare = may.2 in list_is n v.book m.history (omega (arith, spare.in_book)) (i.fits j v at).reads.lists ∙ spare.no_entry
+
+    fits_right : Fits m.given.plan m.history m.made m.count (right_of n parts v)
+    fits_right =
+        let f = i.fits j v at in
+        record {
+          reads = record { begins = f.reads.begins; begins_too = tt; lists = (no_entry, tt); entries = (empty_front n m.history v.seen f.reads.begins no_entry, tt) };
+          own = λ h. omega (arith, one n n refl);
+          serves = λ _. serves_nothing m.given.plan (now m);
+          holds_records = λ t more. absurd (omega (arith, more));
+          slots = λ t more. absurd (omega (arith, more));
+          leader = λ h. off false refl h;
+          found = λ h. off false refl h;
+          notes = record { at_take = tt; at_release = tt; at_read = tt };
+          spent = λ z. absurd (omega (arith, z, may.3));
+        }
+
+    counts : (k : ℕ) → count_in k (left_of n parts v).book + count_in k (right_of n parts v).book ≡ count_in k v.book
+    counts k = let s = count_without n k v.book in let spare = may.2 in dite (ℕ_discrete n k)
+        (λ e. let own : count_in k v.book ≡ 1 = subst (λ x. count_in x v.book ≡ 1) e spare.in_book in omega (arith, s.0 e, one n k e, own))
+        (λ ne. omega (arith, s.1 ne, none-of n k ne))
+
+    pub keeps_split : Invariant (after m j v (split_seat n parts))
+    keeps_split =
+        let a = may.0 in let l = left_of n parts v in let r = right_of n parts v in let vs = set m.views j l in
+        record {
+          history = i.history;
+          numbers = record {
+            books = λ k. omega (arith, total-append (λ u. count_in k u.book) vs (r ∷ []), total-set (λ u. count_in k u.book) m.views j v l at, i.numbers.books k, counts k);
+            strangers = i.numbers.strangers;
+            most = i.numbers.most;
+          };
+          turns = let t = turns_stay m.given.plan m.turns m.journal m.views i.turns j v l at refl refl refl in record {
+            wide = t.wide;
+            holders = λ x low. one_more (get_or m.turns x 0) (holds x) vs (t.holders x low) r refl;
+            leader = one_more m.journal leads vs t.leader r refl;
+          };
+          opens = λ k u there mark. ⊎_elim
+              (λ (b : get_elem? vs k ≡ some u). ⊎_elim
+              (λ (t : (k ≡ j) × (l ≡ u)). off v.mark a.unmarked (ap (λ (x : View). x.mark) t.1 ∙ mark))
+              (λ (t : (k ≢ j) × (get_elem? m.views k ≡ some u)). absurd (other_unmarked m i j k v u t.0 at t.1 a.live mark))
+              (at_set m.views j k l u b))
+              (λ (s : r ≡ u). off false refl (ap (λ (x : View). x.mark) s ∙ mark))
+              (at_snoc vs r u k there);
+          values = i.values;
+          registers = λ none. i.registers (omega (arith, total-append marks vs (r ∷ []), total-set marks m.views j v l at, none));
+          parts = omega (arith, total-append (λ u. u.parts) vs (r ∷ []), total-set (λ u. u.parts) m.views j v l at, i.parts, may.4);
+          fits = λ k u there. ⊎_elim
+              (λ (b : get_elem? vs k ≡ some u). ⊎_elim
+              (λ (t : (k ≡ j) × (l ≡ u)). subst (Fits m.given.plan m.history m.made m.count) t.1 fits_left)
+              (λ (t : (k ≢ j) × (get_elem? m.views k ≡ some u)). i.fits k u t.1)
+              (at_set m.views j k l u b))
+              (λ (s : r ≡ u). subst (Fits m.given.plan m.history m.made m.count) s fits_right)
+              (at_snoc vs r u k there);
+        }
+
+  -- # Join
+
+  module _ (k : ℕ) (w : View) (may : May m j v (join_seats k w)) where
+    fits_joined : Fits m.given.plan m.history m.made m.count (joined v w)
+    fits_joined =
+        let a = may.2 in let f = i.fits j v at in let g = i.fits k w may.1 in
+        let known-v : Knows v.book v.seen = subst (λ o. Knows v.book (furthest o v.seen)) may.4 f.reads.entries in
+        let known-w : Knows w.book w.seen = subst (λ o. Knows w.book (furthest o w.seen)) may.5 g.reads.entries in
+        let far = longer_both m.history w.seen v.seen g.reads.begins f.reads.begins in
+        let mine = f.own a.live in
+        let apart = other_count m i j k v w may.0 at may.1 v.number (omega (arith, mine)) in
+        record {
+          reads = record {
+            begins = f.reads.begins;
+            begins_too = g.reads.begins;
+            lists = knows-append v.book w.book m.history f.reads.lists g.reads.lists;
+            entries = knows-append v.book w.book (longer w.seen v.seen) (knows_between v.book m.history (longer w.seen v.seen) v.seen far.2 far.0 f.reads.lists known-v) (knows_between w.book m.history (longer w.seen v.seen) w.seen far.1 far.0 g.reads.lists known-w);
+          };
+          own = λ h. omega (arith, count-append v.number v.book w.book, mine, apart);
+          serves = f.serves;
+          holds_records = f.holds_records;
+          slots = f.slots;
+          leader = f.leader;
+          found = f.found;
+          notes = record { at_take = f.notes.at_take; at_release = f.notes.at_release; at_read = tt };
+          spent = λ z. absurd (omega (arith, z, a.live));
+        }
+
+    pub keeps_join : Invariant (after m j v (join_seats k w))
+    keeps_join =
+        let a = may.2 in let c = may.3 in let b = joined v w in let vs : List View = set m.views j b in
+        let moved : get_elem? vs k ≡ some w = set_else m.views j k b may.0 ∙ may.1 in
+        let both : (h : View → ℕ) → total h (set vs k spent_view) + h w + h v ≡ total h m.views + h b + h spent_view = λ h. omega (arith, total-set h m.views j v b at, total-set h vs k w spent_view moved) in
+        let no-turn : (t : ℕ) → count_held t w.held ≡ 0 = λ t. ap (count_held t) c.held in
+        record {
+          history = i.history;
+          numbers = record {
+            books = λ n. omega (arith, both (λ u. count_in n u.book), i.numbers.books n, count-append n v.book w.book);
+            strangers = i.numbers.strangers;
+            most = i.numbers.most;
+          };
+          turns = record {
+            wide = i.turns.wide;
+            holders = λ t low n. omega (arith, both (as_number n (holds t)), i.turns.holders t low n, as_none (holds t) n w (no-turn t), as_none (holds t) n spent_view refl);
+            leader = λ n. omega (arith, both (as_number n leads), i.turns.leader n, as_none leads n w (ap bit c.no_journal), as_none leads n spent_view refl);
+          };
+          opens = λ q u there mark. ⊎_elim
+              (λ (t : (q ≡ k) × (spent_view ≡ u)). off false refl (ap (λ (x : View). x.mark) t.1 ∙ mark))
+              (λ (t : (q ≢ k) × (get_elem? vs q ≡ some u)). ⊎_elim
+              (λ (s : (q ≡ j) × (b ≡ u)). off v.mark a.unmarked (ap (λ (x : View). x.mark) s.1 ∙ mark))
+              (λ (s : (q ≢ j) × (get_elem? m.views q ≡ some u)). absurd (other_unmarked m i j q v u s.0 at s.1 a.live mark))
+              (at_set m.views j q b u t.1))
+              (at_set vs k q spent_view u there);
+          values = i.values;
+          registers = λ none. i.registers (omega (arith, both marks, none, ap bit c.unmarked));
+          parts = omega (arith, both (λ u. u.parts), i.parts);
+          fits = λ q u there. ⊎_elim
+              (λ (t : (q ≡ k) × (spent_view ≡ u)). subst (Fits m.given.plan m.history m.made m.count) t.1 (fits_spent m.given.plan m.history m.made m.count))
+              (λ (t : (q ≢ k) × (get_elem? vs q ≡ some u)). ⊎_elim
+              (λ (s : (q ≡ j) × (b ≡ u)). subst (Fits m.given.plan m.history m.made m.count) s.1 fits_joined)
+              (λ (s : (q ≢ j) × (get_elem? m.views q ≡ some u)). i.fits q u s.1)
+              (at_set m.views j q b u t.1))
+              (at_set vs k q spent_view u there);
+        }

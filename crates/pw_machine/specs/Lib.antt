@@ -1,0 +1,13 @@
+pub mod Parts
+pub mod Turns
+pub mod Books
+pub mod Machine
+pub mod Steps
+pub mod Law
+pub mod Waits
+pub mod Told
+pub mod Bounds
+pub mod Histories
+pub mod Meetings
+pub mod Kinds
+pub mod Choices
