@@ -77,12 +77,17 @@ entries_back P (e ∷ es) is seats faults =
     let rest : es ≡ entries_of (requests es) = entries_back P es is.1 seats.1 faults.1 in
     cc
 
--- A run of lines in which no register failed has their history.
+-- A run of lines in which no register failed has the entries of their requests.
+pub whole_entries : (P : Plan) (lines : List line) (opening : Option ℕ) (es : List HistoryEntry) (old new : RegistersSeen) → IsRun P lines opening es old new
+    → stopped_at opening es ≡ None → es ≡ entries_of (requests_of lines)
+whole_entries P lines (Some k) es old new run none = absurd (cc)
+whole_entries P lines None es old new run none =
+    let faultless = fault_none es none in
+    let legal = run.lawful.legal in
+    entries_back P es legal.well_formed.entries run.seats faultless ∙ ap entries_of (run.lawful.whole faultless)
+
+-- And so their history.
 pub whole_history : (P : Plan) (lines : List line) (opening : Option ℕ) (es : List HistoryEntry) (old new : RegistersSeen) → IsRun P lines opening es old new
     → stopped_at opening es ≡ None → history_text P opening es ≡ history_text P None (entries_of (requests_of lines))
 whole_history P lines (Some k) es old new run none = absurd (cc)
-whole_history P lines None es old new run none =
-    let faultless = fault_none es none in
-    let legal = run.lawful.legal in
-    let back = entries_back P es legal.well_formed.entries run.seats faultless in
-    ap (λ (l : List HistoryEntry). history_text P None l) (back ∙ ap entries_of (run.lawful.whole faultless))
+whole_history P lines None es old new run none = ap (λ (l : List HistoryEntry). history_text P None l) (whole_entries P lines None es old new run none)

@@ -9,4 +9,6 @@ mod running;
 mod say;
 mod script;
 
+pub use print::failed_after;
+pub use refusal::say_register;
 pub use running::drive;

@@ -33,7 +33,7 @@ fn fault_in(entries: &[HistoryEntry]) -> Option<u32>
 }
 
 /// How many operations of the start, or of a request, were done where a register failed.
-fn failed_after(opening: Option<u32>, entries: &[HistoryEntry]) -> Option<u32>
+pub fn failed_after(opening: Option<u32>, entries: &[HistoryEntry]) -> Option<u32>
     ensures { result ≡ stopped_at opening entries.now }
 {
     match opening {

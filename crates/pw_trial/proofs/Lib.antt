@@ -1,0 +1,4 @@
+pub mod One
+pub mod Printing
+pub mod Runs
+pub mod Trying
