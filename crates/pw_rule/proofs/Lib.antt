@@ -1,0 +1,9 @@
+pub mod Words
+pub mod Shown
+pub mod Numbers
+pub mod Records
+pub mod Journals
+pub mod Opening
+pub mod Alone
+pub mod Slots
+pub mod Calls
