@@ -396,12 +396,46 @@ fn print(machine: &Machine, opened: usize, done: &[Done], registers: &[Op], mut 
     out.flush()
 }
 
-pub fn drive(space: &Space, machine: machine::Machine, plan: plan::Plan, text: &[u8], steps: bool, out: impl Write) -> io::Result<()> {
+/// The summary of a run that is over: what doesn't depend on which processor asked first.
+fn summarize(records: &Records, done: &[Done], mut out: impl Write) -> io::Result<()> {
+    let count = |test: fn(&Reply) -> bool| done.iter().filter(|entry| test(&entry.reply)).count();
+    let (entered, running) = (count(|reply| matches!(reply, Reply::Entered(_))), count(|reply| matches!(reply, Reply::Running)));
+    let stands = count(|reply| matches!(reply, Reply::Stands(_)));
+    writeln!(out, "processors {}", records.machine.cpus.len())?;
+    writeln!(out, "lines {}", done.len())?;
+    writeln!(out, "entered {entered}\nrunning {running}\nstands {stands}\nrefused {}", done.len() - entered - running - stands)?;
+    out.write_all(b"containers")?;
+    for node in &records.nodes {
+        write!(out, " {}", node.vote.state)?;
+    }
+    out.write_all(b"\nstanding")?;
+    for (place, _) in records.machine.domains.iter().enumerate().filter(|(_, domain)| matches!(domain.kind, Kind::Perf)) {
+        write!(out, " {}", records.standing(place, 0))?;
+    }
+    out.write_all(b"\n")?;
+    out.flush()
+}
+
+/// What is asked of a machine, and what is printed of the run.
+pub enum Asked<'a> {
+    /// The history of a script, whose notifications each move a limit by one state or set it.
+    Script { text: &'a [u8], steps: bool },
+    /// The summary of a load.
+    Load(Vec<Line>),
+}
+
+pub fn drive(space: &Space, machine: machine::Machine, plan: plan::Plan, asked: Asked, out: impl Write) -> io::Result<()> {
     let c_states = c_states(&plan, machine.cpus.len());
     let has_c = machine.cpus.iter().map(|cpu| cpu.idle.kind == machine::Kind::Cst).collect();
     let machine = planned(space, machine, plan, &c_states);
-    let handler = if steps { step } else { follow };
-    let lines: Vec<Line> = script(&machine, text, [handler, handler]);
+    let is_load = matches!(asked, Asked::Load(_));
+    let lines = match asked {
+        Asked::Load(lines) => lines,
+        Asked::Script { text, steps } => {
+            let handler = if steps { step } else { follow };
+            script(&machine, text, [handler, handler])
+        }
+    };
     let mut records = Records::new(&machine, &c_states, has_c);
     let mut registers = Vec::with_capacity(MOST_OPERATIONS);
     let mut done = Vec::with_capacity(lines.len());
@@ -411,5 +445,5 @@ pub fn drive(space: &Space, machine: machine::Machine, plan: plan::Plan, text: &
         let reply = records.serve(line.request, &mut registers);
         done.push(Done { request: line.request, reply, seen: registers.len() });
     }
-    print(&machine, opened, &done, &registers, out)
+    if is_load { summarize(&records, &done, out) } else { print(&machine, opened, &done, &registers, out) }
 }

@@ -5,13 +5,16 @@
 //! before; `show` prints each, and `check` reads the tables of processors and prints the plan of
 //! the machine. Which fault a block has it doesn't tell; that of a table it does.
 //! `--json` makes values first, as the program does, and `--json --direct` writes the text without.
-//! `drive` makes the requests of a script on the machine, and prints their history.
+//! `drive` makes the requests of a script on the machine, and prints their history. `generate` makes a block of so many
+//! clusters, reads it again, makes the requests of a load on its machine, and prints their summary.
 //! usage: plain show|rewrite|check [--json [--direct]] FILE..
 //!        plain drive [--serial] [--step] SCRIPT FILE..
+//!        plain generate N
 //!        plain read|print SCRIPT ROUNDS
 
 mod check;
 mod drive;
+mod generate;
 mod json;
 mod machine;
 mod plan;
@@ -23,6 +26,7 @@ mod tables;
 mod values;
 mod written;
 
+use drive::Asked;
 use read::Term;
 use space::Space;
 use std::io::{self, BufWriter, Write};
@@ -53,16 +57,28 @@ fn rewrite(blocks: &[(Vec<u8>, Vec<Term>)], mut out: impl Write) -> io::Result<E
     Ok(ExitCode::SUCCESS)
 }
 
-/// Drives the machine of the blocks by a script.
-fn drive(script: &str, flags: &[String], blocks: &[(Vec<u8>, Vec<Term>)]) -> io::Result<ExitCode> {
+/// Makes what is asked on the machine of the blocks.
+fn drive(blocks: &[(Vec<u8>, Vec<Term>)], asked: Asked) -> io::Result<ExitCode> {
     let space = Space::of(blocks).expect("no place is given twice");
     let mut machine = machine::machine(&space).unwrap_or_else(|_| panic!("the objects make a machine"));
     let plan = plan::plan(&mut machine).unwrap_or_else(|_| panic!("the machine has a plan"));
-    let text = std::fs::read(script)?;
-    let step = flags.iter().any(|flag| flag == "--step");
-    drive::drive(&space, machine, plan, &text, step, BufWriter::with_capacity(1 << 16, io::stdout()))?;
+    drive::drive(&space, machine, plan, asked, BufWriter::with_capacity(1 << 16, io::stdout()))?;
     std::mem::forget(space);
     Ok(ExitCode::SUCCESS)
+}
+
+/// Drives the machine of the blocks by a script.
+fn drive_script(script: &str, flags: &[String], blocks: &[(Vec<u8>, Vec<Term>)]) -> io::Result<ExitCode> {
+    let text = std::fs::read(script)?;
+    let steps = flags.iter().any(|flag| flag == "--step");
+    drive(blocks, Asked::Script { text: &text, steps })
+}
+
+/// Makes a machine of so many clusters and a load, and drives it.
+fn generate(clusters: u32) -> io::Result<ExitCode> {
+    let block = generate::block(clusters);
+    let terms = read::parse(&block).expect("the block is spelled");
+    drive(&[(block, terms)], Asked::Load(generate::load(clusters)))
 }
 
 /// Does this on the objects of the blocks.
@@ -100,11 +116,14 @@ fn main() -> ExitCode {
     let (flags, words): (Vec<String>, Vec<String>) =
         std::env::args().skip(1).partition(|word| word.starts_with("--"));
     let Some((command, files)) = words.split_first() else {
-        panic!("usage: plain show|rewrite|check|drive|read|print [FLAG..] FILE..");
+        panic!("usage: plain show|rewrite|check|drive|generate|read|print [FLAG..] FILE..");
     };
     if let ("read" | "print", [file, rounds]) = (command.as_str(), files) {
         script::rounds(command, file, rounds.parse().expect("a number of rounds"));
         return ExitCode::SUCCESS;
+    }
+    if let ("generate", [clusters]) = (command.as_str(), files) {
+        return generate(clusters.parse().expect("a number of clusters")).expect("the output can be written");
     }
     let (scripts, files) = files.split_at(usize::from(command == "drive"));
     let Some(blocks) = read_all(files) else {
@@ -113,7 +132,7 @@ fn main() -> ExitCode {
     };
     let done = match command.as_str() {
         "rewrite" => rewrite(&blocks, io::stdout().lock()),
-        "drive" => drive(&scripts[0], &flags, &blocks),
+        "drive" => drive_script(&scripts[0], &flags, &blocks),
         command => on_objects(command, &flags, &blocks),
     };
     std::mem::forget(blocks);

@@ -1,5 +1,5 @@
 -- What must come, want of memory aside.
-use Rattle.std.proofs.Common.{◌≡◌, ℕ, true, List, [], codes, inl, inr, ◌⊎◌, refl, subst, arith}
+use Rattle.std.proofs.Common.{◌≡◌, ℕ, true, List, [], codes, inl, inr, refl, subst, arith}
 use Rattle.pw_base.specs.Seen.{Grew, GrewByLine}
 use Rattle.pw_words.specs.declared.command.WordsFault.{WordsFault}
 use Rattle.pw_words.specs.declared.command.WordsFault.TheVariants.{Refused, Memory}

@@ -1,8 +1,9 @@
 -- What a command did, whichever it is.
 use Rattle.std.proofs.Common.{◌≡◌, ◌≢◌, ℕ, true, List, inl, inr, ◌⊎◌, arith}
 use Rattle.pw_base.specs.Seen.{FilesSeen}
-use Rattle.pw_words.specs.Words.{Asked}
-use Rattle.pw_words.specs.Words.Asked.{on_blocks, drive}
+use Rattle.pw_words.specs.Words.{AskFor, Asked}
+use Rattle.pw_words.specs.Words.Asked.{on_blocks, drive, generate}
+use Rattle.pw_words.proofs.Asking.{few_counted}
 use Rattle.pw_ends.specs.Seen.{Seen, NoneFailed}
 use Rattle.pw_ends.specs.Ends.{Does}
 use Rattle.pw_ends.specs.Ends.Stops.{refused, unread, without_memory}
@@ -12,18 +13,28 @@ use Rattle.pw_ends.proofs.Completeness.{IsOne}
 use Rattle.pw_tasks.proofs.One.{never_unread, refusal_is_1, task_is_one}
 use Rattle.pw_runs.proofs.One.{drive_is_one, refusal_is_1_or_7}
 use Rattle.pw_runs.proofs.One.{never_unread as never_unread_drive}
-use Rattle.pw_cli.specs.Runs.{Obeys, RegistersHeld, names_in, work_of}
+use Rattle.pw_trial.proofs.One.{trying_is_one}
+use Rattle.pw_trial.proofs.One.{does_or_failed as tries_or_failed}
+use Rattle.pw_cli.specs.Runs.{IsWithin, Obeys, RegistersHeld, names_in, work_of}
 use Rattle.pw_cli.proofs.Driving.{does_or_failed}
 
 -- # One command
 
+-- what words ask for is within its bounds
+pub within_of : (words : List (List ℕ)) (asked : Asked) → AskFor words asked → IsWithin asked
+within_of words (on_blocks task names) is = tt
+within_of words (drive way script names) is = tt
+within_of words (generate n) is = (few_counted words n is).1
+
 pub command_is_one : (asked : Asked) (before after : FilesSeen) → before.told ≡ true → IsOne (work_of asked before after)
 command_is_one (on_blocks task names) before after tells = task_is_one task names before after tells
 command_is_one (drive way script names) before after tells = drive_is_one way.step script names before after tells
+command_is_one (generate n) before after tells = trying_is_one n
 
 pub none_unread : (asked : Asked) (before after : FilesSeen) → NoneFailed (names_in asked) before after → (work_of asked before after).unread → ⊥
 none_unread (on_blocks task names) before after none u = never_unread names before after none u
 none_unread (drive way script names) before after none u = never_unread_drive way.step script names before after none u
+none_unread (generate n) before after none u = u
 
 -- a register of the command failed, and without that it has a text
 pub record Lost (asked : Asked) (before after : Seen) (status : ℕ) : Type 0 where
@@ -40,6 +51,10 @@ did_or_lost (drive way script names) before after status text line o = elim (doe
   | inl did ↦ inl did
   | inr f ↦ inr (record { five = f.five; unheld = λ held. held f.rose; text = f.text; made = f.made })
 ]
+did_or_lost (generate n) before after status text line o = elim (tries_or_failed n before.outputs after.outputs before.regs after.regs status text line o) [
+  | inl did ↦ inl did
+  | inr f ↦ inr (record { five = f.five; unheld = λ held. held f.rose; text = f.text; made = f.made })
+]
 
 -- # The status
 
@@ -47,6 +62,7 @@ did_or_lost (drive way script names) before after status text line o = elim (doe
 refusal_status : (asked : Asked) (before after : FilesSeen) (status : ℕ) (line : List ℕ) → (work_of asked before after).refusal status line → (status ≡ 1) ⊎ (status ≡ 7)
 refusal_status (on_blocks task names) before after status line refusal = inl (refusal_is_1 task names before status line refusal)
 refusal_status (drive way script names) before after status line refusal = refusal_is_1_or_7 way.step script names before status line refusal
+refusal_status (generate n) before after status line refusal = absurd refusal
 
 neither : (s k : ℕ) → (s ≡ 1) ⊎ (s ≡ 7) → (k ≡ 2) ⊎ (k ≡ 5) → s ≡ k → ⊥
 neither s k (inl one) (inl two) e = absurd (omega (arith, one, two, e))

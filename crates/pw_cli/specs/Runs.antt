@@ -1,37 +1,45 @@
 -- How a run of the program ends.
-use Rattle.std.specs.Prelude.{◌≡◌, ◌≢◌, ◌∷◌, ℕ, true, List, [], codes}
+use Rattle.std.specs.Prelude.{◌≡◌, ◌≢◌, ◌≤◌, ◌∷◌, ℕ, true, List, [], codes}
 use Rattle.std.proofs.Common.{◌⊎◌}
 use Rattle.pw_base.specs.Outside.{Rose}
 use Rattle.pw_base.specs.Seen.{FilesSeen}
-use Rattle.pw_words.specs.declared.command.Way.{Way}
 use Rattle.pw_words.specs.declared.command.WordsFault.{WordsFault}
 use Rattle.pw_words.specs.declared.command.WordsFault.TheVariants.{Refused, Memory}
 use Rattle.pw_words.specs.Words.{AskFor, Asked, IsCommand}
-use Rattle.pw_words.specs.Words.Asked.{on_blocks, drive}
+use Rattle.pw_words.specs.Words.Asked.{on_blocks, drive, generate}
 use Rattle.pw_ends.specs.Seen.{Seen, NoneFailed}
 use Rattle.pw_ends.specs.Ends.{Does, Ended, EndedSo, Work}
 use Rattle.pw_tasks.specs.Tasks.{work_on}
 use Rattle.pw_runs.specs.Runs.{Drives, driving}
+use Rattle.pw_trial.specs.Trials.{Generates, trying}
 
 -- # What is asked for
 
--- what a command does, which words ask for: of `drive` what it does where no register fails
+-- what a command does, which words ask for: of `drive` and `generate` what they do where no register fails
 abbrev pub work_of : Asked → FilesSeen → FilesSeen → Work
 work_of (on_blocks task names) before after = work_on task names before after
 work_of (drive way script names) before after = driving way.step script names before after
+work_of (generate n) before after = trying n
 
 -- the names of the files that it reads
 abbrev pub names_in : Asked → List (List ℕ)
 names_in (on_blocks task names) = names
 names_in (drive way script names) = script ∷ names
+names_in (generate n) = []
 
 -- # The run
 
--- A command did its work. None but `drive` operates a register.
+-- the numbers of a command are in their bounds
+abbrev pub IsWithin : Asked → Type 0
+IsWithin (generate n) = n ≤ 32
+IsWithin _ = Unit {0}
+
+-- A command did its work. None but `drive` and `generate` operates a register.
 abbrev pub Obeys : Asked → Seen → Seen → ℕ → List ℕ → List ℕ → Type 0
 Obeys (on_blocks task names) before after status text line =
     Does (work_on task names before.files after.files) before.outputs after.outputs status text line × (after.regs ≡ before.regs)
 Obeys (drive way script names) before after status text line = Drives way.step script names before after status text line
+Obeys (generate n) before after status text line = Generates n before.outputs after.outputs before.regs after.regs status text line
 
 -- the status and the line where words are no command
 abbrev pub words_status : WordsFault → ℕ
@@ -71,6 +79,7 @@ EndsSo before after status so text line = EndedSo before.outputs after.outputs s
 abbrev pub RegistersHeld : Asked → Seen → Seen → Type 0
 RegistersHeld (on_blocks task names) before after = Unit {0}
 RegistersHeld (drive way script names) before after = Rose before.regs.faults after.regs.faults → ⊥
+RegistersHeld (generate n) before after = Rose before.regs.faults after.regs.faults → ⊥
 
 -- What must come where the files tell, and no read of the command's files failed.
 pub record IsCompleteFor (asked : Asked) (before after : Seen) (status : ℕ) : Type 0 where

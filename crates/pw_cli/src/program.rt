@@ -6,13 +6,15 @@ ghost use Rattle.pw_words.specs.Words.{texts};
 ghost use Rattle.pw_ends.specs.Ends.{Ended};
 ghost use Rattle.pw_ends.specs.Seen.{all_seen, outputs_seen};
 ghost use Rattle.pw_script.specs.declared.script.TheConstants.{MOST_OPERATIONS};
-ghost use Rattle.pw_cli.specs.Runs.{IsComplete, IsSpared, Obeys, Ran, words_line, words_status};
+ghost use Rattle.pw_cli.specs.Runs.{IsComplete, IsSpared, IsWithin, Obeys, Ran, words_line};
+ghost use Rattle.pw_cli.specs.Runs.{words_status};
 
 use pw_base::{Files, Gate, Sink};
 use pw_ends::{Outcome, say, without_memory};
 use pw_regs::Registers;
 use pw_runs::drive;
 use pw_tasks::do_on_blocks;
+use pw_trial::generate;
 use pw_words::{Command, WordsFault, command_of};
 use std::alloc::Global;
 
@@ -25,6 +27,7 @@ fn obey<F: Files, K: Sink, R: Registers>(
     err: &mut K,
     regs: R,
 ) -> Outcome<R>
+    requires { IsWithin (asked_of command.now) }
     ensures keeps_files { KeepsFiles F.told F.holds F.faults files.old files.new }
     ensures keeps_out { KeepsSink K.told K.faults out.old out.new }
     ensures keeps_err { KeepsSink K.told K.faults err.old err.new }
@@ -52,6 +55,7 @@ fn obey<F: Files, K: Sink, R: Registers>(
             err,
             regs,
         ),
+        Command::Generate { count } => generate(alloc, *count, out, err, regs),
     }
 }
 

@@ -21,6 +21,7 @@ use Rattle.clap.specs.declared.parser.matches.ValueSource.TheVariants.{DefaultVa
 use Rattle.clap.specs.declared.error.kind.ErrorKind.TheVariants as kind
 use Rattle.pw_words.specs.App.{flag_rule}
 use Rattle.pw_words.proofs.Driving.{drive_leaf}
+use Rattle.pw_words.proofs.Generating.{generate_leaf}
 use Rattle.pw_words.proofs.Kept.{Keeps, KeepsFilled, level_keeps, none_of_both, some_kind}
 use Rattle.pw_words.proofs.Walked.{blocks_at, word_at}
 use Rattle.pw_words.proofs.Levels.{blocks_leaf, show_leaf, task_leaf}
@@ -209,6 +210,13 @@ script_bound words free =
         (bare_filled x HasSome (word_at (codes "script") 1) refl, (bare_filled x HasSome (blocks_at 2) refl, tt)),
       ),
     ) tt free
+
+pub count_bound : (words : List Text) → level_fault generate_leaf [] nothing_held words false [] ≡ []
+    → Has (codes "count") HasSome (rows_after generate_leaf.rules [] words)
+count_bound words free =
+    let x = codes "count" in
+    level_keeps (Has x HasSome) generate_leaf words (word_keeps x HasSome x 1 (λ _. some x 1), tt)
+    (bare_filled x HasSome (word_at x 1) refl, tt) tt free
 
 pub task_bound : (task : Task) (words : List Text) → level_fault (task_leaf task) [] nothing_held words false [] ≡ []
     → blocks_in (rows_after (task_leaf task).rules [] words)

@@ -1,6 +1,8 @@
 pub mod Walked
 pub mod Levels
 pub mod Driving
+pub mod Generating
+pub mod Counts
 pub mod Getters
 pub mod Kept
 pub mod Subcommands

@@ -25,9 +25,11 @@ use Rattle.pw_words.specs.App.{line_app}
 use Rattle.pw_words.specs.Stated.{IsTaken}
 use Rattle.pw_words.specs.Words.{AreFiles, AreStated, Asked, IsLine, Say, are_bare, are_flags_of, in_table_order, is_among, is_bare}
 use Rattle.pw_words.specs.Words.{is_dashed, is_plain, moved, task_flags, task_name, way_flags}
-use Rattle.pw_words.specs.Words.Asked.{drive, on_blocks}
+use Rattle.pw_words.specs.Words.Asked.{drive, generate, on_blocks}
 use Rattle.pw_words.proofs.Bounds.{over}
+use Rattle.pw_words.proofs.Counts.{bare_count}
 use Rattle.pw_words.proofs.Driving.{drive_leaf, drive_level, drive_rows, drive_said, names_kinds}
+use Rattle.pw_words.proofs.Generating.{count_kinds, generate_leaf, generate_level, generate_rows, generate_said}
 use Rattle.pw_words.proofs.Kept.{none_of_both, some_kind}
 use Rattle.pw_words.proofs.Levels.{files_kinds, or_none, task_leaf, task_level, task_rows, task_said}
 use Rattle.pw_words.proofs.Walked.{bare_fault, bare_met, bare_parts}
@@ -94,13 +96,24 @@ drive_rows_at : (rest : List Text)
 unfolding clap_on_literals
 drive_rows_at rest = named_rows (codes "drive") rest refl
 
+-- and of those of `generate`
+generate_fault_at : (rest : List Text)
+    → fault_of line_app (codes "generate" ∷ rest) ≡ level_fault generate_leaf [] nothing_held rest false []
+unfolding clap_on_literals
+generate_fault_at rest = named_fault (codes "generate") rest refl refl refl
+
+pub generate_rows_at : (rest : List Text)
+    → subcommand_of line_app (codes "generate" ∷ rest) ≡ Some (codes "generate", rows_after generate_leaf.rules [] rest)
+unfolding clap_on_literals
+generate_rows_at rest = named_rows (codes "generate") rest refl
+
 -- a first word that names no subcommand
 abbrev IsOther : Text → Type 0
 IsOther word = (bytes_eq (codes "show") word ≡ false) × (bytes_eq (codes "rewrite") word ≡ false)
-    × (bytes_eq (codes "check") word ≡ false) × (bytes_eq (codes "drive") word ≡ false)
+    × (bytes_eq (codes "check") word ≡ false) × (bytes_eq (codes "drive") word ≡ false) × (bytes_eq (codes "generate") word ≡ false)
 
 none_met : (word : Text) → IsOther word → subcommand_met names idle word ≡ None
-none_met word other = rw (other.0, other.1, other.2, other.3) refl
+none_met word other = rw (other.0, other.1, other.2, other.3, other.4) refl
 
 other_refused : (word : Text) (rest : List Text) → is_dashed word ≡ false → IsOther word → fault_of line_app (word ∷ rest) ≡ [] → ⊥
 unfolding walk_fault
@@ -150,6 +163,9 @@ drive_fault : (way : Way) (names : List Text) → are_bare names ≡ true
     → fault_of line_app (codes "drive" ∷ way_flags way ++ names) ≡ names_kinds names
 drive_fault way names bare = drive_fault_at (way_flags way ++ names) ∙ drive_level way names bare
 
+generate_fault : (words : List Text) → are_bare words ≡ true → fault_of line_app (codes "generate" ∷ words) ≡ count_kinds words
+generate_fault words bare = generate_fault_at words ∙ generate_level words bare
+
 -- names none of which begins with a hyphen
 pub bare_names : (script : Text) (files : List Text) → is_dashed script ≡ false → are_bare files ≡ true → are_bare (script ∷ files) ≡ true
 bare_names script files dash bare = ap (λ b. cond b false (are_bare files)) dash ∙ bare
@@ -172,18 +188,29 @@ line_stated words (drive way script files) h = record {
   command = ap (subcommand_of line_app) h.0 ∙ drive_rows_at (way_flags way ++ script ∷ files);
   said = drive_said_of way script files h.1 h.2;
 }
+line_stated words (generate count) h =
+    let bare = bare_count h.0 count h.2 in
+    record {
+      rows = generate_rows h.0;
+      taken = ap (fault_of line_app) h.1 ∙ generate_fault (h.0 ∷ []) (bare_names h.0 [] bare refl);
+      command = ap (subcommand_of line_app) h.1 ∙ generate_rows_at (h.0 ∷ []);
+      said = (h.0, generate_said h.0 bare, h.2);
+    }
 
--- ---- plain words that are taken are a line
+-- ---- plain words that are taken are a line, or `generate` and a word
 
--- the word and the flags, in order, are those of a task, or of `drive` in some way
+-- the word and the flags, in order, are those of a task, of `drive` in some way, or of `generate`
 abbrev IsTask : Text → List Text → Type 0
 IsTask word flags = (task : Task) × (word ≡ task_name task) × (in_table_order word flags ≡ task_flags task)
 
 abbrev IsDrive : Text → List Text → Type 0
 IsDrive word flags = (way : Way) × (word ≡ codes "drive") × (in_table_order word flags ≡ way_flags way)
 
+abbrev IsGenerate : Text → List Text → Type 0
+IsGenerate word flags = (word ≡ codes "generate") × (in_table_order word flags ≡ [])
+
 abbrev Named : List Text → Text → Type 0
-Named flags word = IsTask word flags ⊎ (IsDrive word flags ⊎ IsOther word)
+Named flags word = IsTask word flags ⊎ (IsDrive word flags ⊎ (IsGenerate word flags ⊎ IsOther word))
 
 show_flags : (flags : List Text) → IsTask (codes "show") flags
 show_flags flags = go (is_among flags (codes "--json"))
@@ -210,18 +237,19 @@ same_text a b e = (bytes_eq-Decides a b).0 e
 named : (flags : List Text) (word : Text) → Named flags word
 named flags word =
     go (bytes_eq (codes "show") word) (bytes_eq (codes "rewrite") word) (bytes_eq (codes "check") word) (bytes_eq (codes "drive") word)
-    refl refl refl refl
+    (bytes_eq (codes "generate") word) refl refl refl refl refl
   where
     at : (name : Text) → bytes_eq name word ≡ true → Named flags name → Named flags word
     at name e = subst (Named flags) (same_text name word e)
 
-    go : (a b c d : Bool) → bytes_eq (codes "show") word ≡ a → bytes_eq (codes "rewrite") word ≡ b → bytes_eq (codes "check") word ≡ c
-        → bytes_eq (codes "drive") word ≡ d → Named flags word
-    go true b c d p q r s = at (codes "show") p (inl (show_flags flags))
-    go false true c d p q r s = at (codes "rewrite") q (inl (Rewrite, refl, refl))
-    go false false true d p q r s = at (codes "check") r (inl (Check, refl, refl))
-    go false false false true p q r s = at (codes "drive") s (inr (inl (drive_flags flags)))
-    go false false false false p q r s = inr (inr (p, q, r, s))
+    go : (a b c d e : Bool) → bytes_eq (codes "show") word ≡ a → bytes_eq (codes "rewrite") word ≡ b → bytes_eq (codes "check") word ≡ c
+        → bytes_eq (codes "drive") word ≡ d → bytes_eq (codes "generate") word ≡ e → Named flags word
+    go true b c d e p q r s t = at (codes "show") p (inl (show_flags flags))
+    go false true c d e p q r s t = at (codes "rewrite") q (inl (Rewrite, refl, refl))
+    go false false true d e p q r s t = at (codes "check") r (inl (Check, refl, refl))
+    go false false false true e p q r s t = at (codes "drive") s (inr (inl (drive_flags flags)))
+    go false false false false true p q r s t = at (codes "generate") t (inr (inr (inl (refl, refl))))
+    go false false false false false p q r s t = inr (inr (inr (p, q, r, s, t)))
 
 pub bare_filtered : (words : List Text) → are_bare (filter is_bare words) ≡ true
 bare_filtered [] = refl
@@ -232,33 +260,51 @@ bare_filtered (w ∷ ws) = go (is_dashed w) refl (bare_filtered ws)
     go true e later = later
     go false e later = ap (λ x. cond x false (are_bare (filter is_bare ws))) e ∙ later
 
+-- the words are `generate` and a word
+abbrev pub AreToCount : List Text → Type 0
+AreToCount words = (word : Text) × (words ≡ codes "generate" ∷ word ∷ []) × (is_dashed word ≡ false)
+
+abbrev pub LineOrCount : List Text → Type 0
+LineOrCount words = ((asked : Asked) × IsLine words asked) ⊎ AreToCount words
+
 -- names that are taken are a script and files
 drive_line : (words : List Text) (way : Way) (names : List Text) → words ≡ codes "drive" ∷ way_flags way ++ names → are_bare names ≡ true
-    → names_kinds names ≡ [] → (asked : Asked) × IsLine words asked
+    → names_kinds names ≡ [] → LineOrCount words
 drive_line words way [] are bare kinds = absurd (some_kind [] kind.MissingRequiredArgument kinds)
 drive_line words way (script ∷ files) are bare kinds =
     let parts = bare_parts script files bare in
-    (drive way script files, (are, parts.0, are_files files parts.1 kinds))
+    inl (drive way script files, (are, parts.0, are_files files parts.1 kinds))
+
+-- words that are taken are one
+generate_line : (words names : List Text) → words ≡ codes "generate" ∷ names → are_bare names ≡ true → count_kinds names ≡ []
+    → LineOrCount words
+generate_line words [] are bare kinds = absurd (some_kind [] kind.MissingRequiredArgument kinds)
+generate_line words (word ∷ []) are bare kinds = inr (word, are, (bare_parts word [] bare).0)
+generate_line words (word ∷ w ∷ ws) are bare kinds = absurd (some_kind [] kind.UnknownArgument kinds)
 
 parted_line : (word : Text) (flags names : List Text) → is_dashed word ≡ false → are_bare names ≡ true
-    → IsTaken (word ∷ in_table_order word flags ++ names) → (asked : Asked) × IsLine (word ∷ in_table_order word flags ++ names) asked
+    → IsTaken (word ∷ in_table_order word flags ++ names) → LineOrCount (word ∷ in_table_order word flags ++ names)
 parted_line word flags names dash bare taken = elim (named flags word) [
   | inl t ↦
       let are : word ∷ in_table_order word flags ++ names ≡ task_name t.0 ∷ task_flags t.0 ++ names = ap₂ (λ w xs. w ∷ xs ++ names) t.1 t.2 in
       let kinds = sym (task_fault t.0 names bare) ∙ ap (fault_of line_app) (sym are) ∙ taken in
-      (on_blocks t.0 names, (are, are_files names bare kinds))
+      inl (on_blocks t.0 names, (are, are_files names bare kinds))
   | inr (inl t) ↦
       let are : word ∷ in_table_order word flags ++ names ≡ codes "drive" ∷ way_flags t.0 ++ names = ap₂ (λ w xs. w ∷ xs ++ names) t.1 t.2 in
       drive_line (word ∷ in_table_order word flags ++ names) t.0 names are bare
       (sym (drive_fault t.0 names bare) ∙ ap (fault_of line_app) (sym are) ∙ taken)
-  | inr (inr other) ↦ absurd (other_refused word (in_table_order word flags ++ names) dash other taken)
+  | inr (inr (inl t)) ↦
+      let are : word ∷ in_table_order word flags ++ names ≡ codes "generate" ∷ names = ap₂ (λ w xs. w ∷ xs ++ names) t.0 t.1 in
+      generate_line (word ∷ in_table_order word flags ++ names) names are bare
+      (sym (generate_fault names bare) ∙ ap (fault_of line_app) (sym are) ∙ taken)
+  | inr (inr (inr other)) ↦ absurd (other_refused word (in_table_order word flags ++ names) dash other taken)
 ]
 
 empty_refused : IsTaken [] → ⊥
 unfolding clap_on_literals
 empty_refused e = some_kind [] kind.MissingSubcommand e
 
-pub plain_line : (words : List Text) → is_plain words ≡ true → IsTaken (moved words) → (asked : Asked) × IsLine (moved words) asked
+pub plain_line : (words : List Text) → is_plain words ≡ true → IsTaken (moved words) → LineOrCount (moved words)
 plain_line [] plain taken = absurd (empty_refused taken)
 plain_line (word ∷ rest) plain taken =
     let parts = both (is_bare word) (are_flags_of word (filter is_dashed rest)) plain in

@@ -10,12 +10,15 @@ use Rattle.clap.specs.declared.error.kind.ErrorKind.TheVariants as kind
 use Rattle.pw_words.specs.declared.command.Task.{Task}
 use Rattle.pw_words.specs.declared.command.Task.TheVariants.{Show, ShowAsJson, Rewrite, Check}
 use Rattle.pw_words.specs.declared.command.Way.{Way}
-use Rattle.pw_words.specs.Stated.{IsTaken, is_used}
-use Rattle.pw_words.specs.Words.{AreStated, Asked, Say, SayTask, command_name, task_name}
-use Rattle.pw_words.specs.Words.Asked.{drive, on_blocks}
-use Rattle.pw_words.specs.inner.Reading.{CanSay, IsOnBlocks}
-use Rattle.pw_words.proofs.Bounds.{HasFew, drive_bound, script_bound, stated_first, stated_values, task_bound}
+use Rattle.pw_words.specs.Stated.{Enters, IsTaken, is_used}
+use Rattle.pw_words.specs.Words.{AreMiscounted, AreStated, Asked, IsCount, Say, SayTask, command_name, task_name}
+use Rattle.pw_words.specs.Words.Asked.{drive, generate, on_blocks}
+use Rattle.pw_words.specs.inner.Reading.{CanSay, IsOnBlocks, IsUncounted}
+use Rattle.pw_words.proofs.Bounds.{HasFew, count_bound, drive_bound, script_bound, stated_first, stated_values, task_bound}
+use Rattle.pw_words.proofs.Counts.{counted}
 use Rattle.pw_words.proofs.Driving.{drive_leaf}
+use Rattle.pw_words.proofs.Generating.{generate_leaf}
+use Rattle.pw_words.proofs.Getters.{inside}
 use Rattle.pw_words.proofs.Kept.{level_parts, some_kind}
 use Rattle.pw_words.proofs.Levels.{leaf_name, task_leaf}
 use Rattle.pw_words.proofs.Subcommands.{IsLeaf, Met, met}
@@ -59,20 +62,34 @@ drive_names rest free =
       stated_values (codes "blocks") HasFew rows there.1 (drive_bound rest free),
     )
 
+-- the number of clusters, as it is written
+abbrev pub Count : List Row → Type 0
+Count rows = (word : Text) × (first_of (codes "count") rows ≡ Some word)
+
+count_word : (rest : List Text) → level_fault generate_leaf [] nothing_held rest false [] ≡ []
+    → Count (rows_after generate_leaf.rules [] rest)
+count_word rest free =
+    let rows = rows_after generate_leaf.rules [] rest in
+    stated_first (codes "count") rows (one_required (is_given (codes "count") rows) (level_parts generate_leaf rest free).2)
+    (count_bound rest free)
+
 -- ---- the matches of a parse
 
 abbrev pub rows_met : {words : List Text} → Met words → List Row
 rows_met m = rows_after m.s.rules [] m.rest
 
--- those of a task, and of `drive`
+-- those of a task, of `drive`, and of `generate`
 abbrev IsTask : List Row → Text → Type 0
 IsTask rows name = (task : Task) × (name ≡ task_name task) × Files rows
 
 abbrev IsDrive : List Row → Text → Type 0
 IsDrive rows name = (name ≡ codes "drive") × Script rows × Files rows
 
+abbrev IsGenerate : List Row → Text → Type 0
+IsGenerate rows name = (name ≡ codes "generate") × Count rows
+
 abbrev Has : Text → List Row → Type 0
-Has name rows = IsTask rows name ⊎ IsDrive rows name
+Has name rows = IsTask rows name ⊎ (IsDrive rows name ⊎ IsGenerate rows name)
 
 has_met : {words : List Text} (m : Met words) → Has m.s.name (rows_met m)
 has_met m = go m.s m.leaf m.free
@@ -82,14 +99,16 @@ has_met m = go m.s m.leaf m.free
 
     go : (s : Shape) → IsLeaf s → AtLeaf s
     go s (inl l) = subst AtLeaf (sym l.1) (λ free. inl (l.0, leaf_name l.0, task_files l.0 m.rest free))
-    go s (inr e) = subst AtLeaf (sym e) (λ free. (let names = drive_names m.rest free in inr (refl, names.0, names.1)))
+    go s (inr (inl e)) = subst AtLeaf (sym e) (λ free. (let names = drive_names m.rest free in inr (inl (refl, names.0, names.1))))
+    go s (inr (inr e)) = subst AtLeaf (sym e) (λ free. inr (inr (refl, count_word m.rest free)))
 
-files_in : (name : Text) (rows : List Row) → Has name rows → Files rows
-files_in name rows (inl h) = h.2
-files_in name rows (inr h) = h.2
+files_in : (name : Text) (rows : List Row) → (name ≡ codes "generate" → ⊥) → Has name rows → Files rows
+files_in name rows other (inl h) = h.2
+files_in name rows other (inr (inl h)) = h.2
+files_in name rows other (inr (inr h)) = absurd (other h.0)
 
-pub files_met : {words : List Text} (m : Met words) → Files (rows_met m)
-files_met m = files_in m.s.name (rows_met m) (has_met m)
+pub files_met : {words : List Text} (m : Met words) → (m.s.name ≡ codes "generate" → ⊥) → Files (rows_met m)
+files_met m other = files_in m.s.name (rows_met m) other (has_met m)
 
 known_task : (task : Task) → IsOnBlocks (task_name task)
 known_task Show = inl refl
@@ -104,13 +123,35 @@ not_drive ShowAsJson e = true≢false (sym (ap (λ n. bytes_eq n (codes "drive")
 not_drive Rewrite e = true≢false (sym (ap (λ n. bytes_eq n (codes "drive")) e))
 not_drive Check e = true≢false (sym (ap (λ n. bytes_eq n (codes "drive")) e))
 
+-- nor by `generate`
+pub not_generate : (task : Task) → task_name task ≡ codes "generate" → ⊥
+not_generate Show e = true≢false (sym (ap (λ n. bytes_eq n (codes "generate")) e))
+not_generate ShowAsJson e = true≢false (sym (ap (λ n. bytes_eq n (codes "generate")) e))
+not_generate Rewrite e = true≢false (sym (ap (λ n. bytes_eq n (codes "generate")) e))
+not_generate Check e = true≢false (sym (ap (λ n. bytes_eq n (codes "generate")) e))
+
+pub drive_not_generate : codes "drive" ≡ codes "generate" → ⊥
+drive_not_generate e = true≢false (sym (ap (λ n. bytes_eq n (codes "generate")) e))
+
 can_say_of : (name : Text) (rows : List Row) → Has name rows → CanSay name rows
 can_say_of name rows (inl h) = record {
   known = inl (subst IsOnBlocks (sym h.1) (known_task h.0));
-  blocks = ap is_some h.2.1;
+  blocks = λ _. ap is_some h.2.1;
   script = λ e. absurd (not_drive h.0 (sym h.1 ∙ e));
+  count = λ e. absurd (not_generate h.0 (sym h.1 ∙ e));
 }
-can_say_of name rows (inr h) = record { known = inr h.0; blocks = ap is_some h.2.1; script = λ e. ap is_some h.1.1 }
+can_say_of name rows (inr (inl h)) = record {
+  known = inr (inl h.0);
+  blocks = λ _. ap is_some h.2.1;
+  script = λ _. ap is_some h.1.1;
+  count = λ e. absurd (drive_not_generate (sym h.0 ∙ e));
+}
+can_say_of name rows (inr (inr h)) = record {
+  known = inr (inr h.0);
+  blocks = λ other. absurd (other h.0);
+  script = λ e. absurd (drive_not_generate (sym e ∙ h.0));
+  count = λ _. ap is_some h.1.1;
+}
 
 pub can_say : {words : List Text} (m : Met words) → CanSay m.s.name (rows_met m)
 can_say m = can_say_of m.s.name (rows_met m) (has_met m)
@@ -130,25 +171,51 @@ said_task ShowAsJson rows = show_task rows
 said_task Rewrite rows = (Rewrite, refl, tt)
 said_task Check rows = (Check, refl, tt)
 
--- what matches say is asked for
-said_by : (name : Text) (rows : List Row) → Has name rows → (asked : Asked) × (command_name asked ≡ name) × Say rows asked
+-- what matches say is asked for, unless they are those of `generate` and say no number of clusters
+abbrev Said : Text → List Row → Type 0
+Said name rows = ((asked : Asked) × (command_name asked ≡ name) × Say rows asked) ⊎ IsUncounted name rows
+
+said_count : (name : Text) (rows : List Row) → IsGenerate rows name → Said name rows
+said_count name rows h = elim (counted h.1.0) [
+  | inl is ↦ inl (generate is.0, sym h.0, (h.1.0, h.1.1, is.1))
+  | inr none ↦ inr (record {
+    generates = h.0;
+    unsaid = λ n said. none n (subst (λ (w : Text). IsCount w n) (inside said.0 h.1.0 (sym said.1 ∙ h.1.1)) said.2);
+  })
+]
+
+said_by : (name : Text) (rows : List Row) → Has name rows → Said name rows
 said_by name rows (inl h) =
     let said = said_task h.0 rows in
-    (on_blocks said.0 h.2.0, said.1 ∙ sym h.1, (said.2, h.2.1))
-said_by name rows (inr h) =
+    inl (on_blocks said.0 h.2.0, said.1 ∙ sym h.1, (said.2, h.2.1))
+said_by name rows (inr (inl h)) =
     let way : Way = record { serial = is_used (codes "serial") rows; step = is_used (codes "step") rows } in
-    (drive way h.1.0 h.2.0, sym h.0, ((refl, refl), h.1.1, h.2.1))
+    inl (drive way h.1.0 h.2.0, sym h.0, ((refl, refl), h.1.1, h.2.1))
+said_by name rows (inr (inr h)) = said_count name rows h
 
--- `clap` states something of words that it takes
-pub stated_of : (words : List Text) → IsTaken words → (asked : Asked) × AreStated words asked
+-- words that are taken as those of `generate`, of no number of clusters
+pub miscounted : {words : List Text} (name : Text) (rows : List Row) → IsTaken words → Enters words name rows → IsUncounted name rows
+    → AreMiscounted words
+miscounted name rows taken command none = record {
+  rows = rows;
+  taken = taken;
+  command = command ∙ ap (λ n. Some (n, rows)) none.generates;
+  unsaid = none.unsaid;
+}
+
+-- `clap` states something of words that it takes, unless they are those of `generate` and tell no number of clusters
+pub stated_of : (words : List Text) → IsTaken words → ((asked : Asked) × AreStated words asked) ⊎ AreMiscounted words
 stated_of words taken =
     let m = met words taken in
-    let said = said_by m.s.name (rows_met m) (has_met m) in (
-      said.0,
-      record {
-        rows = rows_met m;
-        taken = taken;
-        command = m.command ∙ ap (λ n. Some (n, rows_met m)) (sym said.1);
-        said = said.2;
-      },
-    )
+    elim (said_by m.s.name (rows_met m) (has_met m)) [
+      | inl said ↦ inl (
+        said.0,
+        record {
+          rows = rows_met m;
+          taken = taken;
+          command = m.command ∙ ap (λ n. Some (n, rows_met m)) (sym said.1);
+          said = said.2;
+        },
+      )
+      | inr none ↦ inr (miscounted m.s.name (rows_met m) taken m.command none)
+    ]

@@ -1,15 +1,17 @@
 -- A line of the table asks for itself, and so does one whose flags stand among the names.
-use Rattle.std.proofs.Common.{◌≡◌, ◌∙◌, ◌∷◌, ◌++◌, ◌&&◌, ◌⊎◌, inl, inr, Bool, true, false, refl, sym, ap, ap₂, subst, List, [], codes}
+use Rattle.std.proofs.Common.{◌≡◌, ◌∙◌, ◌∷◌, ◌++◌, ◌&&◌, ◌⊎◌, ◌≤◌, inl, inr, ℕ, Bool, true, false, refl, sym, ap, ap₂, subst}
+use Rattle.std.proofs.Common.{List, [], codes, decimal}
 use Rattle.std.specs.Prelude.{reverse}
 use Rattle.std.specs.List.{filter}
 use Rattle.clap.specs.Walk.{Text}
 use Rattle.pw_words.specs.declared.command.Task.{Task}
 use Rattle.pw_words.specs.declared.command.Task.TheVariants.{Show, ShowAsJson, Rewrite, Check}
 use Rattle.pw_words.specs.declared.command.Way.{Way}
-use Rattle.pw_words.specs.Words.{AreFiles, AskFor, Asked, IsLine, are_bare, are_flags_of, in_table_order, is_bare, is_dashed, task_flags}
-use Rattle.pw_words.specs.Words.{task_name, way_flags}
-use Rattle.pw_words.specs.Words.Asked.{drive, on_blocks}
+use Rattle.pw_words.specs.Words.{AreFiles, AskFor, Asked, IsCount, IsLine, are_bare, are_flags_of, in_table_order, is_bare, is_dashed}
+use Rattle.pw_words.specs.Words.{task_flags, task_name, way_flags}
+use Rattle.pw_words.specs.Words.Asked.{drive, generate, on_blocks}
 use Rattle.pw_words.proofs.Asking.{plain_asks}
+use Rattle.pw_words.proofs.Counts.{bare_count}
 use Rattle.pw_words.proofs.Driving.{flags_by}
 use Rattle.pw_words.proofs.Lines.{bare_filtered, bare_names}
 use Rattle.pw_words.proofs.Walked.{bare_parts}
@@ -64,6 +66,15 @@ pub flag_asks : (before after : List Text) → AreFiles (before ++ after)
 flag_asks before after are =
     let parts = flag_moved before after are.bare in
     task_asks ShowAsJson (before ++ codes "--json" ∷ after) (before ++ after) parts.0 parts.1 are
+
+-- ---- `generate`
+
+pub generate_asks : (count : ℕ) → 1 ≤ count → count ≤ 32 → AskFor (codes "generate" ∷ decimal count ∷ []) (generate count)
+generate_asks count some few =
+    let is : IsCount (decimal count) count = record { digits = inl refl; some = some; few = few } in
+    let bare = bare_names (decimal count) [] (bare_count (decimal count) count is) refl in
+    parted_asks (codes "generate") (decimal count ∷ []) [] (decimal count ∷ []) (generate count) refl
+    (none_dashed (decimal count ∷ []) bare) (all_bare (decimal count ∷ []) bare) refl (decimal count, refl, is)
 
 -- ---- `drive`
 

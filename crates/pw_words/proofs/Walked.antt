@@ -79,7 +79,7 @@ bare_parts f fs = go (is_dashed f)
 
 module _ (s : Shape) (p : ℕ) where
   -- the turn of a bare word where nothing waits is that of its positional
-  bare_turn : (w : Walk) (word : Text) → w.stopped ≡ None → w.is_trailing ≡ false → subcommand_met [] w.waiting word ≡ None
+  pub bare_turn : (w : Walk) (word : Text) → w.stopped ≡ None → w.is_trailing ≡ false → subcommand_met [] w.waiting word ≡ None
       → plain_word s.rules w.waiting word w.held ≡ (w.held, value)
       → is_dashed word ≡ false → turn_fault s [] w word ≡ step_fault s w.position w.held value
   bare_turn w word go_on ahead none plain bare =

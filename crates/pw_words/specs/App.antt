@@ -33,6 +33,10 @@ way_app = with_rule (with_rule (new_app (codes "drive")) (flag_rule (codes "seri
 abbrev pub drive_app : App
 drive_app = with_rule (with_rule way_app (word_rule (codes "script"))) blocks_rule
 
+-- `generate N`
+abbrev pub generate_app : App
+generate_app = with_rule (new_app (codes "generate")) (word_rule (codes "count"))
+
 -- no subcommand yet; no help, no version, and no name of the program before the words
 abbrev pub bare_app : App
 bare_app = record {
@@ -50,6 +54,8 @@ bare_app = record {
 abbrev pub line_app : App
 line_app = with_subcommand
     (with_subcommand
+    (with_subcommand
     (with_subcommand (with_subcommand bare_app show_app.top) (blocks_app (codes "rewrite")).top)
     (blocks_app (codes "check")).top)
-    drive_app.top
+    drive_app.top)
+    generate_app.top

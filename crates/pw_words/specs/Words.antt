@@ -1,5 +1,5 @@
 -- The words of a command line, without the program's name, and what they ask for.
-use Rattle.std.specs.Prelude.{◌≡◌, ◌≤◌, ◌==◌, ◌&&◌, Bool, true, false, not, String}
+use Rattle.std.specs.Prelude.{◌≡◌, ◌≤◌, ◌==◌, ◌&&◌, ◌⊎◌, ◌+◌, ◌/◌, ◌%◌, ℕ, Bool, true, false, not, String, decimal}
 use Rattle.std.specs.Prelude.{List, [], ◌∷◌, ◌++◌, length, map, Some, codes, if◌then◌else◌}
 use Rattle.std.specs.List.{filter, list_any}
 use Rattle.std.specs.Str.{bytes_eq}
@@ -21,6 +21,8 @@ pub data Asked : Type 0 where
   on_blocks : Task → List Text → Asked
   -- a script run in this way: the name of its file, and those of the blocks' files
   drive : Way → Text → List Text → Asked
+  -- a machine of so many clusters and a load for it, driven
+  generate : ℕ → Asked
 
 -- # The table of commands
 
@@ -63,12 +65,19 @@ pub record AreFiles (files : List Text) : Type 0 where
   pub some : 1 ≤ length files
   pub few : length files ≤ 64
 
+-- The word is a number of clusters, from 1 to 32: in decimal, or in two digits, of which the first may be 0.
+pub record IsCount (word : Text) (count : ℕ) : Type 0 where
+  pub digits : (word ≡ decimal count) ⊎ (word ≡ (48 + count / 10) ∷ (48 + count % 10) ∷ [])
+  pub some : 1 ≤ count
+  pub few : count ≤ 32
+
 -- The words are a line of the table: `show BLOCK..`, `show --json BLOCK..`, `rewrite BLOCK..`, `check BLOCK..`,
--- `drive [--serial] [--step] SCRIPT BLOCK..`.
+-- `drive [--serial] [--step] SCRIPT BLOCK..`, `generate N`.
 abbrev pub IsLine : List Text → Asked → Type 0
 IsLine words (on_blocks task blocks) = (words ≡ task_name task ∷ task_flags task ++ blocks) × AreFiles blocks
 IsLine words (drive way script blocks) =
     (words ≡ codes "drive" ∷ way_flags way ++ script ∷ blocks) × (is_dashed script ≡ false) × AreFiles blocks
+IsLine words (generate count) = (word : Text) × (words ≡ codes "generate" ∷ word ∷ []) × IsCount word count
 
 -- # Plain words: those whose flags may stand anywhere behind the first word
 
@@ -116,12 +125,14 @@ SayWay rows way = (is_used (codes "serial") rows ≡ way.serial) × (is_used (co
 abbrev pub command_name : Asked → Text
 command_name (on_blocks task blocks) = task_name task
 command_name (drive way script blocks) = codes "drive"
+command_name (generate count) = codes "generate"
 
--- the matches of the subcommand have what is asked for: the task or the way, and the names of the files
+-- the matches of the subcommand have what is asked for: the task or the way, and the names of the files; or the number of clusters
 abbrev pub Say : List Row → Asked → Type 0
 Say rows (on_blocks task blocks) = SayTask rows task × (all_of (codes "blocks") rows ≡ Some blocks)
 Say rows (drive way script blocks) =
     SayWay rows way × (first_of (codes "script") rows ≡ Some script) × (all_of (codes "blocks") rows ≡ Some blocks)
+Say rows (generate count) = (word : Text) × (first_of (codes "count") rows ≡ Some word) × IsCount word count
 
 -- `clap` takes the words, and states this of them: the subcommand, its flags and its arguments.
 pub record AreStated (words : List Text) (asked : Asked) : Type 0 where
@@ -129,6 +140,13 @@ pub record AreStated (words : List Text) (asked : Asked) : Type 0 where
   pub taken : IsTaken words
   pub command : Enters words (command_name asked) rows
   pub said : Say rows asked
+
+-- `clap` takes the words, and states of them that they ask for `generate`, but of no number of clusters.
+pub record AreMiscounted (words : List Text) : Type 0 where
+  pub rows : List Row
+  pub taken : IsTaken words
+  pub command : Enters words (codes "generate") rows
+  pub unsaid : (count : ℕ) → Say rows (generate count) → ⊥
 
 -- # What words ask for
 

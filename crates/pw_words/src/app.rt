@@ -2,7 +2,7 @@ ghost use Rattle.std.specs.Prelude.{◌≡◌, IfOk, false};
 ghost use Rattle.clap.specs.Words.{app_of, rule_of, with_subcommand};
 ghost use Rattle.clap.specs.declared.builder.command.Command.TheViews.{out-Command as fields_of};
 ghost use Rattle.pw_words.specs.App.{bare_app, blocks_app, blocks_rule, drive_app, flag_rule};
-ghost use Rattle.pw_words.specs.App.{line_app, show_app, way_app, word_rule};
+ghost use Rattle.pw_words.specs.App.{generate_app, line_app, show_app, way_app, word_rule};
 
 use clap::{Arg, ArgAction, Command};
 use std::alloc::{AllocError, Global};
@@ -64,6 +64,14 @@ fn drive<'a>(alloc: Global) -> Result<Command<'a>, AllocError>
         .arg(blocks(alloc))
 }
 
+/// `generate N`.
+fn generate<'a>(alloc: Global) -> Result<Command<'a>, AllocError>
+    ensures { IfOk result (λ c. (app_of c ≡ generate_app)
+        × ((fields_of c).has_globals ≡ false)) }
+{
+    Command::new(alloc, "generate").arg(word(alloc, "count"))
+}
+
 /// The command with no subcommand yet.
 fn bare<'a>(alloc: Global) -> Command<'a>
     ensures app { app_of result ≡ bare_app }
@@ -95,5 +103,6 @@ pub(crate) fn line<'a>(alloc: Global) -> Result<Command<'a>, AllocError>
     let command = with(bare(alloc), show(alloc)?)?;
     let command = with(command, on_blocks(alloc, "rewrite")?)?;
     let command = with(command, on_blocks(alloc, "check")?)?;
-    with(command, drive(alloc)?)
+    let command = with(command, drive(alloc)?)?;
+    with(command, generate(alloc)?)
 }

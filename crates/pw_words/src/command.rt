@@ -1,7 +1,7 @@
-ghost use Rattle.std.specs.Prelude.{◌≡◌, false, MatchResult};
+ghost use Rattle.std.specs.Prelude.{◌≡◌, ◌⊎◌, false, MatchResult};
 ghost use Rattle.pw_words.specs.Command.{asked_of};
 ghost use Rattle.pw_words.specs.Stated.{IsRefused, IsTaken};
-ghost use Rattle.pw_words.specs.Words.{AskFor, IsCommand, is_plain, texts};
+ghost use Rattle.pw_words.specs.Words.{AreMiscounted, AskFor, IsCommand, is_plain, texts};
 ghost use Rattle.pw_words.specs.declared.command.WordsFault.TheVariants.{Memory, Refused};
 
 use crate::matches::stated;
@@ -46,6 +46,11 @@ pub enum Command<'a> {
         script: &'a str,
         blocks: Vec<&'a str>,
     },
+    /// `generate N`: a machine of N clusters and a load for it, driven; a summary is printed. N is
+    /// 1 to 32.
+    Generate {
+        count: u32,
+    },
 }
 
 /// Why words give no command.
@@ -78,9 +83,11 @@ where
     ensures read { MatchResult result (λ c. AskFor (texts words.now) (asked_of c))
         (λ e. e ≡ Refused → IsCommand (texts words.now) → ⊥) }
     // Words that aren't plain are refused exactly where `clap` has an error for them, and so only
-    // where it doesn't state that it takes them.
+    // where it doesn't state that it takes them, or where it states of them that they ask for
+    // `generate`, but of no number of clusters.
     ensures taken { is_plain (texts words.now) ≡ false → MatchResult result
-        (λ _. IsTaken (texts words.now)) (λ e. e ≡ Refused → IsRefused (texts words.now)) }
+        (λ _. IsTaken (texts words.now) × (AreMiscounted (texts words.now) → ⊥))
+        (λ e. e ≡ Refused → IsRefused (texts words.now) ⊎ AreMiscounted (texts words.now)) }
 {
     *room = in_order(alloc, words)?;
     stated(alloc, room.as_slice())

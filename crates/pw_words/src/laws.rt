@@ -1,12 +1,12 @@
-ghost use Rattle.std.specs.Prelude.{◌≡◌, ◌≤◌, ◌↔◌, ◌∷◌, ◌++◌, ◌⊎◌, [], false, true, codes, length};
-ghost use Rattle.std.specs.Prelude.{List, reverse};
+ghost use Rattle.std.specs.Prelude.{◌≡◌, ◌≤◌, ◌↔◌, ◌∷◌, ◌++◌, ◌⊎◌, [], ℕ, false, true, codes};
+ghost use Rattle.std.specs.Prelude.{List, decimal, length, reverse};
 ghost use Rattle.std.specs.List.{filter};
 ghost use Rattle.std.specs.List.Sorted.{IsPermutation};
 ghost use Rattle.clap.specs.Words.{Text};
 ghost use Rattle.pw_words.specs.Stated.{IsTaken};
-ghost use Rattle.pw_words.specs.Words.{AreFiles, AskFor, Asked, IsCommand, is_bare, is_dashed};
-ghost use Rattle.pw_words.specs.Words.{is_plain, moved, task_flags, task_name, way_flags};
-ghost use Rattle.pw_words.specs.Words.Asked.{drive, on_blocks};
+ghost use Rattle.pw_words.specs.Words.{AreFiles, AreMiscounted, AskFor, Asked, IsCommand, is_bare};
+ghost use Rattle.pw_words.specs.Words.{is_dashed, is_plain, moved, task_flags, task_name, way_flags};
+ghost use Rattle.pw_words.specs.Words.Asked.{drive, generate, on_blocks};
 ghost use Rattle.pw_words.specs.declared.command.Task.{Task as task_type};
 ghost use Rattle.pw_words.specs.declared.command.Task.TheVariants.{Show, ShowAsJson};
 ghost use Rattle.pw_words.specs.declared.command.Way.{Way as way_type};
@@ -24,6 +24,12 @@ pub fn few_blocks()
         AskFor words (drive way script blocks) → (1 ≤ length blocks) × (length blocks ≤ 64) }
 {}
 
+/// A machine to generate has 1 to 32 clusters.
+pub fn few_clusters()
+    ensures { (words : List Text) (count : ℕ) →
+        AskFor words (generate count) → (1 ≤ count) × (count ≤ 32) }
+{}
+
 /// A line of the table asks for itself, and so does one whose flags stand among the names.
 pub fn usual_line()
     ensures line { (task : task_type) (blocks : List Text) → AreFiles blocks →
@@ -39,6 +45,8 @@ pub fn usual_line()
         AreFiles blocks → filter is_bare rest ≡ script ∷ blocks →
         (filter is_dashed rest ≡ way_flags way) ⊎ (filter is_dashed rest ≡ reverse (way_flags way)) →
         AskFor (codes "drive" ∷ rest) (drive way script blocks) }
+    ensures generate { (count : ℕ) → 1 ≤ count → count ≤ 32 →
+        AskFor (codes "generate" ∷ decimal count ∷ []) (generate count) }
 {}
 
 /// Plain words whose flags are moved are the same words in another order.
@@ -46,13 +54,16 @@ pub fn same_words()
     ensures { (words : List Text) → is_plain words ≡ true → IsPermutation words (moved words) }
 {}
 
-/// Words that aren't plain are a command exactly where `clap` takes them.
+/// Words that aren't plain are a command exactly where `clap` takes them, unless it states of them
+/// that they ask for `generate`, but of no number of clusters.
 pub fn taken_words()
-    ensures { (words : List Text) → is_plain words ≡ false → IsCommand words ↔ IsTaken words }
+    ensures { (words : List Text) → is_plain words ≡ false →
+        IsCommand words ↔ (IsTaken words × (AreMiscounted words → ⊥)) }
 {}
 
 /// Of words that aren't plain: behind `--` a file's name may begin with a hyphen, but a flag ends
-/// the names that stand before it, and none may be given twice.
+/// the names that stand before it, and none may be given twice. A number of clusters is one behind
+/// `--` too.
 pub fn other_words()
     ensures behind { AskFor (codes "show" ∷ codes "--" ∷ codes "--json" ∷ [])
         (on_blocks Show (codes "--json" ∷ [])) }
@@ -63,4 +74,6 @@ pub fn other_words()
         (drive (record { serial = false; step = true }) (codes "--serial") (codes "-b" ∷ [])) }
     ensures twice { IsCommand (codes "drive" ∷ codes "--step" ∷ codes "--step" ∷ codes "s"
         ∷ codes "b" ∷ []) → ⊥ }
+    ensures count { AskFor (codes "generate" ∷ codes "--" ∷ codes "32" ∷ []) (generate 32) }
+    ensures many { IsCommand (codes "generate" ∷ codes "--" ∷ codes "33" ∷ []) → ⊥ }
 {}

@@ -3,9 +3,12 @@
 
 mod app;
 mod command;
+mod count;
 mod laws;
 mod matches;
 mod order;
 
 pub use command::{Command, Task, Way, WordsFault, command_of};
-pub use laws::{few_blocks, one_command, other_words, same_words, taken_words, usual_line};
+pub use laws::{
+    few_blocks, few_clusters, one_command, other_words, same_words, taken_words, usual_line,
+};

@@ -1,14 +1,16 @@
-ghost use Rattle.std.specs.Prelude.{◌≡◌, true, codes, is_some, IfOk, Some};
+ghost use Rattle.std.specs.Prelude.{◌≡◌, ℕ, true, codes, is_some, IfOk, MatchResult, Some};
 ghost use Rattle.clap.specs.Words.{all_of, first_of, found_of, kind_of, rows_of};
 ghost use Rattle.clap.specs.declared.error.kind.ErrorKind.TheVariants.{OutOfMemory};
 ghost use Rattle.pw_words.specs.Command.{asked_of, slice_texts};
 ghost use Rattle.pw_words.specs.Stated.{from_words, is_used};
 ghost use Rattle.pw_words.specs.Words.{Say, SayTask, SayWay, command_name, task_name};
+ghost use Rattle.pw_words.specs.Words.Asked.{generate};
 ghost use Rattle.pw_words.specs.declared.command.WordsFault.TheVariants.{Refused};
-ghost use Rattle.pw_words.specs.inner.Reading.{CanSay, IsOnBlocks, Reads};
+ghost use Rattle.pw_words.specs.inner.Reading.{CanSay, IsOnBlocks, IsUncounted, Reads};
 
 use crate::app::line;
 use crate::command::{Command, Task, Way, WordsFault};
+use crate::count::count_of;
 use clap::error::ErrorKind;
 use clap::parser::ValueSource;
 use clap::{ArgMatches, Error};
@@ -40,13 +42,13 @@ fn blocks_in<'a>(alloc: Global, matches: &ArgMatches<'a>) -> Result<Vec<&'a str>
     }
 }
 
-/// The name of the script's file that the matches have.
-fn script_in<'a>(matches: &ArgMatches<'a>) -> &'a str
-    requires { is_some (first_of (codes "script") (rows_of (found_of matches.now))) ≡ true }
-    ensures { first_of (codes "script") (rows_of (found_of matches.now)) ≡ Some result.now }
+/// The word that the matches have for an argument.
+fn word_in<'a>(matches: &ArgMatches<'a>, id: &str) -> &'a str
+    requires { is_some (first_of id.now (rows_of (found_of matches.now))) ≡ true }
+    ensures { first_of id.now (rows_of (found_of matches.now)) ≡ Some result.now }
 {
-    match matches.get_str("script") {
-        Some(script) => script,
+    match matches.get_str(id) {
+        Some(word) => word,
         None => unreachable!(),
     }
 }
@@ -107,9 +109,23 @@ fn drive_in<'a>(alloc: Global, matches: &ArgMatches<'a>) -> Result<Command<'a>, 
 {
     Ok(Command::Drive {
         way: way_in(matches),
-        script: script_in(matches),
+        script: word_in(matches, "script"),
         blocks: blocks_in(alloc, matches)?,
     })
+}
+
+/// A machine to generate, by the matches of `generate`.
+fn generate_in<'a>(matches: &ArgMatches<'a>) -> Result<Command<'a>, WordsFault>
+    requires { is_some (first_of (codes "count") (rows_of (found_of matches.now))) ≡ true }
+    ensures { MatchResult result (λ c. (command_name (asked_of c) ≡ codes "generate")
+        × Say (rows_of (found_of matches.now)) (asked_of c))
+        (λ e. (e ≡ Refused)
+        × ((count : ℕ) → Say (rows_of (found_of matches.now)) (generate count) → ⊥)) }
+{
+    match count_of(word_in(matches, "count")) {
+        Some(count) => Ok(Command::Generate { count }),
+        None => Err(WordsFault::Refused),
+    }
 }
 
 /// The command of the subcommand of this name, by its matches.
@@ -117,14 +133,16 @@ fn command_in<'a>(
     alloc: Global,
     name: &str,
     matches: &ArgMatches<'a>,
-) -> Result<Command<'a>, AllocError>
+) -> Result<Command<'a>, WordsFault>
     requires { CanSay name.now (rows_of (found_of matches.now)) }
-    ensures { IfOk result (λ c. (command_name (asked_of c) ≡ name.now)
-        × Say (rows_of (found_of matches.now)) (asked_of c)) }
+    ensures { MatchResult result (λ c. (command_name (asked_of c) ≡ name.now)
+        × Say (rows_of (found_of matches.now)) (asked_of c))
+        (λ e. e ≡ Refused → IsUncounted name.now (rows_of (found_of matches.now))) }
 {
     match name {
-        "drive" => drive_in(alloc, matches),
-        _ => on_blocks_in(alloc, name, matches),
+        "drive" => Ok(drive_in(alloc, matches)?),
+        "generate" => generate_in(matches),
+        _ => Ok(on_blocks_in(alloc, name, matches)?),
     }
 }
 
@@ -148,7 +166,7 @@ pub(crate) fn stated<'a>(alloc: Global, words: &'a [&'a str]) -> Result<Command<
         Err(error) => return Err(fault_from(&error)),
     };
     match matches.subcommand() {
-        Some((name, inner)) => Ok(command_in(alloc, name, inner)?),
+        Some((name, inner)) => command_in(alloc, name, inner),
         None => unreachable!(),
     }
 }

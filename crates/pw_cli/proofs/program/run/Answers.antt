@@ -6,8 +6,12 @@ use Rattle.pw_ends.specs.Seen.{all_seen}
 use Rattle.pw_cli.specs.Runs.{words_line}
 use Rattle.pw_cli.specs.Runs.EndsBy.{commanded}
 use Rattle.pw_cli.proofs.Complete.{complete_of, refused_so}
+use Rattle.pw_cli.proofs.Obeying.{within_of}
 use Rattle.pw_cli.proofs.Spared.{spared_of}
 use Rattle.pw_cli.proofs.program.run.Goals as goal
+
+pub obey-requires : goal.obey-requires
+obey-requires g c = within_of (texts c.args.words.now) (asked_of c.in-Ok.command) c.in-Ok.ensures.read
 
 pub returns-in-Ok-clause-ran : goal.returns-in-Ok-clause-ran
 returns-in-Ok-clause-ran g c = ended_as (λ text line way. commanded (asked_of c.in-Ok.command) c.in-Ok.ensures.read way) c.obey.ensures.obeyed

@@ -1,4 +1,5 @@
 use Rattle.std.proofs.Common.{◌≡◌, ◌∙◌, inl, inr, refl, ap, sym, subst, true, List, Some, option_map}
+use Rattle.std.proofs.lemmas.Result.{MatchResult-weaker}
 use Rattle.clap.specs.Words.{kind_of, found_of, rows_of, subcommand_of}
 use Rattle.clap.specs.Walk.{Row, Text}
 use Rattle.clap.specs.Kinds.{IsAmong}
@@ -10,7 +11,7 @@ use Rattle.pw_words.specs.Command.{slice_texts}
 use Rattle.pw_words.specs.inner.Reading.{CanSay}
 use Rattle.pw_words.proofs.Getters.{inside, subcommand_is}
 use Rattle.pw_words.proofs.Subcommands.{met}
-use Rattle.pw_words.proofs.Present.{can_say}
+use Rattle.pw_words.proofs.Present.{can_say, miscounted}
 use Rattle.pw_words.proofs.matches.stated.Goals as goal
 
 line_is_simple : is_simple line_app ≡ true
@@ -23,13 +24,13 @@ pub returns-in-Err : goal.returns-in-Err
 returns-in-Err c =
     let words = slice_texts c.args.words.now in
     let app = c.in_ok-line.ensures in
-    λ refused. record {
+    λ refused. inl (record {
       untaken = λ none. elim (c.in-Err.ensures.kinds (ap is_simple_and_free app ∙ line_is_free)) [
         | inl memory ↦ absurd (c.fault_from.ensures refused memory)
         | inr among ↦ subst (λ k. IsAmong (kind_of c.in-Err.error) k) (ap (λ a. fault_of a words) app ∙ none) among
       ];
       unstated = λ taken. c.fault_from.ensures refused (c.in-Err.ensures.passes (ap (λ a. takes a words) app ∙ taken));
-    }
+    })
 
 pub command_in-requires : goal.command_in-requires
 command_in-requires c =
@@ -53,10 +54,12 @@ returns c =
     ∙ subcommand_is c.in-Ok.matches c.in-Some.name.now rows
     (sym (ap (option_map (λ p. p.0.now)) c.in-Some.is) ∙ c.subcommand.ensures.name)
     (sym (ap (option_map (λ p. rows_of (found_of p.1.now))) c.in-Some.is) ∙ c.subcommand.ensures.rows) in
-    let command = c.in_ok-command_in-in-Some.ensures in
-    record {
+    let free = sym (ap (λ a. fault_of a words) app) ∙ c.in-Ok.ensures.kinds (ap is_simple_and_free app ∙ line_is_free) in
+    MatchResult-weaker c.command_in.result c.command_in.ensures
+    (λ x said. record {
       rows = rows;
-      taken = sym (ap (λ a. fault_of a words) app) ∙ c.in-Ok.ensures.kinds (ap is_simple_and_free app ∙ line_is_free);
-      command = here ∙ ap (λ n. Some (n, rows)) (sym command.0);
-      said = command.1;
-    }
+      taken = free;
+      command = here ∙ ap (λ n. Some (n, rows)) (sym said.0);
+      said = said.1;
+    })
+    (λ e none refused. inr (miscounted c.in-Some.name.now rows free here (none refused)))
