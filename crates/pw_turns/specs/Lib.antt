@@ -1,0 +1,4 @@
+pub mod Views
+pub mod Counts
+pub mod Asked
+pub mod Steps

@@ -1,0 +1,11 @@
+//! The coordinator that many threads share (ACPI 6.5, 8.4.3.2, 8.4.4.4 and 8.4.5.5): each makes its
+//! requests by a seat of its own, takes the records that a request needs by turns, and is answered as
+//! its place in one history says.
+#![tactic(auto)]
+
+mod coordinator;
+mod counts;
+mod plays;
+mod steps;
+
+pub use coordinator::{Coordinator, Seat};

@@ -1,0 +1,154 @@
+ghost use Rattle.std.specs.Prelude.{◌≡◌, ◌<◌, ◌++◌, ◌∷◌, [], true, None, Some, MatchResult};
+ghost use Rattle.atomic_table.specs.Table.{rest};
+ghost use Rattle.pw_parts.specs.Records.{record_count};
+ghost use Rattle.pw_model.specs.History.{replay};
+ghost use Rattle.pw_machine.specs.Steps.{Asks, HoldsAs, entered, freed, let_go};
+ghost use Rattle.pw_rule.specs.Loads.{IsRecordOf};
+ghost use Rattle.pw_rule.specs.Moves.{TellsNext};
+ghost use Rattle.pw_rule.specs.Plays.{IsFound, IsGrown, Met};
+ghost use Rattle.pw_rule.specs.Rule.{given_of, told_of};
+ghost use Rattle.pw_turns.specs.Asked.{entry_as};
+ghost use Rattle.pw_turns.specs.Steps.{IsOut, LedOut, MetRecord, TookOut, load_part};
+
+use crate::coordinator::{Coordinator, Raw};
+use crate::plays::{Asked, Give, Lead, Leave, Put, Take};
+use pw_journal::Journal;
+use pw_plan::Request;
+use pw_regs::Registers;
+use pw_rule::Load;
+
+impl<R: Registers> Coordinator<R> {
+    /// The record of a turn, or the number of the seat that has it: then this one gives up, or goes on.
+    pub(crate) fn take<Q: Asked>(
+        &self,
+        raw: &mut Raw<R>,
+        turn: u32,
+        number: u32,
+        _request: Request,
+    ) -> Result<Load<R>, u32>
+        requires id { raw.old.table_id ≡ self.now.table.shared.table_id }
+        requires given { Q.given ≡ Some (given_of R.Registers self.now.table.shared.key) }
+        requires asked { Q.request ≡ _request }
+        requires asks { Asks self.now.plan raw.old.me.0 _request }
+        requires turn { turn < record_count self.now.plan }
+        requires next { TellsNext self.now.plan raw.old.me.0 _request turn }
+        requires number { (number ≡ raw.old.me.0.number) × (number < 65536) }
+        ensures id { raw.new.table_id ≡ raw.old.table_id }
+        ensures view { let given = given_of R.Registers self.now.table.shared.key in
+            MatchResult result (λ load. TookOut given _request raw.old.me turn load raw.new.me)
+            (λ holder. MetRecord Q.gives_up given _request raw.old.me turn holder raw.new.me) }
+    {
+        let word = turn as usize + 1;
+        let mine = u64::from(number) + 1;
+        let found = self
+            .table
+            .shared
+            .compare_exchange::<Take<Q>>(raw, word, 0, mine);
+        if found != 0 {
+            return Err((found - 1) as u32);
+        }
+        match self.table.shared.exchange(raw, turn as usize, None) {
+            Some(load) => Ok(load),
+            None => unreachable!(),
+        }
+    }
+
+    /// The journal, or the number of the seat that has it: then this one gives up, or goes on.
+    pub(crate) fn lead<Q: Asked>(
+        &self,
+        raw: &mut Raw<R>,
+        number: u32,
+        _request: Request,
+    ) -> Result<Journal<R>, u32>
+        requires id { raw.old.table_id ≡ self.now.table.shared.table_id }
+        requires given { Q.given ≡ Some (given_of R.Registers self.now.table.shared.key) }
+        requires told { Q.told ≡ told_of R.Registers self.now.table.shared.key }
+        requires asked { Q.request ≡ _request }
+        requires asks { Asks self.now.plan raw.old.me.0 _request }
+        requires next { TellsNext self.now.plan raw.old.me.0 _request (record_count self.now.plan) }
+        requires number { (number ≡ raw.old.me.0.number) × (number < 65536) }
+        ensures id { raw.new.table_id ≡ raw.old.table_id }
+        ensures view { let given = given_of R.Registers self.now.table.shared.key in
+            let told = told_of R.Registers self.now.table.shared.key in
+            let last = record_count self.now.plan in
+            MatchResult result (λ journal. LedOut R.Registers told given _request last raw.old.me journal raw.new.me)
+            (λ holder. Met Q.gives_up _request raw.old.me last holder raw.new.me) }
+    {
+        let last = self.counts.records as usize;
+        let mine = u64::from(number) + 1;
+        let found = self
+            .table
+            .shared
+            .compare_exchange::<Lead<Q>>(raw, last + 1, 0, mine);
+        if found != 0 {
+            return Err((found - 1) as u32);
+        }
+        match self.table.shared.exchange(raw, last, None) {
+            Some(Load::Log(journal)) => Ok(journal),
+            _ => unreachable!(),
+        }
+    }
+
+    /// Gives the journal back with one entry more.
+    pub(crate) fn put<Q: Asked>(
+        &self,
+        raw: &mut Raw<R>,
+        journal: Journal<R>,
+        _request: Request,
+        _fault: u32,
+    )
+        requires id { raw.old.table_id ≡ self.now.table.shared.table_id }
+        requires given { Q.given ≡ Some (given_of R.Registers self.now.table.shared.key) }
+        requires entry { Q.entry ≡ entry_as raw.old.me.0.number _request _fault }
+        requires count { Q.count ≡ R.faults journal.regs }
+        requires out { IsOut (record_count self.now.plan) raw.old.me }
+        requires grown { let key = self.now.table.shared.key in
+            IsGrown R.Registers (told_of R.Registers key) (given_of R.Registers key) raw.old.me.0
+            (entry_as raw.old.me.0.number _request _fault) journal }
+        ensures id { raw.new.table_id ≡ raw.old.table_id }
+        ensures view { let e = entry_as raw.old.me.0.number _request _fault in
+            raw.new.me ≡ (entered self.now.plan (replay self.now.plan (raw.old.me.0.seen ++ e ∷ [])) e
+            (R.faults journal.regs) raw.old.me.0, rest raw.old.me.1) }
+    {
+        let last = self.counts.records as usize;
+        let empty = self.table.shared.exchange(raw, last, Some(Load::Log(journal)));
+        let None = empty else { unreachable!() };
+        self.table.shared.store::<Put<Q>>(raw, last + 1, 0);
+        self.table.shared.wake_one(last + 1);
+    }
+
+    /// Gives the journal back as it was.
+    pub(crate) fn leave<Q: Asked>(&self, raw: &mut Raw<R>, journal: Journal<R>)
+        requires id { raw.old.table_id ≡ self.now.table.shared.table_id }
+        requires count { Q.count ≡ R.faults journal.regs }
+        requires out { IsOut (record_count self.now.plan) raw.old.me }
+        requires found { let key = self.now.table.shared.key in
+            IsFound R.Registers (told_of R.Registers key) (given_of R.Registers key) raw.old.me.0 journal }
+        ensures id { raw.new.table_id ≡ raw.old.table_id }
+        ensures view { raw.new.me ≡ (let_go (R.faults journal.regs) raw.old.me.0, rest raw.old.me.1) }
+    {
+        let last = self.counts.records as usize;
+        let empty = self.table.shared.exchange(raw, last, Some(Load::Log(journal)));
+        let None = empty else { unreachable!() };
+        self.table.shared.store::<Leave<Q>>(raw, last + 1, 0);
+        self.table.shared.wake_one(last + 1);
+    }
+
+    /// Gives a record back, with the part that is noted of it.
+    pub(crate) fn free(&self, raw: &mut Raw<R>, turn: u32, load: Load<R>)
+        requires id { raw.old.table_id ≡ self.now.table.shared.table_id }
+        requires turn { turn < record_count self.now.plan }
+        requires out { IsOut turn raw.old.me }
+        requires record { IsRecordOf self.now.plan turn (load_part load) load }
+        requires noted { HoldsAs turn (load_part load) raw.old.me.0.held }
+        requires releasing { (raw.old.me.0.releasing ≡ true) × (raw.old.me.0.out ≡ []) }
+        ensures id { raw.new.table_id ≡ raw.old.table_id }
+        ensures view { raw.new.me ≡ (freed turn raw.old.me.0, rest raw.old.me.1) }
+    {
+        let slot = turn as usize;
+        let empty = self.table.shared.exchange(raw, slot, Some(load));
+        let None = empty else { unreachable!() };
+        self.table.shared.store::<Give>(raw, slot + 1, 0);
+        self.table.shared.wake_one(slot + 1);
+    }
+}
