@@ -44,6 +44,7 @@ module _ (m : Machine) (i : Invariant m) (j : ℕ) (v : View) (at : get_elem? m.
       let apart : j ≢ r.0 = λ same. absurd (omega (arith, r.3, none, ap has (some-injective u v (sym r.2 ∙ (ap (λ k. get_elem? m.views k) (sym same) ∙ at))))) in
       let live = alive r.0 u r.2 r.3 in let own = (i.fits r.0 u r.2).own live in
       let number : u.number ≡ turn - 1 = omega (arith, r.4) in record {
+        given = omega (arith, number, number_below m i r.0 u r.2 u.number (omega (arith, own)), i.numbers.most);
         stranger = subst (λ n. count_in n v.book ≡ 0) number (other_count m i r.0 j u v apart r.2 at u.number (omega (arith, own)));
         not_alone = omega (arith, live, i.parts, terms_le (λ (x : View). x.parts) m.views r.0 j u v apart r.2 at);
       }

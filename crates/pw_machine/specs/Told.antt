@@ -11,8 +11,9 @@ use Rattle.pw_machine.specs.Books.{count_in, entries_of}
 use Rattle.pw_machine.specs.Machine.{Machine, HasRegisters, Invariant, count_held, furthest, now}
 use Rattle.pw_machine.specs.Steps.{IsIdle, IsSpare, May, drawn, find_record_held, find_journal_held}
 
--- Who was met is none of the seats in the book, and is not gone.
+-- Who was met has a number that was given, is none of the seats in the book, and is not gone.
 pub record MeetsOther (v : View) (holder : ℕ) : Type 0 where
+  pub given : holder < 65536
   pub stranger : count_in holder v.book ≡ 0
   pub not_alone : v.parts < 65536
 
