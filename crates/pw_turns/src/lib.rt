@@ -6,6 +6,8 @@
 mod coordinator;
 mod counts;
 mod plays;
+mod seats;
 mod steps;
 
 pub use coordinator::{Coordinator, Seat};
+pub use seats::SplitFault;
