@@ -13,7 +13,7 @@ use Rattle.pw_parts.specs.Effects.{child_place, votes_in, votes_with}
 use Rattle.pw_parts.specs.Holding.{table_at}
 use Rattle.pw_parts.specs.Records.{Part, votes}
 use Rattle.pw_parts.proofs.Calls.{calls_serve}
-use Rattle.pw_drive.proofs.Counts.{children_few}
+use Rattle.pw_walker.proofs.Counts.{children_few}
 
 module _ (P : Plan) (c : Child) (n k m : ℕ) (number : m ≡ n) (parent : parent_of P c ≡ Some n) (place : IsChildPlace P c k) where
   pub child_within : k < length (children_at P m)

@@ -1,0 +1,5 @@
+pub mod Chains
+pub mod Counts
+pub mod Children
+pub mod Members
+pub mod Scaled
