@@ -1,0 +1,62 @@
+-- An old element set back makes the part before.
+use Rattle.std.proofs.Common.{◌≡◌, ◌<◌, ℕ, Bool, true, false, cond, List, [], ◌∷◌, length, get_or, set, refl, ap, sym, subst, ◌∙◌}
+use Rattle.std.proofs.lemmas.List.{set-get_or, set-set}
+use Rattle.pw_plan.specs.declared.domain.Child.{Child}
+use Rattle.pw_plan.specs.declared.plan.Plan.{Plan}
+use Rattle.pw_plan.specs.Places.{children_at, domain_at, group_at}
+use Rattle.pw_model.specs.declared.state.Vote.{Vote}
+use Rattle.pw_model.specs.States.{running}
+use Rattle.pw_parts.specs.Calls.{with_state, with_vote}
+use Rattle.pw_parts.specs.Effects.{child_place, states_in, votes_with, with_ask, with_limit}
+use Rattle.pw_parts.specs.Holding.{HoldsLevels, HoldsStates, HoldsVotes}
+use Rattle.pw_parts.specs.Records.{Part, levels, states, votes}
+use Rattle.pw_idle.specs.declared.node.NodeRec.{NodeRec}
+use Rattle.pw_domain.specs.declared.domain.DomainRec.{DomainRec}
+use Rattle.pw_domain.specs.declared.group.GroupRec.{GroupRec}
+use Rattle.pw_walker.specs.Records.{IsDomain, IsGroup, IsNode}
+use Rattle.pw_walker.specs.Undoing.{FitsState, FitsVote, IsMemberIndex}
+
+-- a list with an element set, and its old one set again
+set_back : {X : Type 0} (xs : List X) (k : ℕ) (x d : X) → set (set xs k x) k (get_or xs k d) ≡ xs
+set_back xs k x d = set-set xs k x (get_or xs k d) ∙ set-get_or xs k d
+
+-- # Containers
+
+pub vote_undone : (P : Plan) (n : ℕ) (c : Child) (v w : Vote) (vs : List Vote) (k : ℕ) (y : Part) → k ≡ child_place P n c → w ≡ get_or vs k running
+    → y ≡ votes (votes_with P n c v vs) → with_vote k w y ≡ votes vs
+vote_undone P n c v w vs k y at is e =
+    ap (λ z. with_vote k w z) e ∙ ap (λ j. votes (set (set vs j v) k w)) (sym at) ∙ ap (λ u. votes (set (set vs k v) k u)) is ∙ ap votes (set_back vs k v running)
+
+pub vote_stands : (P : Plan) (n k : ℕ) (r : NodeRec) → IsNode P n r → k < length (children_at P n) → FitsVote P n (record { child = k; vote = get_or r.votes k running })
+vote_stands P n k r is lt =
+    let holds = subst (λ m. HoldsVotes P m r.votes) is.number is.of.holds in
+    record { child = lt; state = holds.states k lt; proper = holds.proper k lt }
+
+-- # Domains
+
+pub ask_undone : (asks limits : List ℕ) (k i : ℕ) (refused : Bool) → with_ask k (get_or asks k 0) (cond refused (levels asks limits) (with_ask k i (levels asks limits))) ≡ levels asks limits
+ask_undone asks limits k i true = ap (λ xs. levels xs limits) (set-get_or asks k 0)
+ask_undone asks limits k i false = ap (λ xs. levels xs limits) (set_back asks k i 0)
+
+pub limit_undone : (asks limits : List ℕ) (k n : ℕ) → with_limit k (get_or limits k 0) (with_limit k n (levels asks limits)) ≡ levels asks limits
+limit_undone asks limits k n = ap (λ xs. levels asks xs) (set_back limits k n 0)
+
+module _ (P : Plan) (d k : ℕ) (r : DomainRec) (is : IsDomain P d r) (lt : k < length (domain_at P d).members) where
+  holds_levels : HoldsLevels P d r.asks r.limits
+  holds_levels = subst (λ e. HoldsLevels P e r.asks r.limits) is.number is.of.holds
+
+  pub ask_stands : IsMemberIndex P d k (get_or r.asks k 0)
+  ask_stands = (lt, holds_levels.ask k lt)
+
+  pub limit_stands : IsMemberIndex P d k (get_or r.limits k 0)
+  limit_stands = (lt, holds_levels.limit k lt)
+
+-- # Groups
+
+pub state_undone : (ss : List ℕ) (k s : ℕ) (y : Part) → y ≡ with_state k s (states ss) → with_state k (get_or ss k 0) y ≡ states ss
+state_undone ss k s y e = ap (λ z. with_state k (get_or ss k 0) z) e ∙ ap states (set_back ss k s 0)
+
+pub state_stands : (P : Plan) (g k : ℕ) (r : GroupRec) → IsGroup P g r → k < length (group_at P g).members → FitsState P g (record { member = k; state = get_or r.states k 0 })
+state_stands P g k r is lt =
+    let holds = subst (λ e. HoldsStates P e r.states) is.number is.of.holds in
+    record { member = lt; state = holds.states k lt }
