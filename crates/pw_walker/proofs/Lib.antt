@@ -6,3 +6,4 @@ pub mod Scaled
 pub mod Climbs
 pub mod Undoing
 pub mod Beginnings
+pub mod Groups

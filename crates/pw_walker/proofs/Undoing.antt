@@ -1,18 +1,22 @@
 -- An old element set back makes the part before.
 use Rattle.std.proofs.Common.{◌≡◌, ◌<◌, ℕ, Bool, true, false, cond, List, [], ◌∷◌, length, get_or, set, refl, ap, sym, subst, ◌∙◌}
+use Rattle.std.specs.Prelude.{nat_lt}
 use Rattle.std.proofs.lemmas.List.{set-get_or, set-set}
 use Rattle.pw_plan.specs.declared.domain.Child.{Child}
+use Rattle.pw_plan.specs.declared.domain.DomainKind.{DomainKind}
 use Rattle.pw_plan.specs.declared.plan.Plan.{Plan}
-use Rattle.pw_plan.specs.Places.{children_at, domain_at, group_at}
+use Rattle.pw_plan.specs.Parts.{scale_of}
+use Rattle.pw_plan.specs.Places.{children_at, cpu_at, domain_at, group_at}
 use Rattle.pw_model.specs.declared.state.Vote.{Vote}
-use Rattle.pw_model.specs.States.{running}
+use Rattle.pw_model.specs.States.{capped, running}
 use Rattle.pw_parts.specs.Calls.{with_state, with_vote}
-use Rattle.pw_parts.specs.Effects.{child_place, states_in, votes_with, with_ask, with_limit}
+use Rattle.pw_parts.specs.Effects.{ask_effect, child_place, level_effect, limit_effect, member_place, refused_above, votes_with, with_ask, with_limit}
 use Rattle.pw_parts.specs.Holding.{HoldsLevels, HoldsStates, HoldsVotes}
-use Rattle.pw_parts.specs.Records.{Part, levels, states, votes}
+use Rattle.pw_parts.specs.Records.{Part, domain, levels, states, votes}
 use Rattle.pw_idle.specs.declared.node.NodeRec.{NodeRec}
 use Rattle.pw_domain.specs.declared.domain.DomainRec.{DomainRec}
 use Rattle.pw_domain.specs.declared.group.GroupRec.{GroupRec}
+use Rattle.pw_walk.specs.Walk.{first_left}
 use Rattle.pw_walker.specs.Records.{IsDomain, IsGroup, IsNode}
 use Rattle.pw_walker.specs.Undoing.{FitsState, FitsVote, IsMemberIndex}
 
@@ -34,12 +38,33 @@ vote_stands P n k r is lt =
 
 -- # Domains
 
-pub ask_undone : (asks limits : List ℕ) (k i : ℕ) (refused : Bool) → with_ask k (get_or asks k 0) (cond refused (levels asks limits) (with_ask k i (levels asks limits))) ≡ levels asks limits
+ask_undone : (asks limits : List ℕ) (k i : ℕ) (refused : Bool)
+    → with_ask k (get_or asks k 0) (cond refused (levels asks limits) (with_ask k i (levels asks limits))) ≡ levels asks limits
 ask_undone asks limits k i true = ap (λ xs. levels xs limits) (set-get_or asks k 0)
 ask_undone asks limits k i false = ap (λ xs. levels xs limits) (set_back asks k i 0)
 
-pub limit_undone : (asks limits : List ℕ) (k n : ℕ) → with_limit k (get_or limits k 0) (with_limit k n (levels asks limits)) ≡ levels asks limits
-limit_undone asks limits k n = ap (λ xs. levels asks xs) (set_back limits k n 0)
+module _ (P : Plan) (kind : DomainKind) (p d k : ℕ) (asks limits : List ℕ) (y : Part) (at : k ≡ member_place (domain_at P d).members p) where
+  abbrev x : Part
+  x = levels asks limits
+
+  pub ask_back : (i a : ℕ) → a ≡ get_or asks k 0 → (ask_effect P kind p i d x).takes ≡ record { place = domain d; part = y } ∷ [] → with_ask k a y ≡ x
+  ask_back i a ae e =
+      let above = nat_lt i (get_or limits (member_place (domain_at P d).members p) 0) in
+      let is : y ≡ cond above x (with_ask (member_place (domain_at P d).members p) i x) = sym (ap (first_left x) e) ∙ made above in
+      ap (λ z. with_ask k z y) ae ∙ ap (λ z. with_ask k (get_or asks k 0) z) is
+      ∙ ap (λ j. with_ask k (get_or asks k 0) (cond above x (with_ask j i x))) (sym at) ∙ ask_undone asks limits k i above
+    where
+      made : (b : Bool) → first_left x (cond b (refused_above (domain d) x (get_or limits (member_place (domain_at P d).members p) 0))
+          (level_effect P kind p d x (with_ask (member_place (domain_at P d).members p) i x))).takes ≡ cond b x (with_ask (member_place (domain_at P d).members p) i x)
+      made true = refl
+      made false = refl
+
+  pub limit_back : (n a : ℕ) → a ≡ get_or limits k 0 → (limit_effect P kind p n d x).takes ≡ record { place = domain d; part = y } ∷ [] → with_limit k a y ≡ x
+  limit_back n a ae e =
+      let most = capped (scale_of kind (cpu_at P p)) n in
+      let is : y ≡ with_limit (member_place (domain_at P d).members p) most x = sym (ap (first_left x) e) in
+      ap (λ z. with_limit k z y) ae ∙ ap (λ z. with_limit k (get_or limits k 0) z) is
+      ∙ ap (λ j. with_limit k (get_or limits k 0) (with_limit j most x)) (sym at) ∙ ap (λ xs. levels asks xs) (set_back limits k most 0)
 
 module _ (P : Plan) (d k : ℕ) (r : DomainRec) (is : IsDomain P d r) (lt : k < length (domain_at P d).members) where
   holds_levels : HoldsLevels P d r.asks r.limits

@@ -34,8 +34,8 @@ pub record HandsOn (P : Plan) (q : Request) (c : Climb) : Type 0 where
   pub climb : IsClimb P q c
 
 -- It is a place, and the room for operations is as it was.
-pub record Comes (P : Plan) (q : Request) (place : Place) (before after : Bounded Op) : Type 0 where
-  pub place : IsPlace P q place after.elements
+pub record Comes (P : Plan) (q : Request) (at : Place) (before after : Bounded Op) : Type 0 where
+  pub place : IsPlace P q at after.elements
   pub capacity : after.capacity ≡ before.capacity
 
 -- the request is a vote
