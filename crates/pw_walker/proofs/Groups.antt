@@ -1,11 +1,16 @@
 -- A vote on the record of a group.
-use Rattle.std.proofs.Common.{◌≡◌, ◌<◌, ◌≤◌, ◌++◌, ℕ, List, length, refl, ap, sym, subst, ◌∙◌, arith}
+use Rattle.std.proofs.Common.{◌≡◌, ◌<◌, ◌≤◌, ◌++◌, ℕ, Bool, true, false, cond, List, length, refl, ap, sym, subst, ◌∙◌, arith}
+use Rattle.std.specs.Prelude.{nat_lt}
+use Rattle.std.proofs.lemmas.Bool.Decides.{nat_tests}
 use Rattle.acpi_values.specs.Idle.{rows_of}
 use Rattle.acpi_values.specs.declared.idle.IdleKind.TheVariants.{Cst}
 use Rattle.acpi_values.specs.declared.operation.Op.{Op}
 use Rattle.pw_plan.specs.declared.plan.Plan.{Plan}
+use Rattle.pw_plan.specs.declared.request.Request.{Request}
+use Rattle.pw_plan.specs.declared.request.Request.TheVariants.{Idle, Wake, Perf, Throttle, PerfLimit, ThrottleLimit}
 use Rattle.pw_plan.specs.Groups.{no_group}
 use Rattle.pw_plan.specs.Places.{cpu_at, group_at, group_of}
+use Rattle.pw_plan.specs.Requests.{cpu_of, group_bound}
 use Rattle.pw_model.specs.Operations.{own_entry}
 use Rattle.pw_parts.specs.Calls.{group_c_state, group_ops, with_state}
 use Rattle.pw_parts.specs.Effects.{c_state_by, drawn_ops, enter_c, member_place, states_in, states_with}
@@ -14,7 +19,9 @@ use Rattle.pw_parts.specs.Records.{Part}
 use Rattle.pw_parts.proofs.Calls.{calls_serve}
 use Rattle.pw_parts.proofs.Gathered.{group_member}
 use Rattle.pw_parts.proofs.Plans.{wired}
-use Rattle.pw_walk.specs.Walk.{group_with, own_c_state}
+use Rattle.pw_walk.specs.Standing.{own_vote}
+use Rattle.pw_walk.specs.Walk.{group_with, grouped, left, own_c_state}
+use Rattle.pw_walker.specs.inner.Going.{IsVote}
 
 module _ (P : Plan) (p : ℕ) (lt : group_of P p < length P.groups) where
   abbrev ms : List ℕ
@@ -56,3 +63,24 @@ module _ (P : Plan) (p : ℕ) (lt : group_of P p < length P.groups) where
       let below = member_below (group_of P p) k refl ke in
       let few : length ms ≤ 256 = P.sound.groups.sizes (group_of P p) no_group lt in
       omega (arith, below, few)
+
+-- the part that a vote leaves
+pub left_is : (P : Plan) (q : Request) (g : ℕ) (x : Part) → IsVote q
+    → left P q (grouped g) x ≡ with_state (member_place (group_at P g).members (cpu_of q)) (own_vote q).state x
+left_is P (Idle p s t) g x v = refl
+left_is P (Wake p) g x v = refl
+left_is P (Perf p i) g x v = absurd v
+left_is P (Throttle p i) g x v = absurd v
+left_is P (PerfLimit p n) g x v = absurd v
+left_is P (ThrottleLimit p n) g x v = absurd v
+
+-- an idle request has room for one operation at least
+pub some_bound : (P : Plan) (p : ℕ) → 1 ≤ group_bound P p
+some_bound P p = step (nat_lt (group_of P p) (length P.groups)) refl
+  where
+    step : (b : Bool) → nat_lt (group_of P p) (length P.groups) ≡ b → 1 ≤ cond b (length (group_at P (group_of P p)).members) 1
+    step true e =
+        let lt : group_of P p < length P.groups = grind (arith, nat_tests) in
+        let below = member_below P p lt (group_of P p) (member_place (group_at P (group_of P p)).members p) refl refl in
+        omega (arith, below)
+    step false e = omega arith

@@ -1,5 +1,6 @@
 -- Domains of performance and throttling come first.
-use Rattle.std.proofs.Common.{◌≡◌, ◌<◌, ◌≤◌, ◌+◌, ◌-◌, ◌==◌, ℕ, suc, zero, Bool, true, false, not, cond, List, [], ◌∷◌, length, get_or, subst, refl, ap, ◌∙◌, arith, eq-eqb, zero-add}
+use Rattle.std.proofs.Common.{◌≡◌, ◌<◌, ◌≤◌, ◌+◌, ◌-◌, ◌==◌, ℕ, suc, zero, Bool, true, false, not, cond, List, [], ◌∷◌, length, get_or, subst, refl, ap, sym, ◌∙◌, arith, eq-eqb, inl, inr, zero-add}
+use Rattle.std.proofs.lemmas.Bool.{cases_lt}
 use Rattle.std.proofs.Math.Logic.{∥∥₁_elim}
 use Rattle.std.specs.Prelude.{count_by, filter, is_some}
 use Rattle.std.specs.List.{AllByRecursion, range_with_len}
@@ -71,6 +72,13 @@ scaled_below P d lt = step (is_idle (domain_at P d).kind) (first_pass is_scaled 
     step : (b : Bool) → not b ≡ true → b ≡ false
     step true e = cc
     step false e = refl
+
+-- one that isn't stands past them
+pub scaled_past : (P : Plan) (d : ℕ) → is_scaled (domain_at P d) ≡ false → scaled_count P ≤ d
+scaled_past P d e = elim (cases_lt d (scaled_count P)) [
+  | inl lt ↦ let clash : not false ≡ false = ap not (sym (scaled_below P d lt)) ∙ e in absurd (cc)
+  | inr le ↦ le
+]
 
 -- # There are few of them, and few groups
 

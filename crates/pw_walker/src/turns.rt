@@ -1,11 +1,19 @@
 ghost use Rattle.std.specs.Prelude.{◌≡◌, List};
 ghost use Rattle.acpi_values.specs.declared.operation.Op.{Op as operation};
+ghost use Rattle.pw_plan.specs.Orderly.{is_scaled};
 ghost use Rattle.pw_parts.specs.Records.{record_count, scaled_count};
 ghost use Rattle.pw_walk.specs.Walk.{next_turn};
 ghost use Rattle.pw_walker.specs.Places.{IsSomePlace, walk_of};
 
 use crate::place::Place;
-use pw_plan::{DomainKind, Plan};
+use pw_plan::{Domain, DomainKind, Plan};
+
+/// Whether a domain is of performance or throttling.
+fn is_scaled(domain: &Domain) -> bool
+    ensures { result ≡ is_scaled domain.now }
+{
+    !matches!(domain.kind, DomainKind::Idle)
+}
 
 /// How many domains are of performance or throttling: they come first, so halving finds where they end.
 pub fn scaled_count(plan: &Plan) -> usize
@@ -15,10 +23,10 @@ pub fn scaled_count(plan: &Plan) -> usize
     let mut high = plan.domains.as_slice().len();
     while low < high {
         let middle = low + (high - low) / 2;
-        if matches!(plan.domain(middle).kind, DomainKind::Idle) {
-            high = middle;
-        } else {
+        if is_scaled(plan.domain(middle)) {
             low = middle + 1;
+        } else {
+            high = middle;
         }
     }
     low
