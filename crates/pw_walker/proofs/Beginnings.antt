@@ -147,44 +147,6 @@ module _ (P : Plan) (q : Request) (vote : IsVote q) (acc : fixed_refusal P q ≡
         };
       })
 
-  -- where it begins
-  pub begins_up : (p : ℕ) (w : Walk) → p ≡ cpu_of q → (cpu_at P p).idle.kind ≡ Lpi → w ≡ climb_on P q (Cpu p) own (states_in chain) true (cpu_at P p).parent → w ≡ begins_at P q
-  begins_up p w pe kind is =
-      is ∙ ap (λ ss. climb_on P q (Cpu p) own ss true (cpu_at P p).parent) states_are
-      ∙ ap (λ (v : Vote). climb_on P q (Cpu p) v (v.state ∷ []) true (cpu_at P p).parent) oe
-      ∙ ap (λ r. climb_on P q (Cpu r) (own_vote q) ((own_vote q).state ∷ []) true (cpu_at P r).parent) pe
-      ∙ sym (by_kind P q Lpi vote (subst (λ r. (cpu_at P r).idle.kind ≡ Lpi) pe kind))
-
-  pub begins_alone : (p : ℕ) (w : Walk) → p ≡ cpu_of q → (cpu_at P p).idle.kind ≡ Cst → group_of P p ≡ length P.groups → w ≡ climbed P q (states_in chain) → w ≡ begins_at P q
-  begins_alone p w pe kind none is =
-      let past : group_of P (cpu_of q) ≡ length P.groups = subst (λ r. group_of P r ≡ length P.groups) pe none in
-      let out : nat_lt (group_of P (cpu_of q)) (length P.groups) ≡ false = grind (arith, nat_tests) in
-      is ∙ ap (climbed P q) states_own ∙ sym (alone_is P q vote acc)
-      ∙ ap (λ b. cond b (grouped (group_of P (cpu_of q))) (over (vote_reply q ((own_vote q).state ∷ [])) (alone P q))) (sym out)
-      ∙ sym (by_kind P q Cst vote (subst (λ r. (cpu_at P r).idle.kind ≡ Cst) pe kind))
-
-  pub begins_absent : (p : ℕ) (w : Walk) → p ≡ cpu_of q → (cpu_at P p).idle.kind ≡ Absent → w ≡ climbed P q (states_in chain) → w ≡ begins_at P q
-  begins_absent p w pe kind is =
-      let absent = subst (λ r. (cpu_at P r).idle.kind ≡ Absent) pe kind in
-      is ∙ ap (climbed P q) states_own ∙ sym (absent_is P q vote acc absent) ∙ sym (by_kind P q Absent vote absent)
-
-pub begins_grouped : (P : Plan) (q : Request) → IsVote q → (p g : ℕ) → p ≡ cpu_of q → (cpu_at P p).idle.kind ≡ Cst → (g ≡ group_of P p) × (group_of P p < length P.groups) → grouped g ≡ begins_at P q
-begins_grouped P q vote p g pe kind at =
-    let lt : group_of P (cpu_of q) < length P.groups = subst (λ r. group_of P r < length P.groups) pe at.1 in
-    let within : nat_lt (group_of P (cpu_of q)) (length P.groups) ≡ true = grind (arith, nat_tests) in
-    ap grouped (at.0 ∙ ap (group_of P) pe)
-    ∙ ap (λ b. cond b (grouped (group_of P (cpu_of q))) (over (vote_reply q ((own_vote q).state ∷ [])) (alone P q))) (sym within)
-    ∙ sym (by_kind P q Cst vote (subst (λ r. (cpu_at P r).idle.kind ≡ Cst) pe kind))
-
-pub grouped_stands : (P : Plan) (q : Request) → IsVote q → fixed_refusal P q ≡ None → Has P q → (ops : List Op) → ops ≡ [] → (p g : ℕ) → p ≡ cpu_of q → (cpu_at P p).idle.kind ≡ Cst
-    → (g ≡ group_of P p) × (group_of P p < length P.groups) → IsPlace P q (Grouped g) ops
-grouped_stands P q vote acc has ops none p g pe kind at = record {
-  has = has;
-  stands = ((acc, sym (begins_grouped P q vote p g pe kind at)), rw at.0 at.1);
-  climb = tt;
-  none = none;
-}
-
 -- # Requests on domains
 
 pub scaled_stands : (P : Plan) (q : Request) (kind : DomainKind) (d : ℕ) → fixed_refusal P q ≡ None → Has P q → (ops : List Op) → ops ≡ [] → d ≡ domain_of P kind (cpu_of q)

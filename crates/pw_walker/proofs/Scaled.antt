@@ -129,3 +129,11 @@ module _ (P : Plan) where
       let e : length P.groups ≡ length (groups_of P.domains n) = ap length plan.groups_are in
       let small = P.sound.small.cpus in
       omega (arith, a, b, c, d, e, small))
+
+  -- records are few
+  pub counts_few : (containers scaled groups : ℕ) → containers ≡ length P.containers → scaled ≡ scaled_count P → groups ≡ length P.groups → containers + scaled + groups ≤ 1024
+  counts_few containers scaled groups a b d =
+      let few = P.sound.small.containers in
+      let some = scaled_few in
+      let joined = groups_few in
+      omega (arith, few, some, joined, a, b, d)
