@@ -159,31 +159,3 @@ module _ (P : Plan) (q : Request) (n : ℕ) (c : Climb) (lt : n < length P.conta
 
 pub vote_may : (P : Plan) (q : Request) (n : ℕ) (v : Vote) → MayVote P q (Container n) v → v.state ≤ length (rows_of (container_at P n).idle)
 vote_may P q n v may = subst (λ (w : Vote). w.state ≤ length (rows_of (container_at P n).idle)) (sym may.1) (vote_fits P n may.0)
-
--- # Where it stands next
-
-exists_from : (P : Plan) (c : Child) (n : ℕ) → IsIn P c → parent_of P c ≡ Some n → n < length P.containers
-exists_from P (Cpu p) n lt e = P.sound.tree.within p n lt e
-exists_from P (Container m) n lt e = let below = P.sound.tree.falls m n lt e in omega (arith, below, lt)
-
-pub stands_on : (P : Plan) (q : Request) (n : ℕ) (c : Climb) (ops : List Op) → Has P q → ops ≡ [] → HandsOn P q c → parent_of P c.child ≡ Some n → IsPlace P q (Climbing n c) ops
-stands_on P q n c ops has none h e = record {
-  has = has;
-  stands = record {
-    accepted = h.accepted;
-    exists = exists_from P c.child n h.inside e;
-    inside = h.inside;
-    parent = e;
-    voted = h.voted;
-    room = subst (λ from. length (states_in c.chain) + length (line_from P.containers from) ≤ 9) e h.room;
-  };
-  climb = h.climb;
-  none = none;
-}
-
--- what a turn made is the walk's step
-pub past_is_step : (P : Plan) (q : Request) (n : ℕ) (c : Climb) (x : Part) (v : Vote) (runs : Bool)
-    → v ≡ node_vote P n (votes_with P n c.child c.vote (votes_in x)) → runs ≡ both_run (node_vote P n (votes_in x)) v
-    → past P q n c v runs ≡ climb_past P q n (states_in c.chain) c.rising (votes_in x) (votes_with P n c.child c.vote (votes_in x))
-past_is_step P q n c x v runs ve re =
-    ap (past P q n c v) re ∙ ap (λ w. past P q n c w (both_run (node_vote P n (votes_in x)) w)) ve

@@ -31,11 +31,6 @@ pub vote_undone : (P : Plan) (n : ℕ) (c : Child) (v w : Vote) (vs : List Vote)
 vote_undone P n c v w vs k y at is e =
     ap (λ z. with_vote k w z) e ∙ ap (λ j. votes (set (set vs j v) k w)) (sym at) ∙ ap (λ u. votes (set (set vs k v) k u)) is ∙ ap votes (set_back vs k v running)
 
-pub vote_stands : (P : Plan) (n k : ℕ) (r : NodeRec) → IsNode P n r → k < length (children_at P n) → FitsVote P n (record { child = k; vote = get_or r.votes k running })
-vote_stands P n k r is lt =
-    let holds = subst (λ m. HoldsVotes P m r.votes) is.number is.of.holds in
-    record { child = lt; state = holds.states k lt; proper = holds.proper k lt }
-
 -- # Domains
 
 ask_undone : (asks limits : List ℕ) (k i : ℕ) (refused : Bool)
