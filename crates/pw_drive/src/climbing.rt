@@ -13,7 +13,7 @@ use pw_core::chain_of_one;
 use pw_idle::NodeRec;
 use pw_model::Vote;
 use pw_plan::{Child, Plan};
-use pw_walker::{rises, risen, turn};
+use pw_walker::{risen, rises, turn};
 
 /// Sets the vote of a processor in the record of its container, and what follows in those above, up to
 /// the first container that runs before and after; and answers the states of the processor and its

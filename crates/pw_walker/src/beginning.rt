@@ -24,7 +24,9 @@ fn own_vote(_plan: &Plan, request: &Request) -> Vote
 {
     match *request {
         Request::Idle {
-            state, tolerance, ..
+            state,
+            tolerance,
+            ..
         } => Vote {
             state: state as u8,
             tolerance,

@@ -16,7 +16,7 @@ ghost use Rattle.pw_walker.specs.Undoing.{FitsVote, IsOldVote, vote_back};
 ghost use Rattle.pw_walker.specs.inner.Going.{Comes, HandsOn, IsReady, past};
 
 use crate::place::{Climb, OldVote, Place};
-use crate::turning::{Voted, rises, risen, turn};
+use crate::turning::{Voted, risen, rises, turn};
 use acpi_values::{Chain, Op};
 use pw_core::{Ops, chain_composite};
 use pw_idle::NodeRec;

@@ -17,5 +17,5 @@ pub use grouping::{step_group, unstep_group};
 pub use levels::{ask_on, limit_on};
 pub use place::{Climb, OldLevel, OldState, OldVote, Place};
 pub use scaling::{step_domain, unstep_domain};
-pub use turning::{Voted, rises, risen, turn};
+pub use turning::{Voted, risen, rises, turn};
 pub use turns::{next_turn, record_count, scaled_count};

@@ -98,12 +98,7 @@ fn limit(
 }
 
 /// Makes a request on the record of its domain.
-fn level(
-    plan: &Plan,
-    request: &Request,
-    held: &mut DomainRec,
-    ops: &mut Ops,
-) -> (Reply, OldLevel)
+fn level(plan: &Plan, request: &Request, held: &mut DomainRec, ops: &mut Ops) -> (Reply, OldLevel)
     requires place { IsPlace plan.now request.now (Place.Scaled held.old.domain) ops.old.elements }
     requires of { IsDomainOf plan.now held.old }
     requires room { HasRoom ops.old (ops_bound plan.now request.now) }

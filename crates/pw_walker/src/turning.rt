@@ -1,4 +1,5 @@
-ghost use Rattle.std.specs.Prelude.{◌≡◌, ◌<◌, ◌≤◌, ◌∷◌, ◌++◌, ◌&&◌, [], Some, length, nat_lt, if◌then◌else◌};
+ghost use Rattle.std.specs.Prelude.{◌≡◌, ◌<◌, ◌≤◌, ◌∷◌, ◌++◌, ◌&&◌, [], Some, length, nat_lt};
+ghost use Rattle.std.specs.Prelude.{if◌then◌else◌};
 ghost use Rattle.acpi_values.specs.Idle.{rows_of};
 ghost use Rattle.pw_plan.specs.Places.{IsIn, parent_of, table_of};
 ghost use Rattle.pw_model.specs.Containers.{node_vote};
