@@ -27,7 +27,8 @@ use Rattle.pw_parts.proofs.Plans.{wired}
 use Rattle.pw_domain.specs.declared.group.GroupRec.{GroupRec}
 use Rattle.pw_domain.specs.Groups.{group_part}
 use Rattle.pw_drive.specs.declared.records.Records.{Records}
-use Rattle.pw_drive.specs.Keeping.{AreGroupRecords, AreRecordsOf, IsGroup, Serves, group_in, no_group_record, part_in}
+use Rattle.pw_walker.specs.Records.{IsGroup}
+use Rattle.pw_drive.specs.Keeping.{AreGroupRecords, AreRecordsOf, Serves, group_in, no_group_record, part_in}
 
 -- one record of a group set
 pub groups_set : (P : Plan) (rs : List GroupRec) (g : ℕ) (r : GroupRec) → AreGroupRecords P rs → g < length P.groups → IsGroup P g r → AreGroupRecords P (set rs g r)

@@ -1,11 +1,7 @@
 pub mod Chaining
-pub mod Children
 pub mod Turns
-pub mod Counts
-pub mod Members
 pub mod Places
 pub mod Putting
-pub mod Scaled
 pub mod Upwards
 pub mod Grouped
 pub mod Served

@@ -13,14 +13,15 @@ use Rattle.pw_plan.specs.Parts.{scale_of}
 use Rattle.pw_plan.specs.Places.{cpu_at, domain_at, domain_of}
 use Rattle.pw_model.specs.declared.reply.Reply.{Reply}
 use Rattle.pw_parts.proofs.Levels.{has_domain}
-use Rattle.pw_drive.proofs.Members.{place_within}
+use Rattle.pw_walker.proofs.Members.{scaled_exists}
 use Rattle.pw_parts.specs.Effects.{Effect, Taken, member_place}
 use Rattle.pw_parts.specs.Locality.{put}
 use Rattle.pw_parts.specs.Records.{Record, container, domain, group, scaled_count}
 use Rattle.pw_domain.specs.declared.domain.DomainRec.{DomainRec}
 use Rattle.pw_domain.specs.Domains.{domain_part}
 use Rattle.pw_drive.specs.declared.records.Records.{Records}
-use Rattle.pw_drive.specs.Keeping.{AreDomainRecords, AreRecordsOf, IsDomain, Serves, domain_in, no_domain_record, part_in}
+use Rattle.pw_walker.specs.Records.{IsDomain}
+use Rattle.pw_drive.specs.Keeping.{AreDomainRecords, AreRecordsOf, Serves, domain_in, no_domain_record, part_in}
 
 -- one record of a domain set
 pub domains_set : (P : Plan) (rs : List DomainRec) (d : ℕ) (r : DomainRec) → AreDomainRecords P rs → d < scaled_count P → IsDomain P d r → AreDomainRecords P (set rs d r)
@@ -43,12 +44,6 @@ domains_put old new d r ts lt n g e is (domain m) = rw (is, e) (elim (eqb_tells 
   | inr other ↦ ap domain_part (get_or-set_other old.domains.items d m r no_domain_record other.1) ∙ sym (ap (λ b. cond b (domain_part r) (domain_part (domain_in old.domains.items m))) other.0)
 ])
 
--- who has a scale is in a domain that has a record
-pub scaled_exists : (P : Plan) (kind : DomainKind) (p : ℕ) → p < length P.cpus → is_some (scale_of kind (cpu_at P p)) ≡ true → domain_of P kind p < scaled_count P
-scaled_exists P Perf p lt some = let has = has_domain P Perf p lt some in P.orderly.scaled_first (domain_of P Perf p) has.within (ap (λ k. not (is_idle k)) has.kind_is)
-scaled_exists P Throttle p lt some = let has = has_domain P Throttle p lt some in P.orderly.scaled_first (domain_of P Throttle p) has.within (ap (λ k. not (is_idle k)) has.kind_is)
-scaled_exists P Idle p lt some = cc
-
 -- a request that sets a domain's record alone
 pub serves_level : (P : Plan) (was now : Records) (d : ℕ) (r : DomainRec) (did : Effect) (reply : Reply) (before after : Bounded Op) → AreRecordsOf P was → d < scaled_count P → IsDomain P d r
     → now.nodes.items ≡ was.nodes.items → now.groups.items ≡ was.groups.items → now.domains.items ≡ set was.domains.items d r
@@ -60,15 +55,7 @@ serves_level P was now d r did reply before after are lt is n g e takes answers 
   parts = λ x exists. domains_put was now d r did.takes (subst (λ k. d < k) (sym are.domains.count) lt) n g e takes x;
 }
 
--- the member's place is small, and its domain's record stands among the records
-pub member_small : (P : Plan) (kind : DomainKind) (p : ℕ) → p < length P.cpus → is_some (scale_of kind (cpu_at P p)) ≡ true → (d k : ℕ) → d ≡ domain_of P kind p → k ≡ member_place (domain_at P d).members p → k ≤ 256
-member_small P kind p exists some d k at is =
-    let has = has_domain P kind p exists some in
-    let there : k ≡ member_place (domain_at P (domain_of P kind p)).members p = subst (λ e. k ≡ member_place (domain_at P e).members p) at is in
-    let lt : k < length (domain_at P (domain_of P kind p)).members = place_within P kind p exists some (domain_of P kind p) k refl there in
-    let few : length (domain_at P (domain_of P kind p)).members ≤ 256 = P.sound.domains.sizes (domain_of P kind p) no_domain has.within in
-    omega (arith, lt, few)
-
+-- a domain's record stands among the records
 pub record_within : (P : Plan) (R : Records) (kind : DomainKind) (p : ℕ) → AreRecordsOf P R → p < length P.cpus → is_some (scale_of kind (cpu_at P p)) ≡ true → (d : ℕ) → d ≡ domain_of P kind p → d < length R.domains.items
 record_within P R kind p are exists some d at = rw (at, are.domains.count) (scaled_exists P kind p exists some)
 

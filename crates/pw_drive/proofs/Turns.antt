@@ -25,7 +25,9 @@ use Rattle.pw_parts.proofs.Loops.{climb_agrees, climb_step}
 use Rattle.pw_idle.specs.declared.node.NodeRec.{NodeRec}
 use Rattle.pw_idle.specs.Nodes.{node_part}
 use Rattle.pw_idle.proofs.Nodes.{vote_fits, vote_proper}
-use Rattle.pw_drive.specs.Keeping.{AreNodes, IsNode, no_node_record, node_in, node_parts}
+use Rattle.pw_walker.specs.Records.{IsNode}
+use Rattle.pw_walker.proofs.Chains.{known_chain}
+use Rattle.pw_drive.specs.Keeping.{AreNodes, no_node_record, node_in, node_parts}
 
 -- # Parts that are put
 
@@ -63,15 +65,6 @@ pub record Climbs (P : Plan) (was : Record → Part) (p : ℕ) (own : Vote) (rs 
   pub room : length (states_in chain) + length (line_from P.containers next) ≤ 9
   pub told : states_in chain ++ cond rising (states_up P (climb P (node_parts rs) c v (line_from P.containers next))) [] ≡ own.state ∷ states_up P (rungs P was p own)
   pub parts : (m : ℕ) → put (node_parts rs) (map rung_taken (climb P (node_parts rs) c v (line_from P.containers next))) (container m) ≡ put was (map rung_taken (rungs P was p own)) (container m)
-
-same_chain : (m n : ℕ) (xs ys : List ℕ) → m ≡ n → xs ≡ ys → ◌≡◌ {A = Chain} (record { len = m; states = xs }) (record { len = n; states = ys })
-same_chain m n xs ys e f = rw (e, f) refl
-
-known_chain : (c : Chain) → IsChain c → c ≡ chain_of (states_in c)
-known_chain c h =
-    let n : length (take c.len c.states) ≡ c.len = length-states_in c h in
-    same_chain c.len (length (states_in c)) c.states (states_in c ++ replicate (9 - length (states_in c)) 0) (sym n)
-    (h.zeros ∙ ap (λ k. states_in c ++ replicate (9 - k) 0) (sym n))
 
 chain_told : (c : Chain) → IsChain c → (xs : List ℕ) → states_in c ++ [] ≡ xs → c ≡ chain_of xs
 chain_told c is xs e = known_chain c is ∙ ap chain_of (sym (append-nil (states_in c)) ∙ e)

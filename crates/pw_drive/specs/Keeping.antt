@@ -10,11 +10,12 @@ use Rattle.pw_plan.specs.declared.plan.Plan.{Plan}
 use Rattle.pw_parts.specs.Calls.{opening_part}
 use Rattle.pw_parts.specs.Records.{IsRecord, Part, Record, container, domain, group, scaled_count, votes}
 use Rattle.pw_idle.specs.declared.node.NodeRec.{NodeRec}
-use Rattle.pw_idle.specs.Nodes.{IsNodeOf, node_part}
+use Rattle.pw_idle.specs.Nodes.{node_part}
 use Rattle.pw_domain.specs.declared.domain.DomainRec.{DomainRec}
 use Rattle.pw_domain.specs.declared.group.GroupRec.{GroupRec}
-use Rattle.pw_domain.specs.Domains.{IsDomainOf, domain_part}
-use Rattle.pw_domain.specs.Groups.{IsGroupOf, group_part}
+use Rattle.pw_domain.specs.Domains.{domain_part}
+use Rattle.pw_domain.specs.Groups.{group_part}
+use Rattle.pw_walker.specs.Records.{IsDomain, IsGroup, IsNode}
 use Rattle.pw_drive.specs.declared.records.Records.{Records}
 
 -- # What stands past the end of a list of records
@@ -38,19 +39,6 @@ abbrev pub group_in : List GroupRec → ℕ → GroupRec
 group_in rs g = slice_index_or rs g no_group_record
 
 -- # Which records there are
-
--- It is the record of container n; likewise of domain d, and of group g.
-pub record IsNode (P : Plan) (n : ℕ) (r : NodeRec) : Type 0 where
-  pub of : IsNodeOf P r
-  pub number : r.node ≡ n
-
-pub record IsDomain (P : Plan) (d : ℕ) (r : DomainRec) : Type 0 where
-  pub of : IsDomainOf P r
-  pub number : r.domain ≡ d
-
-pub record IsGroup (P : Plan) (g : ℕ) (r : GroupRec) : Type 0 where
-  pub of : IsGroupOf P r
-  pub number : r.group ≡ g
 
 -- One record for each container of the plan, at its number.
 pub record AreNodes (P : Plan) (rs : List NodeRec) : Type 0 where

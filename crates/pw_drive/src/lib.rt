@@ -5,7 +5,6 @@ mod climbing;
 mod driving;
 mod grouping;
 mod idling;
-mod levels;
 mod records;
 mod running;
 mod scaling;

@@ -7,11 +7,11 @@ ghost use Rattle.pw_parts.specs.Records.{domain as scaled};
 ghost use Rattle.pw_ops.specs.Rooms.{HasRoom};
 ghost use Rattle.pw_drive.specs.Keeping.{AreRecordsOf, Serves, part_in};
 
-use crate::levels::{ask_on, limit_on};
 use crate::records::Records;
 use pw_core::Ops;
 use pw_model::Reply;
 use pw_plan::{DomainKind, Plan};
+use pw_walker::{ask_on, limit_on};
 
 impl Records {
     /// Asks for a state of this kind on the processor's domain.

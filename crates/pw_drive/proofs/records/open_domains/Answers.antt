@@ -1,6 +1,6 @@
 use Rattle.std.proofs.Common.{subst, ◌<◌, ◌+◌, ◌∷◌, [], ◌∙◌, ap, length-append, arith}
 use Rattle.pw_drive.specs.Keeping.{OpensDomain, no_domain_record}
-use Rattle.pw_drive.proofs.Scaled.{scaled_below, scaled_few}
+use Rattle.pw_walker.proofs.Scaled.{scaled_below, scaled_few}
 use Rattle.pw_drive.proofs.Places.{placed_more}
 use Rattle.pw_drive.proofs.records.open_domains.Goals as goal
 

@@ -1,6 +1,6 @@
 use Rattle.std.proofs.Common.{◌+◌, ◌∷◌, [], ◌∙◌, ap, length, length-append, arith}
 use Rattle.pw_drive.specs.Keeping.{OpensGroup, no_group_record}
-use Rattle.pw_drive.proofs.Scaled.{groups_few}
+use Rattle.pw_walker.proofs.Scaled.{groups_few}
 use Rattle.pw_drive.proofs.Places.{placed_more}
 use Rattle.pw_drive.proofs.records.open_groups.Goals as goal
 

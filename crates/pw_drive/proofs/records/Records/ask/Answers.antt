@@ -5,8 +5,8 @@ use Rattle.pw_domain.specs.declared.domain.DomainRec.{DomainRec}
 use Rattle.pw_parts.specs.Effects.{ask_effect}
 use Rattle.pw_parts.specs.Records.{domain}
 use Rattle.pw_drive.specs.Keeping.{domain_in}
-use Rattle.pw_drive.proofs.Members.{with_ops}
-use Rattle.pw_drive.proofs.Putting.{member_small, record_is, record_there, record_within, scaled_exists, serves_level}
+use Rattle.pw_walker.proofs.Members.{member_small, scaled_exists, with_ops}
+use Rattle.pw_drive.proofs.Putting.{record_is, record_there, record_within, serves_level}
 use Rattle.pw_drive.proofs.records.Records.ask.Goals as goal
 
 pub index_mut-levels-requires : goal.index_mut-levels-requires

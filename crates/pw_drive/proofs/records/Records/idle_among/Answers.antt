@@ -5,9 +5,10 @@ use Rattle.acpi_values.specs.declared.operation.Chain.{Chain}
 use Rattle.acpi_values.specs.declared.operation.Op.{Op}
 use Rattle.pw_plan.specs.Places.{group_of}
 use Rattle.pw_parts.specs.Effects.{idle_effect}
-use Rattle.pw_drive.specs.Keeping.{IsGroup, part_in}
+use Rattle.pw_walker.specs.Records.{IsGroup}
+use Rattle.pw_drive.specs.Keeping.{part_in}
 use Rattle.pw_drive.proofs.Grouped.{group_is, group_small, grouped_ops, grouped_reply, member_fits, member_within, ops_are, serves_group, state_is, takes_are}
-use Rattle.pw_drive.proofs.Members.{with_ops}
+use Rattle.pw_walker.proofs.Members.{with_ops}
 use Rattle.pw_drive.proofs.records.Records.idle_among.Goals as goal
 
 pub overflow_cast-at : goal.overflow_cast-at

@@ -1,5 +1,6 @@
 -- Domains of performance and throttling come first.
-use Rattle.std.proofs.Common.{◌≡◌, ◌<◌, ◌≤◌, ◌+◌, ◌-◌, ◌==◌, ℕ, suc, zero, Bool, true, false, not, cond, List, [], ◌∷◌, length, get_or, subst, refl, ap, ◌∙◌, arith, eq-eqb, zero-add}
+use Rattle.std.proofs.Common.{◌≡◌, ◌<◌, ◌≤◌, ◌+◌, ◌-◌, ◌==◌, ℕ, suc, zero, Bool, true, false, not, cond, List, [], ◌∷◌, length, get_or, subst, refl, ap, sym, ◌∙◌, arith, eq-eqb, inl, inr, zero-add}
+use Rattle.std.proofs.lemmas.Bool.{cases_lt}
 use Rattle.std.proofs.Math.Logic.{∥∥₁_elim}
 use Rattle.std.specs.Prelude.{count_by, filter, is_some}
 use Rattle.std.specs.List.{AllByRecursion, range_with_len}
@@ -72,6 +73,13 @@ scaled_below P d lt = step (is_idle (domain_at P d).kind) (first_pass is_scaled 
     step true e = cc
     step false e = refl
 
+-- one that isn't stands past them
+pub scaled_past : (P : Plan) (d : ℕ) → is_scaled (domain_at P d) ≡ false → scaled_count P ≤ d
+scaled_past P d e = elim (cases_lt d (scaled_count P)) [
+  | inl lt ↦ let clash : not false ≡ false = ap not (sym (scaled_below P d lt)) ∙ e in absurd (cc)
+  | inr le ↦ le
+]
+
 -- # There are few of them, and few groups
 
 -- the kinds that aren't idle are those of scales
@@ -121,3 +129,11 @@ module _ (P : Plan) where
       let e : length P.groups ≡ length (groups_of P.domains n) = ap length plan.groups_are in
       let small = P.sound.small.cpus in
       omega (arith, a, b, c, d, e, small))
+
+  -- records are few
+  pub counts_few : (containers scaled groups : ℕ) → containers ≡ length P.containers → scaled ≡ scaled_count P → groups ≡ length P.groups → containers + scaled + groups ≤ 1024
+  counts_few containers scaled groups a b d =
+      let few = P.sound.small.containers in
+      let some = scaled_few in
+      let joined = groups_few in
+      omega (arith, few, some, joined, a, b, d)

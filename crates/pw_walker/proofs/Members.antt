@@ -1,19 +1,21 @@
 -- The member of a domain of performance or throttling that a request is about.
-use Rattle.std.proofs.Common.{◌≡◌, ◌<◌, ◌≤◌, ◌-◌, ◌++◌, ℕ, min, true, false, cond, List, length, Option, Some, None, ap, sym, subst, ◌∙◌, arith}
+use Rattle.std.proofs.Common.{◌≡◌, ◌<◌, ◌≤◌, ◌-◌, ◌++◌, ℕ, min, true, false, cond, not, List, length, Option, Some, None, refl, ap, sym, subst, ◌∙◌, arith}
 use Rattle.std.specs.Prelude.{is_some, nat_lt}
 use Rattle.std.proofs.lemmas.Bool.Decides.{nat_tests}
 use Rattle.pw_base.specs.Room.{Bounded}
 use Rattle.acpi_values.specs.declared.operation.Op.{Op}
 use Rattle.pw_plan.specs.declared.domain.DomainKind.{DomainKind}
+use Rattle.pw_plan.specs.declared.domain.DomainKind.TheVariants.{Perf, Throttle, Idle}
 use Rattle.pw_plan.specs.declared.parts.Scale.{Scale}
 use Rattle.pw_plan.specs.declared.plan.Plan.{Plan}
+use Rattle.pw_plan.specs.Groups.{is_idle, no_domain}
 use Rattle.pw_plan.specs.Parts.{count_of, scale_of}
 use Rattle.pw_plan.specs.Places.{cpu_at, domain_at, domain_of}
 use Rattle.pw_model.specs.States.{IsIndex, capped}
 use Rattle.pw_parts.specs.Calls.{level_ops, own_limit}
 use Rattle.pw_parts.specs.Effects.{ask_effect, level_effect, limit_effect, member_place, refused_above, with_ask, with_limit}
 use Rattle.pw_parts.specs.Holding.{member_in}
-use Rattle.pw_parts.specs.Records.{Part, domain}
+use Rattle.pw_parts.specs.Records.{Part, domain, scaled_count}
 use Rattle.pw_parts.proofs.Calls.{calls_serve}
 use Rattle.pw_parts.proofs.Levels.{has_domain}
 
@@ -58,3 +60,18 @@ module _ (P : Plan) (kind : DomainKind) (p : ℕ) (exists : p < length P.cpus) (
     limited_ops n i x y few is =
         let j = member_place (domain_at P (domain_of P kind p)).members p in
         rw (is, few, at, there) (sym ((calls_serve P).level_ops_are kind p x (with_limit j (capped (scale_of kind (cpu_at P p)) n) x) exists some))
+
+-- who has a scale is in a domain that has a record
+pub scaled_exists : (P : Plan) (kind : DomainKind) (p : ℕ) → p < length P.cpus → is_some (scale_of kind (cpu_at P p)) ≡ true → domain_of P kind p < scaled_count P
+scaled_exists P Perf p lt some = let has = has_domain P Perf p lt some in P.orderly.scaled_first (domain_of P Perf p) has.within (ap (λ k. not (is_idle k)) has.kind_is)
+scaled_exists P Throttle p lt some = let has = has_domain P Throttle p lt some in P.orderly.scaled_first (domain_of P Throttle p) has.within (ap (λ k. not (is_idle k)) has.kind_is)
+scaled_exists P Idle p lt some = cc
+
+-- the member's place is small
+pub member_small : (P : Plan) (kind : DomainKind) (p : ℕ) → p < length P.cpus → is_some (scale_of kind (cpu_at P p)) ≡ true → (d k : ℕ) → d ≡ domain_of P kind p → k ≡ member_place (domain_at P d).members p → k ≤ 256
+member_small P kind p exists some d k at is =
+    let has = has_domain P kind p exists some in
+    let there : k ≡ member_place (domain_at P (domain_of P kind p)).members p = subst (λ e. k ≡ member_place (domain_at P e).members p) at is in
+    let lt : k < length (domain_at P (domain_of P kind p)).members = place_within P kind p exists some (domain_of P kind p) k refl there in
+    let few : length (domain_at P (domain_of P kind p)).members ≤ 256 = P.sound.domains.sizes (domain_of P kind p) no_domain has.within in
+    omega (arith, lt, few)

@@ -1,7 +1,7 @@
 use Rattle.std.proofs.Common.{ap, ◌∙◌}
 use Rattle.pw_domain.specs.Domains.{domain_part}
-use Rattle.pw_drive.proofs.Members.{limited_index, limited_ops, place_within, with_ops}
-use Rattle.pw_drive.proofs.levels.limit_on.Goals as goal
+use Rattle.pw_walker.proofs.Members.{limited_index, limited_ops, place_within, with_ops}
+use Rattle.pw_walker.proofs.levels.limit_on.Goals as goal
 
 pub limit_ops-requires-clause-place : goal.limit_ops-requires-clause-place
 limit_ops-requires-clause-place c = place_within c.args.plan.now c.args.kind c.args.cpu c.requires.cpu c.requires.scale c.args.levels.now.domain c.args.member c.requires.of.number c.requires.member

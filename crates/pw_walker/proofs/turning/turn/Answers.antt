@@ -1,8 +1,8 @@
 use Rattle.std.proofs.Common.{◌∙◌, arith}
 use Rattle.pw_idle.specs.Nodes.{node_part}
 use Rattle.pw_parts.specs.Effects.{votes_in, votes_with}
-use Rattle.pw_drive.proofs.Children.{child_fits, child_small, child_voted, child_within, voted_is}
-use Rattle.pw_drive.proofs.climbing.turn.Goals as goal
+use Rattle.pw_walker.proofs.Children.{child_fits, child_small, child_voted, child_within, voted_is}
+use Rattle.pw_walker.proofs.turning.turn.Goals as goal
 
 pub overflow_cast-place : goal.overflow_cast-place
 overflow_cast-place c =

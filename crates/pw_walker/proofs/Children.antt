@@ -13,7 +13,7 @@ use Rattle.pw_parts.specs.Effects.{child_place, votes_in, votes_with}
 use Rattle.pw_parts.specs.Holding.{table_at}
 use Rattle.pw_parts.specs.Records.{Part, votes}
 use Rattle.pw_parts.proofs.Calls.{calls_serve}
-use Rattle.pw_drive.proofs.Counts.{children_few}
+use Rattle.pw_walker.proofs.Counts.{children_few}
 
 module _ (P : Plan) (c : Child) (n k m : ℕ) (number : m ≡ n) (parent : parent_of P c ≡ Some n) (place : IsChildPlace P c k) where
   pub child_within : k < length (children_at P m)
@@ -28,10 +28,11 @@ module _ (P : Plan) (c : Child) (n k m : ℕ) (number : m ≡ n) (parent : paren
   pub child_fits : (v : Vote) → v.state ≤ length (rows_of (table_of P c)) → v.state ≤ table_at P m k
   child_fits v le = rw number (subst (λ d. v.state ≤ length (rows_of (table_of P d))) (sym child_here) le)
 
+  pub child_at : child_place P n c ≡ k
+  child_at = subst (λ d. child_place P n d ≡ k) child_here ((calls_serve P).child_at n k (place n parent).0)
+
   pub child_voted : (v : Vote) (x y : Part) → y ≡ with_vote k v x → y ≡ votes (votes_with P n c v (votes_in x))
-  child_voted v x y e =
-      let at : child_place P n c ≡ k = subst (λ d. child_place P n d ≡ k) child_here ((calls_serve P).child_at n k (place n parent).0) in
-      e ∙ ap (λ j. votes (set (votes_in x) j v)) (sym at)
+  child_voted v x y e = e ∙ ap (λ j. votes (set (votes_in x) j v)) (sym child_at)
 
 -- the vote of a container by its record's answers
 pub voted_is : (P : Plan) (n m : ℕ) (x : Part) (vs : List Vote) (s t : ℕ) → m ≡ n → x ≡ votes vs → s ≡ node_state P m x → t ≡ node_tolerance P m x

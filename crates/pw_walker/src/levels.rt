@@ -8,7 +8,7 @@ ghost use Rattle.pw_parts.specs.Effects.{ask_effect, limit_effect};
 ghost use Rattle.pw_parts.specs.Records.{domain as scaled};
 ghost use Rattle.pw_domain.specs.Domains.{domain_part};
 ghost use Rattle.pw_ops.specs.Rooms.{HasRoom};
-ghost use Rattle.pw_drive.specs.Keeping.{IsDomain};
+ghost use Rattle.pw_walker.specs.Records.{IsDomain};
 
 use pw_core::{Ops, capped};
 use pw_domain::DomainRec;

@@ -1,0 +1,4 @@
+pub mod Records
+pub mod Places
+pub mod Undoing
+pub mod inner
