@@ -5,3 +5,6 @@ pub mod Steps
 pub mod Owning
 pub mod Looks
 pub mod Splits
+pub mod Loads
+pub mod Climb
+pub mod Told

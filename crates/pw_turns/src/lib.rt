@@ -5,9 +5,13 @@
 
 mod coordinator;
 mod counts;
+mod loads;
+mod picking;
 mod plays;
+mod requests;
 mod seats;
 mod steps;
 
 pub use coordinator::{Coordinator, Seat};
+pub use requests::Try;
 pub use seats::SplitFault;
