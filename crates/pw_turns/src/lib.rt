@@ -7,5 +7,6 @@ mod coordinator;
 mod counts;
 mod plays;
 mod steps;
+mod waiting;
 
 pub use coordinator::{Coordinator, Seat};
