@@ -6,11 +6,11 @@
 mod coordinator;
 mod counts;
 mod loads;
-mod picking;
 mod plays;
 mod requests;
 mod seats;
 mod steps;
+mod waiting;
 
 pub use coordinator::{Coordinator, Seat};
 pub use requests::Try;

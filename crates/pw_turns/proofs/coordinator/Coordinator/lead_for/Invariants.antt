@@ -1,0 +1,15 @@
+use Rattle.std.proofs.Common.{true, Some}
+use Rattle.pw_rule.specs.Rule.{given_of, told_of}
+use Rattle.pw_turns.specs.Asked.{no_entry}
+use Rattle.pw_turns.proofs.coordinator.Coordinator.lead_for.Given as goal
+
+abbrev pub ghosts-lead : goal.ghosts-lead
+ghosts-lead g a = record {
+  given = Some (given_of g.R.Registers a.self.now.table.shared.key);
+  told = told_of g.R.Registers a.self.now.table.shared.key;
+  request = a._request;
+  gives_up = true;
+  entry = no_entry;
+  count = 0;
+  last = 0;
+}
