@@ -106,13 +106,14 @@ module _ {R : Type 0} (by : Registers R) (told : Bool) (given : Given) (last : �
           ∙ ap (λ x. x ++ entry_ops given.plan (replay given.plan j.entries) (entry_as number q fault)) (l.0.ops t);
     }
 
-    abbrev pub made : (w : View) → w ≡ entered given.plan (replay given.plan (n.0.seen ++ entry_as number q fault ∷ [])) (entry_as number q fault) (by.faults k.regs) n.0
-        → Made given m.0 q fault w
-    made w e = record {
+    abbrev pub made : (P : Plan) → given.plan ≡ P → (w : View)
+        → w ≡ entered P (replay P (n.0.seen ++ entry_as number q fault ∷ [])) (entry_as number q fault) (by.faults k.regs) n.0 → Made given m.0 q fault w
+    made P plan w e = record {
       history = j.entries;
       first = by.faults j.regs;
       second = by.faults k.regs;
-      is = e ∙ λ i. entered given.plan (replay given.plan ((is_led i).seen ++ entry_as (own i) q fault ∷ [])) (entry_as (own i) q fault) (by.faults k.regs) (is_led i);
+      is = subst (λ P. w ≡ entered P (replay P (n.0.seen ++ entry_as number q fault ∷ [])) (entry_as number q fault) (by.faults k.regs) n.0) (sym plan) e
+          ∙ λ i. entered given.plan (replay given.plan ((is_led i).seen ++ entry_as (own i) q fault ∷ [])) (entry_as (own i) q fault) (by.faults k.regs) (is_led i);
       before = l.0.legal;
       legal = is_legal given.plan j.entries m.0.number q fault l.0.legal faultless has within;
       begins = l.0.seen;
