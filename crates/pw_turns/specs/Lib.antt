@@ -6,5 +6,6 @@ pub mod Owning
 pub mod Looks
 pub mod Splits
 pub mod Loads
+pub mod Settling
 pub mod Climb
 pub mod Told

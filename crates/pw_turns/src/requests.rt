@@ -4,15 +4,19 @@ ghost use Rattle.pw_machine.specs.Steps.{Asks};
 ghost use Rattle.pw_rule.specs.Rule.{given_of};
 ghost use Rattle.pw_walk.specs.Walk.{over, walk};
 ghost use Rattle.pw_walker.specs.Places.{IsPlace, walk_of};
+ghost use Rattle.pw_turns.specs.Loads.{FitsIn, IsLoadOf, TakesPlace};
+ghost use Rattle.pw_turns.specs.Settling.{part_after};
+ghost use Rattle.pw_turns.specs.Steps.{load_part};
 ghost use Rattle.pw_turns.specs.Views.{view_in};
 
 use crate::coordinator::{Coordinator, Raw, Seat, out};
-use crate::loads::{step_load, unstep_load};
+use crate::loads::{Old, step_load, unstep_load};
 use acpi_values::Op;
 use pw_core::Ops;
 use pw_model::Reply;
-use pw_plan::Request;
+use pw_plan::{Plan, Request};
 use pw_regs::Registers;
+use pw_rule::Load;
 use pw_walker::{Place, begin, next_turn};
 
 /// What a request was told that doesn't wait.
@@ -30,6 +34,28 @@ pub enum Try {
     RegisterFault { done: u32 },
     /// The history ended with a fault before, as this entry, counted from 1: nothing was done.
     Stopped { at: u32 },
+}
+
+/// Sets an old element of a record back, unless the request was answered.
+fn settle<R>(plan: &Plan, told: Try, load: &mut Load<R>, old: Old)
+    requires of { IsLoadOf plan.now load.old }
+    requires fits { FitsIn plan.now load.old old }
+    ensures same { TakesPlace plan.now load.old load.new }
+    ensures part { load_part load.new ≡ part_after told old (load_part load.old) }
+{
+    if !matches!(told, Try::Answer(_)) {
+        unstep_load(plan, load, old);
+    }
+}
+
+/// The operations: they are no more than there is room for.
+fn listed(ops: &Ops) -> &[Op]
+    requires { ops.now.capacity < 2 ^ 32 }
+    ensures list { result.now ≡ ops.now.elements }
+    ensures few { length result.now < 2 ^ 32 }
+{
+    let _spare = ops.spare();
+    ops.list()
 }
 
 impl<R: Registers> Coordinator<R> {
@@ -108,6 +134,7 @@ impl<R: Registers> Coordinator<R> {
         requires place { IsPlace self.now.plan request place ops.old.elements }
         requires walk { walk self.now.plan request raw.old.me.0.held ≡ walk_of place ops.old.elements }
         requires room { ops_bound self.now.plan request ≤ ops.old.capacity }
+        requires few { ops.old.capacity < 2 ^ 32 }
         requires seen { seen.old ≡ length raw.old.me.0.seen }
         ensures id { raw.new.table_id ≡ raw.old.table_id }
         ensures slots { raw.new.me.1 ≡ raw.old.me.1 }
@@ -116,7 +143,7 @@ impl<R: Registers> Coordinator<R> {
         ensures told { Climbs (given_of R.Registers self.now.table.shared.key) raw.old.me.0 request result raw.new.me.0 }
     {
         if let Place::Over { reply } = place {
-            return self.finish(raw, ops.list(), seen, number, request, reply);
+            return self.finish(raw, listed(ops), seen, number, request, reply);
         }
         let turn = next_turn(&self.plan, &place);
         let mut load = match self.take_for(raw, turn, number, request) {
@@ -125,10 +152,7 @@ impl<R: Registers> Coordinator<R> {
         };
         let (next, old) = step_load(&self.plan, &request, place, &mut load, ops);
         let told = self.climb(raw, ops, seen, number, request, next);
-        match told {
-            Try::Answer(_) => {}
-            _ => unstep_load(&self.plan, &mut load, old),
-        }
+        settle(&self.plan, told, &mut load, old);
         self.free(raw, turn, load);
         told
     }
