@@ -150,11 +150,17 @@ impl<R: Registers> Coordinator<R> {
             (entry_as raw.old.me.0.number _request _fault) journal }
         ensures id { raw.new.table_id ≡ raw.old.table_id }
         ensures view { let e = entry_as raw.old.me.0.number _request _fault in
-            raw.new.me ≡ (entered self.now.plan (replay self.now.plan (raw.old.me.0.seen ++ e ∷ [])) e
-            (R.faults journal.regs) raw.old.me.0, rest raw.old.me.1) }
+            raw.new.me ≡ (
+              entered self.now.plan (replay self.now.plan (raw.old.me.0.seen ++ e ∷ [])) e
+                  (R.faults journal.regs) raw.old.me.0,
+              rest raw.old.me.1,
+            ) }
     {
         let last = self.counts.records as usize;
-        let empty = self.table.shared.exchange(raw, last, Some(Load::Log(journal)));
+        let empty = self
+            .table
+            .shared
+            .exchange(raw, last, Some(Load::Log(journal)));
         let None = empty else { unreachable!() };
         self.table.shared.store::<Put<Q>>(raw, last + 1, 0);
         self.table.shared.wake_one(last + 1);
@@ -175,8 +181,11 @@ impl<R: Registers> Coordinator<R> {
             (entry_as raw.old.me.0.number request fault) journal }
         ensures id { raw.new.table_id ≡ raw.old.table_id }
         ensures view { let e = entry_as raw.old.me.0.number request fault in
-            raw.new.me ≡ (entered self.now.plan (replay self.now.plan (raw.old.me.0.seen ++ e ∷ [])) e
-            (R.faults journal.regs) raw.old.me.0, rest raw.old.me.1) }
+            raw.new.me ≡ (
+              entered self.now.plan (replay self.now.plan (raw.old.me.0.seen ++ e ∷ [])) e
+                  (R.faults journal.regs) raw.old.me.0,
+              rest raw.old.me.1,
+            ) }
     {
         self.put::<Brand>(raw, journal, request, fault);
     }
@@ -192,7 +201,10 @@ impl<R: Registers> Coordinator<R> {
         ensures view { raw.new.me ≡ (let_go (R.faults journal.regs) raw.old.me.0, rest raw.old.me.1) }
     {
         let last = self.counts.records as usize;
-        let empty = self.table.shared.exchange(raw, last, Some(Load::Log(journal)));
+        let empty = self
+            .table
+            .shared
+            .exchange(raw, last, Some(Load::Log(journal)));
         let None = empty else { unreachable!() };
         self.table.shared.store::<Leave<Q>>(raw, last + 1, 0);
         self.table.shared.wake_one(last + 1);

@@ -1,4 +1,4 @@
-use Rattle.std.proofs.Common.{rules, arith, ◌+◌, ◌<◌}
+use Rattle.std.proofs.Common.{rules, arith}
 use Rattle.atomic_table.specs.Table.{rest}
 use Rattle.pw_turns.specs.Steps.{load_part}
 use Rattle.pw_rule.proofs.Calls.{free}

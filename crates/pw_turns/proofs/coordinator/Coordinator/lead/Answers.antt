@@ -16,5 +16,5 @@ pub exchange-requires : goal.exchange-requires
 exchange-requires g c =
     let r = c.requires in let s = c.args.self.now in
     let d = led_free g.R.Registers _ _ _ _ _ _ _ _ s.counts.records _ _ _ _ _ _ r.given r.told r.asked s.counted.2 (omega arith)
-        c.compare_exchange-found.ensures.2 c.if-found-ne0.false in
+    c.compare_exchange-found.ensures.2 c.if-found-ne0.false in
     (search rules, (Some (Log d.0), last_out s.counts.records _ (Some (Log d.0)) _ _ s.counted.2 (ap (λ m. m.1) d.1.is)))

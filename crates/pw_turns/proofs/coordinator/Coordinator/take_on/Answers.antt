@@ -1,5 +1,5 @@
 use Rattle.std.proofs.Common.{refl}
-use Rattle.pw_turns.proofs.Again.{again_first, again_more, asks_again, met_now, met_taken, next_again, number_again, took_on}
+use Rattle.pw_turns.proofs.Again.{again_first}
 use Rattle.pw_turns.proofs.coordinator.Coordinator.take_on.Goals as goal
 
 pub loop-init : goal.loop-init
