@@ -32,7 +32,7 @@ pub(crate) fn step_load<R>(
     ops: &mut Ops,
 ) -> (Place, Old)
     requires place { IsPlace plan.now request.now place ops.old.elements }
-    requires record { IsRecordOf plan.now (next_turn plan.now (walk_of place ops.old.elements)) (load_part load.old) load.old }
+    requires holds { IsRecordOf plan.now (next_turn plan.now (walk_of place ops.old.elements)) (load_part load.old) load.old }
     requires turn { next_turn plan.now (walk_of place ops.old.elements) < record_count plan.now }
     requires room { ops_bound plan.now request.now ≤ ops.old.capacity }
     ensures walk { walk_of result.0 ops.new.elements

@@ -227,7 +227,7 @@ impl<R: Registers> Coordinator<R> {
         requires id { raw.old.table_id ≡ self.now.table.shared.table_id }
         requires turn { turn < record_count self.now.plan }
         requires out { IsOut turn raw.old.me }
-        requires record { IsRecordOf self.now.plan turn (load_part load) load }
+        requires holds { IsRecordOf self.now.plan turn (load_part load) load }
         requires noted { HoldsAs turn (load_part load) raw.old.me.0.held }
         requires releasing { (raw.old.me.0.releasing ≡ true) × (raw.old.me.0.out ≡ []) }
         ensures id { raw.new.table_id ≡ raw.old.table_id }

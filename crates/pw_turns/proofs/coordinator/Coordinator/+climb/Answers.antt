@@ -31,7 +31,7 @@ climb-told-requires g t c κs within =
     let P = c.args.self.now.plan in let q = c.args.request in let v = c.args.raw.now.me.0 in let turn = c.next_turn-turn.result in
     let o = c.in-Ok.ensures.view in let is = ap (λ m. m.0) o.is in let x = load_part c.in-Ok.load in let s = c.step_load-next.ensures in
     let f = falls P q c.args.place c.step_load-next.result.0 c.args.ops.now.elements c.step_load-next.new.ops.elements x c.requires.place c.in_default.not-Over s.walk in (
-      ?,
+      omega (arith, f, c.decreases),
       (
         search rules,
         (
@@ -66,11 +66,21 @@ free-requires g t c =
     let taken = subst (λ P. IsRecordOf P turn x c.in-Ok.load) self.planned o.holds in record {
       id = search rules;
       turn = let n = c.next_turn-turn.ensures ops in subst (λ n. n < record_count P) (sym n) (turn_low P q ops c.args.place c.requires.place c.in_default.not-Over);
-      out = ?;
-      record = takes_turn P turn c.step_load-next.new.load c.settle.new.load (takes_turn P turn c.in-Ok.load c.step_load-next.new.load taken s.same) c.settle.ensures.same;
+      out = search rules;
+      holds = takes_turn P turn c.step_load-next.new.load c.settle.new.load (takes_turn P turn c.in-Ok.load c.step_load-next.new.load taken s.same) c.settle.ensures.same;
       noted = free.1;
       releasing = (free.0, free.2);
     }
 
 pub returns : goal.returns
-returns g t c = ?
+returns g t c =
+    let given = given_of g.R.Registers c.args.self.now.table.shared.key in let q = c.args.request in let v = c.args.raw.now.me.0 in
+    let turn = c.next_turn-turn.result in let o = c.in-Ok.ensures.view in let is = ap (λ m. m.0) o.is in
+    let r = c.climb-told.result in let u = c.climb-told.new.raw.me.0 in let back = ap (λ m. m.0) c.free.ensures.view in
+    let told = subst (λ (v : View). Climbs given v q r u) is c.climb-told.ensures.told in record {
+      id = search rules;
+      slots = search rules;
+      capacity = search rules;
+      seen = c.climb-told.ensures.seen ∙ sym (ap (λ (v : View). length v.seen) back);
+      told = tells_back given v q turn (load_part c.in-Ok.load) o.new c.requires.asks.1 r u c.free.new.raw.me.0 told back;
+    }
