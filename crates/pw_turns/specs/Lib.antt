@@ -9,3 +9,5 @@ pub mod Loads
 pub mod Settling
 pub mod Climb
 pub mod Told
+pub mod ClimbsOn
+pub mod Finished

@@ -10,8 +10,10 @@ mod plays;
 mod requests;
 mod seats;
 mod steps;
+mod waited;
 mod waiting;
 
 pub use coordinator::{Coordinator, Seat};
 pub use requests::Try;
 pub use seats::SplitFault;
+pub use waited::Done;

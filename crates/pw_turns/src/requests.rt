@@ -37,7 +37,7 @@ pub enum Try {
 }
 
 /// Sets an old element of a record back, unless the request was answered.
-fn settle<R>(plan: &Plan, told: Try, load: &mut Load<R>, old: Old)
+pub(crate) fn settle<R>(plan: &Plan, told: Try, load: &mut Load<R>, old: Old)
     requires of { IsLoadOf plan.now load.old }
     requires fits { FitsIn plan.now load.old old }
     ensures same { TakesPlace plan.now load.old load.new }
@@ -49,7 +49,7 @@ fn settle<R>(plan: &Plan, told: Try, load: &mut Load<R>, old: Old)
 }
 
 /// The operations: they are no more than there is room for.
-fn listed(ops: &Ops) -> &[Op]
+pub(crate) fn listed(ops: &Ops) -> &[Op]
     requires { ops.now.capacity < 2 ^ 32 }
     ensures list { result.now ≡ ops.now.elements }
     ensures few { length result.now < 2 ^ 32 }
