@@ -137,7 +137,17 @@ impl<R: Registers> Coordinator<R> {
         ensures told { ClimbsOn (given_of R.Registers self.now.table.shared.key) raw.old.me.0 request result raw.new.me.0 }
     {
         if let Place::Over { reply } = place {
-            return self.finish_on(rt, gate, raw, met, listed(ops), seen, number, request, reply);
+            return self.finish_on(
+                rt,
+                gate,
+                raw,
+                met,
+                listed(ops),
+                seen,
+                number,
+                request,
+                reply,
+            );
         }
         let turn = next_turn(&self.plan, &place);
         let mut load = self.take_on(rt, raw, met, turn, number, request);
@@ -161,7 +171,8 @@ impl<R: Registers> Coordinator<R> {
         requires owns { Owns self.now.table.shared.table_id seat.old }
         requires has { Has self.now.plan request }
         ensures owns { Owns self.now.table.shared.table_id seat.new }
-        ensures told { Finished (given_of R.Registers self.now.table.shared.key) (view_in seat.old.badge.views) request result (view_in seat.new.badge.views) }
+        ensures told { Finished (given_of R.Registers self.now.table.shared.key) (view_in seat.old.badge.views) request result
+            (view_in seat.new.badge.views) }
     {
         let number = seat.number;
         let mut raw: Raw<R> = out(&mut seat.badge);

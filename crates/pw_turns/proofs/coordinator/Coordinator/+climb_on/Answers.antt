@@ -1,11 +1,11 @@
-use Rattle.std.proofs.Common.{rules, refl, ap, sym, ◌∙◌, subst, arith, ◌≡◌, ◌<◌, ◌≤◌, length, []}
+use Rattle.std.proofs.Common.{rules, ap, sym, ◌∙◌, subst, arith, ◌<◌, length}
 use Rattle.pw_plan.specs.Requests.{Has}
 use Rattle.pw_parts.specs.Records.{record_count}
 use Rattle.pw_machine.specs.declared.view.View.{View}
 use Rattle.pw_machine.specs.Steps.{Asks}
 use Rattle.pw_rule.specs.Loads.{IsRecordOf}
 use Rattle.pw_rule.specs.Rule.{given_of}
-use Rattle.pw_walk.specs.Walk.{left, next_turn, step, walk}
+use Rattle.pw_walk.specs.Walk.{left, next_turn, walk}
 use Rattle.pw_walker.specs.Places.{walk_of}
 use Rattle.pw_turns.specs.Climb.{Climbs}
 use Rattle.pw_turns.specs.ClimbsOn.{try_of}
@@ -13,7 +13,7 @@ use Rattle.pw_turns.specs.Steps.{load_part, met_on}
 use Rattle.pw_turns.proofs.Climbing.{asks_taken}
 use Rattle.pw_turns.proofs.Finishing.{asks_met}
 use Rattle.pw_turns.proofs.Frames.{falls, may_free, tells_back, walks}
-use Rattle.pw_turns.proofs.InHand.{load_of, takes_turn, turn_low}
+use Rattle.pw_turns.proofs.InHand.{takes_turn, turn_low}
 use Rattle.pw_turns.proofs.Nexts.{next_is}
 use Rattle.pw_turns.proofs.coordinator.Coordinator.+climb_on.Goals as goal
 
@@ -77,7 +77,7 @@ free-requires g t c =
     let has = subst (λ P. Has P q) (sym self.planned) c.requires.place.has in
     let moved = s.part ∙ ap (λ w. left P q w x) (sym c.requires.walk) ∙ ap (λ P. left P q (walk P q v.held) x) (sym self.planned) in
     let free = may_free given v q turn x o.new c.requires.asks.1 (try_of r) c.step_load-next.result.1 u (load_part c.step_load-next.new.load) (load_part c.settle.new.load) has told moved s.back
-        (rw (sym c.as_try.ensures) c.settle.ensures.part) in
+    (rw (sym c.as_try.ensures) c.settle.ensures.part) in
     let taken = subst (λ P. IsRecordOf P turn x c.take_on-load.result) self.planned o.holds in record {
       id = search rules;
       turn = let n = c.next_turn-turn.ensures ops in subst (λ n. n < record_count P) (sym n) (turn_low P q ops c.args.place c.requires.place c.in_default.not-Over);
