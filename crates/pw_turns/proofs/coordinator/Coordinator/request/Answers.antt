@@ -1,4 +1,4 @@
-use Rattle.std.proofs.Common.{ap, sym, subst, arith, ◌+◌}
+use Rattle.std.proofs.Common.{ap, sym, subst, arith}
 use Rattle.pw_machine.specs.declared.view.View.{View}
 use Rattle.pw_rule.specs.Rule.{given_of}
 use Rattle.pw_turns.specs.ClimbsOn.{ClimbsOn}
