@@ -6,6 +6,7 @@
 mod coordinator;
 mod counts;
 mod plays;
+mod slots;
 mod steps;
 
 pub use coordinator::{Coordinator, Seat};
