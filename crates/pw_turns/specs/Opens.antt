@@ -1,7 +1,8 @@
 -- What opening a coordinator tells.
-use Rattle.std.specs.Prelude.{◌≡◌, ◌++◌, ◌<◌, [], ◌∷◌, ℕ, Some, true, length, take}
+use Rattle.std.specs.Prelude.{◌≡◌, ◌++◌, ◌<◌, ◌≤◌, [], ◌∷◌, ℕ, Some, true, length, take}
 use Rattle.pw_base.specs.Outside.{Rose}
 use Rattle.pw_plan.specs.declared.plan.Plan.{Plan}
+use Rattle.pw_plan.specs.Requests.{opening_bound}
 use Rattle.pw_model.specs.Operations.{opening_ops}
 use Rattle.pw_machine.specs.declared.view.View.{View}
 use Rattle.pw_machine.specs.Books.{calls_of}
@@ -15,6 +16,13 @@ abbrev pub opened_view : ℕ → View
 opened_view count = record spent_view { book = calls_of 0 [] ∷ []; parts = 65536; read = Some 1; second = Some count }
 
 module _ {R : Type 0} (by : Registers R) where
+  -- The first seat's view. The registers' count has not sunk, and stayed where they had promised room.
+  pub record IsOpened (plan : Plan) (regs : R) (v : View) : Type 0 where
+    pub count : ℕ
+    pub least : by.faults regs ≤ count
+    pub steady : opening_bound plan ≤ by.room regs → count ≡ by.faults regs
+    pub is : v ≡ opened_view count
+
   -- So many operations of the opening were done, and the next one failed.
   pub record FailsAfter (plan : Plan) (regs : R) (done : ℕ) (left : R) : Type 0 where
     pub within : done < length (opening_ops plan)
@@ -22,7 +30,7 @@ module _ {R : Type 0} (by : Registers R) where
     pub ops : by.told regs ≡ true → by.log left ≡ by.log regs ++ take done (opening_ops plan)
     pub failed : Rose (by.faults regs) (by.faults left)
     -- they had not promised room for all of them
-    pub promised : by.room regs < length (opening_ops plan)
+    pub promised : by.room regs < opening_bound plan
 
   -- the plan and the registers are given back, or the registers as they were
   abbrev pub OpenFails : Plan → R → OpenFault R → Type 0

@@ -12,6 +12,9 @@ use pw_rule::{Limit, Load, Turns};
 use std::alloc::Global;
 use std::mem::replace;
 
+/// The most operations of a request.
+pub(crate) const MOST_OF_A_REQUEST: u32 = 256;
+
 /// A seat of the table, while a call steps with it.
 pub(crate) type Raw<R> = atomic_table::Seat<Option<Load<R>>, View>;
 

@@ -3,10 +3,14 @@
 //! its place in one history says.
 #![tactic(auto)]
 
+mod close;
 mod coordinator;
 mod counts;
+mod open;
 mod plays;
 mod slots;
 mod steps;
 
+pub use close::{Closed, Sealed};
 pub use coordinator::{Coordinator, Seat};
+pub use open::OpenFault;
