@@ -7,6 +7,7 @@ use lib.ListN.{get_elem?}
 use Rattle.atomic_table.specs.Table.{Final, Seen}
 use Rattle.pw_plan.specs.declared.plan.Plan.{Plan}
 use Rattle.pw_parts.specs.Records.{Part, record_count}
+use Rattle.pw_model.specs.declared.entry.HistoryEntry.{HistoryEntry}
 use Rattle.pw_machine.specs.declared.view.View.{View}
 use Rattle.pw_machine.specs.Books.{count_in, entries_of}
 use Rattle.pw_machine.specs.Machine.{furthest, now}
@@ -18,11 +19,12 @@ use Rattle.pw_rule.specs.declared.limit.Limit.{Limit}
 use Rattle.pw_rule.specs.declared.load.Load.{Load}
 use Rattle.pw_rule.specs.declared.load.Load.TheVariants.{Log}
 use Rattle.pw_rule.specs.Loads.{Homes, IsRecordOf, LiesAt}
-use Rattle.pw_rule.specs.Rule.{Ruled, given_of, told_of}
+use Rattle.pw_rule.specs.Rule.{Ruled, first_of, given_of, told_of}
+use Rattle.pw_rule.specs.Plays.{Mine}
 use Rattle.pw_rule.specs.Moves.{IsWhole}
 use Rattle.pw_rule.proofs.Alone as alone
 use Rattle.pw_turns.specs.Ends.{Ends}
-use Rattle.pw_turns.specs.Views.{IsAtRest}
+use Rattle.pw_turns.specs.Views.{IsAtRest, view_in}
 use Rattle.pw_turns.specs.inner.Slots.{EndsWith, HasRecords}
 use Rattle.pw_turns.proofs.Shelves.{no_log_there}
 
@@ -104,3 +106,48 @@ module _ {R : Type 0} (by : Registers R) (key : Limit R) (id : ℕ) (v : View) (
             fault = w.fault;
           },
         )
+
+-- # As the calls have it
+
+module _ {R : Type 0} (by : Registers R) (key : Limit R) (P : Plan) (id n : ℕ) (plan : key.plan ≡ P) (counted : n ≡ record_count P) where
+  sized : n ≡ record_count key.plan
+  sized = counted ∙ ap record_count (sym plan)
+
+  module _ (m : Mine R) (begun : m ≡ (first_of key, [])) where
+    pub begun_has_records : HasRecords by key id m.0 n
+    begun_has_records = first_has_records by key id m.0 n sized (ap (λ (m : Mine R). m.0.mark) begun)
+
+    pub begun_ends : (x : Option (Load R)) → EndsWith by key id m.0 n x → x ≡ None
+    begun_ends = first_ends by key id m.0 n sized (ap (λ (m : Mine R). m.0.mark) begun) (ap (λ (m : Mine R). m.0.out) begun)
+
+  module _ (views : List View) (v : View) (is : views ≡ v ∷ []) (rest : IsAtRest (view_in views)) (all : (view_in views).parts ≡ 65536) where
+    same : view_in views ≡ v
+    same = ap view_in is
+
+    at_rest : IsAtRest v
+    at_rest = subst IsAtRest same rest
+
+    all_parts : v.parts ≡ 65536
+    all_parts = ap (λ (u : View). u.parts) (sym same) ∙ all
+
+    idle : IsIdle v
+    idle = rests_idle v at_rest (omega (arith, all_parts))
+
+    pub closing_has_records : HasRecords by key id v n
+    closing_has_records = alone_has_records by key id v n sized idle all_parts
+
+    module _ (x : Option (Load R)) (ends : EndsWith by key id v n x) where
+      left : (j : Journaled R) × (x ≡ Some (Log j)) × Ends by (told_of by key) (given_of by key) v j.entries j.regs
+      left = alone_ends by key id v n sized idle all_parts (none_of v.told at_rest.6) x ends
+
+      pub closing_log : (j : Journaled R) × (x ≡ Some (Log j))
+      closing_log = (left.0, left.1)
+
+      pub closing_ends : (j : Journaled R) (entries : List HistoryEntry) (regs : R) → x ≡ Some (Log j) → entries ≡ j.entries → regs ≡ j.regs
+          → Ends by (told_of by key) (given_of by key) (view_in views) entries regs
+      closing_ends j entries regs is same-entries same-regs =
+          let one : left.0 ≡ j = let e : Some (Log left.0) ≡ Some (Log j) = sym left.1 ∙ is in cc in
+          subst (λ u. Ends by (told_of by key) (given_of by key) u entries regs) (sym same)
+          (subst (λ es. Ends by (told_of by key) (given_of by key) v es regs) (sym same-entries)
+          (subst (λ r. Ends by (told_of by key) (given_of by key) v j.entries r) (sym same-regs)
+          (subst (λ (k : Journaled R). Ends by (told_of by key) (given_of by key) v k.entries k.regs) one left.2)))

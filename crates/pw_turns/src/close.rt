@@ -4,12 +4,11 @@ ghost use Rattle.pw_turns.specs.Ends.{Ends};
 ghost use Rattle.pw_turns.specs.Views.{view_in};
 
 use crate::coordinator::{Coordinator, Raw, Seat, out};
-use crate::slots::close_shelf;
+use crate::slots::{close_shelf, journal_in};
 use pw_base::List;
 use pw_journal::HistoryEntry;
 use pw_plan::Plan;
 use pw_regs::Registers;
-use pw_rule::Load;
 
 /// The history of a coordinator that is closed.
 #[derive(Drop)]
@@ -84,9 +83,7 @@ impl<R: Registers> Coordinator<R> {
         } = self;
         let mut seat = seat;
         let raw: Raw<R> = out(&mut seat.badge);
-        let Some(Load::Log(journal)) = close_shelf(table, raw, counts) else {
-            unreachable!()
-        };
+        let journal = journal_in(close_shelf(table, raw, counts));
         let (entries, regs) = journal.finish();
         let sealed = Sealed {
             plan,

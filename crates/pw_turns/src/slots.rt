@@ -1,7 +1,9 @@
-ghost use Rattle.std.specs.Prelude.{◌≡◌, ◌<◌, ◌+◌, ◌∷◌, [], ℕ, true, false, length, slice_index_or, IfOk};
+ghost use Rattle.std.specs.Prelude.{◌≡◌, ◌<◌, ◌+◌, ◌∷◌, [], ℕ, true, false, Some, length, slice_index_or, IfOk};
 ghost use Rattle.std.specs.Slots.{slots_items, slots_filled, slots_len, IsFull};
 ghost use Rattle.pw_parts.specs.Calls.{opening_part};
 ghost use Rattle.pw_parts.specs.Records.{record_at, record_count};
+ghost use Rattle.pw_journal.specs.Journaled.{Journaled};
+ghost use Rattle.pw_rule.specs.declared.load.Load.TheVariants.{Log};
 ghost use Rattle.pw_rule.specs.Loads.{IsRecordOf};
 ghost use Rattle.pw_rule.specs.Rule.{first_of};
 ghost use Rattle.pw_turns.specs.Counts.{AreCounts};
@@ -13,6 +15,7 @@ use atomic_table::{Closed, Refused, Table};
 use pw_base::Memory;
 use pw_domain::{DomainRec, GroupRec};
 use pw_idle::NodeRec;
+use pw_journal::Journal;
 use pw_machine::View;
 use pw_plan::Plan;
 use pw_regs::Registers;
@@ -126,6 +129,17 @@ fn clear<R>(closed: &mut Closed<Option<Load<R>>, Global>, records: usize)
 {
     for turn in 0..records {
         discard_slot(closed.take(turn));
+    }
+}
+
+/// The journal, out of its slot.
+pub(crate) fn journal_in<R>(slot: Option<Load<R>>) -> Journal<R>
+    requires { (j : Journaled R) × (slot ≡ Some (Log j)) }
+    ensures { slot ≡ Some (Log result) }
+{
+    match slot {
+        Some(Load::Log(journal)) => journal,
+        _ => unreachable!(),
     }
 }
 
