@@ -31,7 +31,7 @@ held_first P n e = ap (held_from P 0) (sym e)
 
 pub held_here : (P : Plan) (t n : ℕ) → 0 < n → 0 < count_held t (held_from P t n).held
 held_here P t zero some = absurd (omega (arith, some))
-held_here P t (suc n) some = omega (arith, ap (λ b. cond b 1 0) (eq-eqb t t refl))
+held_here P t (suc n) some = omega (arith, ap {B = ℕ} (λ b. cond b 1 0) (eq-eqb t t refl))
 
 pub held_next : (P : Plan) (t n : ℕ) → 0 < n → freed t (held_from P t n) ≡ held_from P (t + 1) (n - 1)
 held_next P t zero some = absurd (omega (arith, some))
