@@ -1,8 +1,12 @@
 -- The views of the first seat while it frees the turns.
-use Rattle.std.proofs.Common.{◌≡◌, ℕ, zero, suc, ◌+◌, ◌-◌, ◌<◌, ◌≤◌, List, [], ◌∷◌, Bool, true, Option, Some, None, cond, eqb, eq-eqb, refl, sym, ap, ◌∙◌, subst, arith}
+use Rattle.std.proofs.Common.{◌≡◌, ℕ, zero, suc, ◌+◌, ◌-◌, ◌<◌, ◌≤◌, List, [], ◌∷◌, ◌++◌, Bool, true, length, take, Option, Some, None, cond, eqb, eq-eqb, refl, sym, ap, ◌∙◌, subst, arith}
 use mathlib.Core.Option.{none}
 use Rattle.atomic_table.specs.Table.{Allows, step}
+use Rattle.acpi_values.specs.declared.operation.Op.{Op}
+use Rattle.pw_base.specs.Outside.{Rose}
 use Rattle.pw_plan.specs.declared.plan.Plan.{Plan}
+use Rattle.pw_model.specs.Operations.{opening_ops}
+use Rattle.pw_model.proofs.Bounds.{opening_ops-length}
 use Rattle.pw_model.specs.History.{replay}
 use Rattle.pw_parts.specs.Records.{Part, record_count}
 use Rattle.pw_machine.specs.declared.view.View.{View}
@@ -19,7 +23,7 @@ use Rattle.pw_rule.specs.Rule.{Ruled, given_of, opening_parts, parts_from, told_
 use Rattle.pw_rule.specs.Plays.{IsFirst, Mine, claimed, opened_by}
 use Rattle.pw_rule.proofs.Calls as calls
 use Rattle.pw_rule.proofs.Opening.{claims, without_first}
-use Rattle.pw_turns.specs.Opens.{opened_view}
+use Rattle.pw_turns.specs.Opens.{FailsAfter, opened_view}
 use Rattle.pw_turns.specs.inner.Opening.{HasBegun}
 
 -- so many records are left to it, from this turn on
@@ -44,6 +48,22 @@ held_next P t (suc n) some =
     rest : (k : ℕ) → left_with (all_held (suc t) (parts_from P (suc t) k)) (held_from P t (suc n)) ≡ held_from P (suc t) k
     rest zero = refl
     rest (suc k) = refl
+
+-- # The operations at the start
+
+-- one of them failed
+pub fails_after : {R : Type 0} (by : Registers R) (P : Plan) (ops : List Op) → ops ≡ opening_ops P → (before left : R) (done : ℕ) → done < length ops
+    → by.told left ≡ by.told before → (by.told before ≡ true → by.log left ≡ by.log before ++ take done ops) → Rose (by.faults before) (by.faults left)
+    → by.room before < length ops → FailsAfter by P before done left
+fails_after by P ops is before left done within told part rose full = record {
+  within = omega (arith, within, ap length is);
+  same_told = told;
+  ops = λ tells. part tells ∙ ap (λ (l : List Op). by.log before ++ take done l) is;
+  failed = rose;
+  promised = omega (arith, full, ap length is, opening_ops-length P);
+}
+
+-- # The journal
 
 -- once the journal is back
 pub opened_is : (last count : ℕ) → let_go count (in_place last (in_hand last (first_view []))) ≡ opened_view count
