@@ -1,15 +1,13 @@
 -- What lies in the slots of a table that ends.
-use Rattle.std.proofs.Common.{◌≡◌, ℕ, zero, suc, ◌+◌, ◌-◌, ◌<◌, ◌≤◌, List, [], ◌∷◌, ◌++◌, Bool, true, false, Option, Some, None, length, map, is_none, refl, sym, ap, ◌∙◌, subst, arith}
+use Rattle.std.proofs.Common.{◌≡◌, ℕ, zero, suc, ◌<◌, List, [], ◌∷◌, true, Option, Some, None, length, map, is_none, refl, sym, ap, ◌∙◌, subst, arith}
 use mathlib.Core.Option.{some, some-injective, some-ne-none}
 use mathlib.Core.Logic.{dite}
 use native.Mathlib.Decide.{dec_le}
 use lib.ListN.{get_elem?}
-use Rattle.atomic_table.specs.Table.{Final, Seen}
 use Rattle.pw_plan.specs.declared.plan.Plan.{Plan}
-use Rattle.pw_parts.specs.Records.{Part, record_count}
+use Rattle.pw_parts.specs.Records.{record_count}
 use Rattle.pw_model.specs.declared.entry.HistoryEntry.{HistoryEntry}
 use Rattle.pw_machine.specs.declared.view.View.{View}
-use Rattle.pw_machine.specs.Books.{count_in, entries_of}
 use Rattle.pw_machine.specs.Machine.{furthest, now}
 use Rattle.pw_machine.specs.Steps.{IsIdle}
 use Rattle.pw_machine.specs.Turns.{count_turn, part_at}
@@ -18,10 +16,9 @@ use Rattle.pw_journal.specs.Journaled.{Journaled}
 use Rattle.pw_rule.specs.declared.limit.Limit.{Limit}
 use Rattle.pw_rule.specs.declared.load.Load.{Load}
 use Rattle.pw_rule.specs.declared.load.Load.TheVariants.{Log}
-use Rattle.pw_rule.specs.Loads.{Homes, IsRecordOf, LiesAt}
-use Rattle.pw_rule.specs.Rule.{Ruled, first_of, given_of, told_of}
+use Rattle.pw_rule.specs.Loads.{IsRecordOf}
+use Rattle.pw_rule.specs.Rule.{first_of, given_of, told_of}
 use Rattle.pw_rule.specs.Plays.{Mine}
-use Rattle.pw_rule.specs.Moves.{IsWhole}
 use Rattle.pw_rule.proofs.Alone as alone
 use Rattle.pw_turns.specs.Ends.{Ends}
 use Rattle.pw_turns.specs.Views.{IsAtRest, view_in}

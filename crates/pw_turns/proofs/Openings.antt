@@ -1,5 +1,5 @@
 -- The views of the first seat while it frees the turns.
-use Rattle.std.proofs.Common.{◌≡◌, ℕ, zero, suc, ◌+◌, ◌-◌, ◌<◌, ◌≤◌, List, [], ◌∷◌, ◌++◌, Bool, true, length, take, Option, Some, None, cond, eqb, eq-eqb, refl, sym, ap, ◌∙◌, subst, arith}
+use Rattle.std.proofs.Common.{◌≡◌, ℕ, zero, suc, ◌+◌, ◌-◌, ◌<◌, List, [], ◌∷◌, ◌++◌, true, length, take, Some, cond, eq-eqb, refl, sym, ap, ◌∙◌, subst, arith}
 use mathlib.Core.Option.{none}
 use Rattle.atomic_table.specs.Table.{Allows, step}
 use Rattle.acpi_values.specs.declared.operation.Op.{Op}
@@ -8,22 +8,21 @@ use Rattle.pw_plan.specs.declared.plan.Plan.{Plan}
 use Rattle.pw_model.specs.Operations.{opening_ops}
 use Rattle.pw_model.proofs.Bounds.{opening_ops-length}
 use Rattle.pw_model.specs.History.{replay}
-use Rattle.pw_parts.specs.Records.{Part, record_count}
+use Rattle.pw_parts.specs.Records.{record_count}
 use Rattle.pw_machine.specs.declared.view.View.{View}
 use Rattle.pw_machine.specs.Law.{all_held, first_view}
 use Rattle.pw_machine.specs.Machine.{count_held}
-use Rattle.pw_machine.specs.Steps.{freed, in_hand, in_place, left_with, let_go, without_turn}
+use Rattle.pw_machine.specs.Steps.{freed, in_hand, left_with}
 use Rattle.pw_machine.specs.Turns.{part_at}
 use Rattle.pw_regs.specs.declared.registers.Registers.{Ghosts as Registers}
 use Rattle.pw_journal.specs.Journaled.{Journaled}
 use Rattle.pw_rule.specs.declared.limit.Limit.{Limit}
-use Rattle.pw_rule.specs.declared.load.Load.{Load}
 use Rattle.pw_rule.specs.declared.load.Load.TheVariants.{Log}
 use Rattle.pw_rule.specs.Rule.{Ruled, given_of, opening_parts, parts_from, told_of}
-use Rattle.pw_rule.specs.Plays.{IsFirst, Mine, claimed, opened_by}
+use Rattle.pw_rule.specs.Plays.{Mine, claimed, opened_by}
 use Rattle.pw_rule.proofs.Calls as calls
 use Rattle.pw_rule.proofs.Opening.{claims, without_first}
-use Rattle.pw_turns.specs.Opens.{FailsAfter, opened_view}
+use Rattle.pw_turns.specs.Opens.{FailsAfter}
 use Rattle.pw_turns.specs.inner.Opening.{HasBegun}
 
 -- so many records are left to it, from this turn on
@@ -64,10 +63,6 @@ fails_after by P ops is before left done within told part rose full = record {
 }
 
 -- # The journal
-
--- once the journal is back
-pub opened_is : (last count : ℕ) → let_go count (in_place last (in_hand last (first_view []))) ≡ opened_view count
-opened_is last count = ap (λ b. record (opened_view count) { out = cond b [] (last ∷ []) }) (eq-eqb last last refl)
 
 module _ {R : Type 0} (by : Registers R) (n : ℕ) (key : Limit R) (id last : ℕ) (place : last ≡ record_count key.plan) where
   pub claims_it : (m : Mine R) (k : ℕ) → k ≡ suc last → m ≡ (first_view [], [])

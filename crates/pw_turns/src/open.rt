@@ -116,7 +116,9 @@ impl<R: Registers> Coordinator<R> {
         ensures id { raw.new.table_id ≡ raw.old.table_id }
         ensures view { raw.new.me ≡ (freed turn raw.old.me.0, raw.old.me.1) }
     {
-        self.table.shared.store::<OpenRecord>(raw, turn as usize + 1, 0);
+        self.table
+            .shared
+            .store::<OpenRecord>(raw, turn as usize + 1, 0);
     }
 
     /// Frees the records' turns for the first time.
@@ -144,7 +146,10 @@ impl<R: Registers> Coordinator<R> {
     {
         let last = self.counts.records as usize;
         self.table.shared.load::<Claim<Q>>(raw, last + 1);
-        let empty = self.table.shared.exchange(raw, last, Some(Load::Log(journal)));
+        let empty = self
+            .table
+            .shared
+            .exchange(raw, last, Some(Load::Log(journal)));
         let None = empty else { unreachable!() };
         self.table.shared.store::<OpenJournal<Q>>(raw, last + 1, 0);
     }

@@ -144,7 +144,11 @@ pub(crate) fn journal_in<R>(slot: Option<Load<R>>) -> Journal<R>
 }
 
 /// Ends a table whose records are at home. It lets them go, and gives what lies in the journal's slot.
-pub(crate) fn close_shelf<R: Registers>(shelf: Shelf<R>, raw: Raw<R>, counts: Counts) -> Option<Load<R>>
+pub(crate) fn close_shelf<R: Registers>(
+    shelf: Shelf<R>,
+    raw: Raw<R>,
+    counts: Counts,
+) -> Option<Load<R>>
     requires id { raw.table_id ≡ shelf.shared.table_id }
     requires slots { shelf.shared.table_id.slots ≡ counts.records + 1 }
     requires records { HasRecords R.Registers shelf.shared.key raw.id raw.me.0 counts.records }

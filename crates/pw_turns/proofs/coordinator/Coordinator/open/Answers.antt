@@ -1,5 +1,4 @@
-use Rattle.std.proofs.Common.{List, ◌≡◌, ◌<◌, ◌≤◌, ◌++◌, ◌∙◌, ap, arith, length, subst, sym, take}
-use Rattle.acpi_values.specs.declared.operation.Op.{Op}
+use Rattle.std.proofs.Common.{◌≡◌, ◌≤◌, ◌∙◌, ap, arith, length, subst, sym}
 use Rattle.pw_model.specs.Operations.{opening_ops}
 use Rattle.pw_model.proofs.Bounds.{opening_ops-length}
 use Rattle.pw_journal.specs.Journaled.{Journaled}
@@ -14,9 +13,9 @@ returns-in-Err-operate-clause-fault g c =
     let list : c.list.result.now ≡ opening_ops c.args.plan = c.list.ensures ∙ c.in-Ok.ensures.list in (
       c.give_up-plan.ensures ∙ c.in-Ok-begin.ensures.plan,
       subst (FailsAfter by c.args.plan c.args.regs c.in-Err-operate.done) (sym c.finish-regs-in-Err-operate.ensures.regs)
-      (subst (λ r. FailsAfter by c.args.plan r c.in-Err-operate.done c.operate.new.self.regs) before
-      (fails_after by c.args.plan c.list.result.now list c.in-Ok-open.journal.regs c.operate.new.self.regs c.in-Err-operate.done
-      e.within e.keeps.same_told e.part e.failed e.promised)),
+          (subst (λ r. FailsAfter by c.args.plan r c.in-Err-operate.done c.operate.new.self.regs) before
+          (fails_after by c.args.plan c.list.result.now list c.in-Ok-open.journal.regs c.operate.new.self.regs c.in-Err-operate.done
+          e.within e.keeps.same_told e.part e.failed e.promised)),
     )
 
 pub returns-clause-view : goal.returns-clause-view

@@ -1,4 +1,4 @@
-use Rattle.std.proofs.Common.{rules, [], ◌+◌, ◌≡◌, ◌<◌, ◌∷◌, Some, None, ℕ, suc, ap, arith, subst, sym, ◌∙◌}
+use Rattle.std.proofs.Common.{rules, [], ◌+◌, ◌≡◌, ◌∷◌, Some, None, ap, arith, sym, ◌∙◌}
 use Rattle.atomic_table.specs.Table.{rest}
 use Rattle.pw_parts.specs.Records.{record_count}
 use Rattle.pw_machine.specs.Law.{first_view}
