@@ -11,3 +11,6 @@ pub mod Climb
 pub mod Told
 pub mod ClimbsOn
 pub mod Finished
+pub mod Opens
+pub mod Ends
+pub mod inner

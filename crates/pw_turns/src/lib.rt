@@ -3,17 +3,22 @@
 //! its place in one history says.
 #![tactic(auto)]
 
+mod close;
 mod coordinator;
 mod counts;
 mod loads;
+mod open;
 mod plays;
 mod requests;
 mod seats;
+mod slots;
 mod steps;
 mod waited;
 mod waiting;
 
+pub use close::{Closed, Sealed};
 pub use coordinator::{Coordinator, Seat};
+pub use open::OpenFault;
 pub use requests::Try;
 pub use seats::SplitFault;
 pub use waited::Done;
