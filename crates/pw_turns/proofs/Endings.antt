@@ -23,27 +23,8 @@ use Rattle.pw_rule.proofs.Alone as alone
 use Rattle.pw_turns.specs.Ends.{Ends}
 use Rattle.pw_turns.specs.Views.{IsAtRest, view_in}
 use Rattle.pw_turns.specs.inner.Slots.{EndsWith, HasRecords}
+use Rattle.pw_turns.proofs.Parting.{idle_rest}
 use Rattle.pw_turns.proofs.Shelves.{no_log_there}
-
--- # A seat at rest
-
-nil_of : {A : Type 0} (l : List A) → length l ≡ 0 → l ≡ []
-nil_of [] e = refl
-nil_of (x ∷ xs) e = absurd (omega (arith, e))
-
-none_of : {A : Type 0} (o : Option A) → is_none o ≡ true → o ≡ None
-none_of None e = refl
-none_of (Some x) e = cc
-
-pub rests_idle : (v : View) → IsAtRest v → 0 < v.parts → IsIdle v
-rests_idle v rest live = record {
-  live = live;
-  unmarked = rest.5;
-  request = none_of v.request rest.3;
-  held = nil_of v.held rest.0;
-  no_journal = rest.1;
-  no_slot = nil_of v.out rest.2;
-}
 
 -- # Slots
 
@@ -128,7 +109,7 @@ module _ {R : Type 0} (by : Registers R) (key : Limit R) (P : Plan) (id n : ℕ)
     all_parts = ap (λ (u : View). u.parts) (sym same) ∙ all
 
     idle : IsIdle v
-    idle = rests_idle v at_rest (omega (arith, all_parts))
+    idle = idle_rest v at_rest (omega (arith, all_parts))
 
     pub closing_has_records : HasRecords by key id v n
     closing_has_records = alone_has_records by key id v n sized idle all_parts
