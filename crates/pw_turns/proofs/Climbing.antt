@@ -1,32 +1,31 @@
 -- What a call tells, from what its steps told.
-use Rattle.std.proofs.Common.{◌≡◌, ◌≢◌, ◌⊎◌, inl, inr, ℕ, ◌+◌, ◌-◌, ◌<◌, ◌≤◌, List, [], ◌∷◌, ◌++◌, take, Option, Some, None, Bool, true, false, length, cond, eqb, eq-eqb, sym, refl, ap, ◌∙◌, subst, arith, append_assoc, append-nil}
+use Rattle.std.proofs.Common.{◌≡◌, ◌≢◌, inl, inr, ℕ, ◌+◌, ◌≤◌, List, [], ◌∷◌, ◌++◌, Some, Bool, true, false, length, cond, eqb, eq-eqb, sym, refl, ap, ◌∙◌, subst, arith, append_assoc, append-nil}
 use Rattle.acpi_values.specs.declared.operation.Op.{Op}
 use Rattle.pw_base.specs.Outside.{Rose}
 use Rattle.pw_plan.specs.declared.plan.Plan.{Plan}
 use Rattle.pw_plan.specs.declared.request.Request.{Request}
 use Rattle.pw_plan.specs.Requests.{Has}
-use Rattle.pw_model.specs.declared.entry.HistoryEntry.{HistoryEntry}
 use Rattle.pw_model.specs.declared.reply.Reply.{Reply}
 use Rattle.pw_model.specs.declared.state.State.{State}
-use Rattle.pw_model.specs.Answers.{after, answer}
-use Rattle.pw_model.specs.Operations.{opening_ops, ops_of}
-use Rattle.pw_model.specs.History.{Faultless, Legal, entry_ops, history_ops, replay}
-use Rattle.pw_parts.specs.Records.{Part, record_count}
+use Rattle.pw_model.specs.Answers.{answer}
+use Rattle.pw_model.specs.Operations.{ops_of}
+use Rattle.pw_model.specs.History.{Faultless, entry_ops, replay}
+use Rattle.pw_parts.specs.Records.{Part}
 use Rattle.pw_regs.specs.declared.registers.Registers.{Ghosts as Registers}
 use Rattle.pw_journal.specs.Journaled.{Journaled}
 use Rattle.pw_machine.specs.declared.view.Held.{Held}
 use Rattle.pw_machine.specs.declared.view.View.{View}
-use Rattle.pw_machine.specs.Turns.{StartsWith, part_at, way}
+use Rattle.pw_machine.specs.Turns.{part_at}
 use Rattle.pw_machine.specs.Machine.{Given, IsNoted, count_held, held_as, turns_of}
 use Rattle.pw_machine.specs.Steps.{Asks, HoldsAs, entered, freed, goes_on, left_with, let_go, led, met_with, releasing, renoted, taken, without_record}
 use Rattle.pw_machine.proofs.Plans.{legal_state}
 use Rattle.pw_walk.specs.Walk.{left, over, walk}
 use Rattle.pw_walk.proofs.Walks.{tells_answer, tells_left}
-use Rattle.pw_rule.specs.Plays.{IsFound, IsGrown, Led, Mine}
+use Rattle.pw_rule.specs.Plays.{IsFound, IsGrown, Mine}
 use Rattle.pw_turns.specs.Asked.{entry_as}
 use Rattle.pw_turns.specs.Steps.{LedOut}
 use Rattle.pw_turns.specs.Climb.{Found, Made, looked_in, wrote}
-use Rattle.pw_turns.proofs.Entries.{asks_for, is_legal, may_follow, ops_done, ops_failed, seat_of, state_done, state_failed}
+use Rattle.pw_turns.proofs.Entries.{asks_for, is_legal, may_follow, seat_of, state_done, state_failed}
 
 over_reply : (r s : Reply) (xs ys : List Op) → over r xs ≡ over s ys → r ≡ s
 over_reply r s xs ys e = cc

@@ -1,5 +1,5 @@
 -- What lies in the slots of a table that ends.
-use Rattle.std.proofs.Common.{◌≡◌, ℕ, zero, suc, ◌<◌, List, [], ◌∷◌, true, Option, Some, None, length, map, is_none, refl, sym, ap, ◌∙◌, subst, arith}
+use Rattle.std.proofs.Common.{◌≡◌, ℕ, zero, suc, List, [], ◌∷◌, true, Option, Some, None, length, map, sym, ap, ◌∙◌, subst, arith}
 use mathlib.Core.Option.{some, some-injective, some-ne-none}
 use mathlib.Core.Logic.{dite}
 use native.Mathlib.Decide.{dec_le}
@@ -23,7 +23,7 @@ use Rattle.pw_rule.proofs.Alone as alone
 use Rattle.pw_turns.specs.Ends.{Ends}
 use Rattle.pw_turns.specs.Views.{IsAtRest, view_in}
 use Rattle.pw_turns.specs.inner.Slots.{EndsWith, HasRecords}
-use Rattle.pw_turns.proofs.Parting.{idle_rest}
+use Rattle.pw_turns.proofs.Parting.{idle_rest, none_of}
 use Rattle.pw_turns.proofs.Shelves.{no_log_there}
 
 -- # Slots

@@ -1,6 +1,5 @@
 -- Entries that a seat makes.
-use Rattle.std.proofs.Common.{◌≡◌, ◌≢◌, ◌≤◌, ◌<◌, ◌+◌, ◌-◌, ◌==◌, ◌++◌, ◌∷◌, ◌∙◌, ℕ, true, false, List, [], length, take, if◌then◌else◌, refl, ap, sym, inl, inr, arith, subst, ne_eqb}
-use Rattle.acpi_values.specs.declared.operation.Op.{Op}
+use Rattle.std.proofs.Common.{◌≡◌, ◌≢◌, ◌≤◌, ◌+◌, ◌-◌, ◌==◌, ◌++◌, ◌∷◌, ◌∙◌, ℕ, false, List, [], length, take, if◌then◌else◌, refl, ap, sym, inr, arith, subst, ne_eqb}
 use Rattle.pw_plan.specs.declared.plan.Plan.{Plan}
 use Rattle.pw_plan.specs.declared.request.Request.{Request}
 use Rattle.pw_plan.specs.declared.request.Request.TheVariants.{Idle, Wake, Perf, Throttle, PerfLimit, ThrottleLimit}
@@ -11,7 +10,6 @@ use Rattle.pw_model.specs.Answers.{after}
 use Rattle.pw_model.specs.Operations.{ops_of}
 use Rattle.pw_model.specs.History.{FaultFits, Faultless, IsEntry, Legal, MayFollow, entry_of, entry_ops, replay, request_of}
 use Rattle.pw_model.proofs.Joining.{entry_is, legal-more, replay-append, request_of-entry}
-use Rattle.pw_journal.specs.Entries.{fault_entry}
 use Rattle.pw_turns.specs.Asked.{entry_as}
 
 pub seat_of : (seat : ℕ) (q : Request) (fault : ℕ) → (entry_as seat q fault).seat ≡ seat

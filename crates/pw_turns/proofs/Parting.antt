@@ -1,14 +1,13 @@
 -- What a split and a join tell, from what their steps told.
-use Rattle.std.proofs.Common.{◌≡◌, ℕ, ◌+◌, ◌-◌, ◌<◌, ◌≤◌, max, length, List, [], ◌∷◌, Option, Some, None, Bool, true, false, cond, eqb, eq-eqb, sym, refl, ap, ◌∙◌, subst, arith, is_none}
+use Rattle.std.proofs.Common.{◌≡◌, ℕ, ◌+◌, ◌<◌, ◌≤◌, max, length, List, [], ◌∷◌, Option, Some, None, Bool, true, false, cond, eqb, eq-eqb, sym, refl, ap, ◌∙◌, subst, arith, is_none}
 use Rattle.std.proofs.Math.Nat.{max-eq_left, max-eq_right, suc-max-suc}
 use Rattle.pw_model.specs.declared.entry.HistoryEntry.{HistoryEntry}
 use Rattle.pw_machine.specs.declared.view.View.{View}
-use Rattle.pw_machine.specs.declared.view.Held.{Held}
 use Rattle.pw_machine.specs.declared.view.Calls.{Calls}
 use Rattle.pw_machine.specs.Books.{calls_of, count_in, longer, without}
 use Rattle.pw_machine.specs.Machine.{AtMost, furthest}
 use Rattle.pw_machine.specs.Steps.{IsIdle, drawn, joined, looked, left_of, right_of}
-use Rattle.pw_turns.specs.Looks.{IsDraw, IsJoin, IsLook}
+use Rattle.pw_turns.specs.Looks.{IsDraw, IsLook}
 use Rattle.pw_turns.specs.Splits.{Parted}
 use Rattle.pw_turns.specs.Views.{IsAtRest, is_met}
 

@@ -1,5 +1,5 @@
 -- What a request told, once all records are back.
-use Rattle.std.proofs.Common.{◌≡◌, ◌≢◌, ◌==◌, ◌&&◌, not, ℕ, ◌+◌, ◌<◌, List, [], ◌∷◌, ◌++◌, true, false, length, Option, Some, None, sym, refl, ap, ◌∙◌, subst, arith, inl, length-append}
+use Rattle.std.proofs.Common.{◌≡◌, ◌≢◌, ◌==◌, ◌&&◌, not, ℕ, ◌+◌, ◌<◌, [], ◌∷◌, ◌++◌, true, length, Option, Some, None, sym, refl, ap, ◌∙◌, subst, arith, inl, length-append}
 use Rattle.pw_plan.specs.declared.plan.Plan.{Plan}
 use Rattle.pw_plan.specs.declared.request.Request.{Request}
 use Rattle.pw_plan.specs.Requests.{Has}
@@ -49,7 +49,7 @@ module _ (given : Given) (v : View) (q : Request) (rest : IsAtRest v) where
         let same = known_both n v.book m.history v.seen more m.knows (subst (Knows v.book) seen_is m.known) in
         let both : entries_of n m.history ≡ entries_of n v.seen ++ entries_of n m.begins.0 = ap (entries_of n) m.begins.1 ∙ entries_of-append n v.seen m.begins.0 in
         nil_of (entries_of n m.begins.0)
-            (omega (arith, ap (length {A = HistoryEntry}) same, ap (length {A = HistoryEntry}) both, length-append (entries_of n v.seen) (entries_of n m.begins.0)))
+        (omega (arith, ap (length {A = HistoryEntry}) same, ap (length {A = HistoryEntry}) both, length-append (entries_of n v.seen) (entries_of n m.begins.0)))
 
     pub nothing_between : v.parts ≡ 65536 → m.begins.0 ≡ []
     nothing_between all =

@@ -1,6 +1,5 @@
 -- What a step is told, and where it is told nothing: then it promises nothing.
 use Rattle.std.specs.Prelude.{ℕ, Bool, Option, Some, None}
-use Rattle.pw_plan.specs.declared.plan.Plan.{Plan}
 use Rattle.pw_plan.specs.declared.request.Request.{Request}
 use Rattle.pw_plan.specs.declared.request.Request.TheVariants.{Wake}
 use Rattle.pw_model.specs.declared.entry.HistoryEntry.{HistoryEntry}

@@ -1,5 +1,5 @@
 -- What the single steps of a request tell.
-use Rattle.std.specs.Prelude.{◌≡◌, ℕ, ◌<◌, List, [], ◌∷◌, Bool, true, None, Some, Option}
+use Rattle.std.specs.Prelude.{◌≡◌, ℕ, ◌<◌, [], ◌∷◌, Bool, None, Some, Option}
 use Rattle.atomic_table.specs.Table.{rest}
 use Rattle.pw_plan.specs.declared.request.Request.{Request}
 use Rattle.pw_parts.specs.Records.{Part, reach, votes}

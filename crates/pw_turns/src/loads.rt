@@ -11,8 +11,10 @@ ghost use Rattle.pw_turns.specs.Steps.{load_part};
 use pw_core::Ops;
 use pw_plan::{Plan, Request};
 use pw_rule::Load;
-use pw_walker::{OldLevel, OldState, OldVote, Place, step_domain, step_group, step_node};
-use pw_walker::{unstep_domain, unstep_group, unstep_node};
+use pw_walker::{
+    OldLevel, OldState, OldVote, Place, step_domain, step_group, step_node, unstep_domain,
+    unstep_group, unstep_node,
+};
 
 /// What stood in a record before a request changed it.
 #[derive(Clone, Copy)]

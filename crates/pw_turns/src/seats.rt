@@ -117,12 +117,7 @@ impl<R: Registers> Coordinator<R> {
 
     /// A new seat, which has seen what this one has, with so many of its parts and a number that no
     /// seat has.
-    pub fn split(
-        &self,
-        alloc: Global,
-        seat: &mut Seat,
-        parts: u32,
-    ) -> Result<Seat, SplitFault>
+    pub fn split(&self, alloc: Global, seat: &mut Seat, parts: u32) -> Result<Seat, SplitFault>
         requires owns { Owns self.now.table.shared.table_id seat.old }
         requires some { 0 < parts }
         requires fewer { parts < (view_in seat.old.badge.views).parts }

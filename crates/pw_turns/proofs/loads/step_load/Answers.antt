@@ -1,4 +1,4 @@
-use Rattle.std.proofs.Common.{◌≡◌, sym, ap, ◌∙◌, subst}
+use Rattle.std.proofs.Common.{sym, ap, ◌∙◌, subst}
 use Rattle.pw_rule.specs.Loads.{IsRecordOf}
 use Rattle.pw_domain.specs.Domains.{domain_part}
 use Rattle.pw_walk.specs.Walk.{left, next_turn, step}

@@ -1,17 +1,17 @@
-use Rattle.std.proofs.Common.{rules, refl, ap, sym, ◌∙◌, subst, arith, ◌≡◌, ◌<◌, ◌≤◌, length, []}
+use Rattle.std.proofs.Common.{rules, ap, sym, ◌∙◌, subst, arith, ◌<◌, length}
 use Rattle.pw_plan.specs.Requests.{Has}
 use Rattle.pw_parts.specs.Records.{record_count}
 use Rattle.pw_machine.specs.declared.view.View.{View}
 use Rattle.pw_machine.specs.Steps.{Asks}
 use Rattle.pw_rule.specs.Loads.{IsRecordOf}
 use Rattle.pw_rule.specs.Rule.{given_of}
-use Rattle.pw_walk.specs.Walk.{left, next_turn, step, walk}
+use Rattle.pw_walk.specs.Walk.{left, next_turn, walk}
 use Rattle.pw_walker.specs.Places.{walk_of}
 use Rattle.pw_turns.specs.Climb.{Climbs}
 use Rattle.pw_turns.specs.Steps.{load_part}
 use Rattle.pw_turns.proofs.Climbing.{asks_taken}
 use Rattle.pw_turns.proofs.Frames.{falls, may_free, tells_back, walks}
-use Rattle.pw_turns.proofs.InHand.{load_of, takes_turn, turn_low}
+use Rattle.pw_turns.proofs.InHand.{takes_turn, turn_low}
 use Rattle.pw_turns.proofs.Nexts.{next_is}
 use Rattle.pw_turns.proofs.coordinator.Coordinator.+climb.Goals as goal
 

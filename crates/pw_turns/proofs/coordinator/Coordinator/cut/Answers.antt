@@ -1,4 +1,4 @@
-use Rattle.std.proofs.Common.{rules, sym, subst, ◌<◌, ◌≡◌, ℕ}
+use Rattle.std.proofs.Common.{rules, sym, subst, ℕ}
 use Rattle.atomic_table.specs.Table.{Splits}
 use Rattle.pw_machine.specs.Steps.{left_of, right_of}
 use Rattle.pw_rule.specs.Rule.{Ruled}

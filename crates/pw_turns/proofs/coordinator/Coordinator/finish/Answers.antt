@@ -1,7 +1,6 @@
-use Rattle.std.proofs.Common.{rules, refl, sym, ap, ◌∙◌, ◌≡◌, ◌≢◌, ◌∷◌, [], inl, subst, arith, ◌+◌, ◌≤◌, ◌<◌, ◌++◌, length, take, List, true}
+use Rattle.std.proofs.Common.{rules, refl, sym, ap, ◌∙◌, ◌≡◌, ◌∷◌, [], subst, arith, ◌+◌, ◌≤◌, ◌<◌, ◌++◌, length, take, List}
 use Rattle.acpi_values.specs.declared.operation.Op.{Op}
 use Rattle.pw_plan.specs.Requests.{Has}
-use Rattle.pw_model.specs.declared.entry.HistoryEntry.{HistoryEntry}
 use Rattle.pw_model.specs.History.{replay}
 use Rattle.pw_machine.specs.declared.view.View.{View}
 use Rattle.pw_parts.specs.Records.{record_count}
@@ -22,14 +21,14 @@ pub returns-in-Some-clause-told : goal.returns-in-Some-clause-told
 returns-in-Some-clause-told g c =
     let key = c.args.self.now.table.shared.key in
     let f = found g.R.Registers (told_of g.R.Registers key) (given_of g.R.Registers key) _ c.args.request c.args.raw.now.me c.in-Ok.journal c.lead_for.new.raw.me
-        c.in-Ok.ensures.view c.leave_for.new.raw.me.0 (ap (λ m. m.0) c.leave_for.ensures.view) in
+    c.in-Ok.ensures.view c.leave_for.new.raw.me.0 (ap (λ m. m.0) c.leave_for.ensures.view) in
     (f, search rules, search rules)
 
 pub returns-then-seen-self-clause-told : goal.returns-then-seen-self-clause-told
 returns-then-seen-self-clause-told g c =
     let key = c.args.self.now.table.shared.key in
     let f = found g.R.Registers (told_of g.R.Registers key) (given_of g.R.Registers key) _ c.args.request c.args.raw.now.me c.in-Ok.journal c.lead_for.new.raw.me
-        c.in-Ok.ensures.view c.leave_for-then-seen-self.new.raw.me.0 (ap (λ m. m.0) c.leave_for-then-seen-self.ensures.view) in
+    c.in-Ok.ensures.view c.leave_for-then-seen-self.new.raw.me.0 (ap (λ m. m.0) c.leave_for-then-seen-self.ensures.view) in
     (f, search rules, search rules, c.fault_at.ensures.none.0 c.in_default.is)
 
 pub put_for-requires-clause-grown : goal.put_for-requires-clause-grown

@@ -1,4 +1,4 @@
-use Rattle.std.proofs.Common.{rules, sym, ap, ◌∙◌, subst, arith, ◌+◌, ◌≡◌, ◌<◌, length, max}
+use Rattle.std.proofs.Common.{rules, sym, ap, ◌∙◌, subst, arith, ◌≡◌, length}
 use Rattle.pw_machine.specs.declared.view.View.{View}
 use Rattle.pw_machine.specs.Steps.{joined, looked}
 use Rattle.pw_turns.specs.Views.{IsAtRest, is_met, view_in}

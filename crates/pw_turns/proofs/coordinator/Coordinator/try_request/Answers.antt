@@ -1,9 +1,9 @@
-use Rattle.std.proofs.Common.{rules, ap, sym, subst, ◌∙◌, arith, ◌<◌, ◌≤◌, ◌+◌, length}
+use Rattle.std.proofs.Common.{rules, ap, sym, subst, arith}
 use Rattle.pw_machine.specs.declared.view.View.{View}
 use Rattle.pw_rule.specs.Rule.{given_of}
 use Rattle.pw_turns.specs.Climb.{Climbs}
 use Rattle.pw_turns.specs.Told.{Told}
-use Rattle.pw_turns.specs.Views.{IsAtRest, view_in}
+use Rattle.pw_turns.specs.Views.{view_in}
 use Rattle.pw_turns.proofs.Bounds.{bound_small}
 use Rattle.pw_turns.proofs.Tells.{tells_it}
 use Rattle.pw_turns.proofs.coordinator.Coordinator.try_request.Goals as goal
