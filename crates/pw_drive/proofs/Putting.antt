@@ -1,20 +1,17 @@
 -- A domain's record set, among the records of a plan.
-use Rattle.std.proofs.Common.{◌≡◌, ◌<◌, ◌≤◌, ◌==◌, ℕ, true, cond, List, [], ◌∷◌, ◌++◌, not, length, get_or, set, refl, ap, sym, subst, ◌∙◌, arith, inl, inr}
+use Rattle.std.proofs.Common.{◌≡◌, ◌<◌, ◌==◌, ℕ, true, cond, List, [], ◌∷◌, ◌++◌, length, get_or, set, refl, ap, sym, subst, ◌∙◌, inl, inr}
 use Rattle.std.proofs.lemmas.Bool.Decides.{eqb_tells}
 use Rattle.std.proofs.lemmas.List.{get_or-set_other, get_or-set_same, get_or_default, length-set}
 use Rattle.std.specs.Prelude.{is_some}
 use Rattle.acpi_values.specs.declared.operation.Op.{Op}
 use Rattle.pw_base.specs.Room.{Bounded}
 use Rattle.pw_plan.specs.declared.domain.DomainKind.{DomainKind}
-use Rattle.pw_plan.specs.declared.domain.DomainKind.TheVariants.{Perf, Throttle, Idle}
 use Rattle.pw_plan.specs.declared.plan.Plan.{Plan}
-use Rattle.pw_plan.specs.Groups.{is_idle, no_domain}
 use Rattle.pw_plan.specs.Parts.{scale_of}
-use Rattle.pw_plan.specs.Places.{cpu_at, domain_at, domain_of}
+use Rattle.pw_plan.specs.Places.{cpu_at, domain_of}
 use Rattle.pw_model.specs.declared.reply.Reply.{Reply}
-use Rattle.pw_parts.proofs.Levels.{has_domain}
 use Rattle.pw_walker.proofs.Members.{scaled_exists}
-use Rattle.pw_parts.specs.Effects.{Effect, Taken, member_place}
+use Rattle.pw_parts.specs.Effects.{Effect, Taken}
 use Rattle.pw_parts.specs.Locality.{put}
 use Rattle.pw_parts.specs.Records.{Record, container, domain, group, scaled_count}
 use Rattle.pw_domain.specs.declared.domain.DomainRec.{DomainRec}
