@@ -7,6 +7,7 @@ mod grouping;
 mod idling;
 mod levels;
 mod records;
+mod restoring;
 mod running;
 mod scaling;
 mod serving;
