@@ -13,6 +13,6 @@ pub mod Operating
 pub mod Entering
 pub mod Requesting
 pub mod Lining
-pub mod Restoring
+pub mod Undoing
 pub mod Reclimbing
-pub mod Restored
+pub mod Undone

@@ -26,7 +26,7 @@ use Rattle.pw_parts.proofs.Lines.{Among, ancestors_line, below, starts}
 use Rattle.pw_parts.proofs.Loops.{climb_agrees}
 use Rattle.pw_parts.proofs.Plans.{wired}
 use Rattle.pw_parts.proofs.Voting.{vote_moves}
-use Rattle.pw_drive.proofs.Restoring.{itself, same_record}
+use Rattle.pw_drive.proofs.Undoing.{itself, same_record}
 
 -- # The states
 

@@ -1,5 +1,5 @@
 -- The element of a record that a request may change, and that element set back.
-use Rattle.std.specs.Prelude.{◌<◌, ◌≤◌, ◌×◌, ℕ, List, [], ◌∷◌, map, length, slice_index_or, Option, Some, None, nat_lt, if◌then◌else◌}
+use Rattle.std.specs.Prelude.{◌<◌, ◌≤◌, ℕ, List, [], ◌∷◌, map, length, slice_index_or, Option, Some, None, nat_lt, if◌then◌else◌}
 use Rattle.acpi_values.specs.Idle.{rows_of}
 use Rattle.acpi_values.specs.declared.idle.IdleKind.{IdleKind}
 use Rattle.acpi_values.specs.declared.idle.IdleKind.TheVariants.{Lpi, Cst, Absent}

@@ -36,7 +36,7 @@ use Rattle.pw_drive.specs.declared.restoring.Old.TheVariants as olds
 use Rattle.pw_drive.specs.Keeping.{part_in}
 use Rattle.pw_drive.specs.inner.Restoring.{old_ask, old_idle, old_limit, old_of, old_takes, old_vote}
 use Rattle.pw_drive.proofs.Reclimbing.{climb_told, vote_back, vote_there}
-use Rattle.pw_drive.proofs.Restoring.{Gives, GivesBack, ask_back, ask_same, group_back, level_back, limit_back, limit_same, nothing_given}
+use Rattle.pw_drive.proofs.Undoing.{Gives, GivesBack, ask_back, ask_same, group_back, level_back, limit_back, limit_same, nothing_given}
 
 module _ (P : Plan) (R : Records) (G : Record → Part) where
   abbrev F : Record → Part
