@@ -16,3 +16,4 @@ pub mod Lining
 pub mod Undoing
 pub mod Reclimbing
 pub mod Undone
+pub mod Elements

@@ -27,16 +27,18 @@ use Rattle.pw_journal.specs.Entries.{fault_entry}
 use Rattle.pw_regs.specs.Seen.{RegistersSeen}
 use Rattle.pw_drive.specs.declared.records.Records.{Records}
 use Rattle.pw_drive.specs.Keeping.{AreRecordsOf, Serves, part_in}
-use Rattle.pw_drive.specs.inner.Running.{Did, Stands, Turned, opening_done}
-use Rattle.pw_drive.proofs.Entering.{each_states, faultless_done, legal_done, legal_stopped, ops_done, ops_stopped, replay_done, seat_of-entry, stopped_last}
+use Rattle.pw_drive.specs.inner.Restoring.{old_of, old_takes}
+use Rattle.pw_drive.specs.inner.Running.{Did, Keeps, Stands, Turned, opening_done}
+use Rattle.pw_drive.proofs.Entering.{each_states, faultless_done, legal_done, legal_stopped, ops_done, ops_stopped, replay_done, replay_stopped, seat_of-entry, stopped_last}
 use Rattle.pw_drive.proofs.Operating.{did_as, did_within, ops_by}
+use Rattle.pw_drive.proofs.Undone.{restored}
 
 module _ (P : Plan) (q : Request) (es : List HistoryEntry) (was : Records) (has : Has P q) (h : Stands P es was) where
   state_fits : IsState P (replay P es)
   state_fits = replay_fits P es (each_states P es h.legal.well_formed.entries)
 
   kept : IsDone P (replay P es) q (effect P (part_in was) q) × AllTold P (after P (replay P es) q) (put (part_in was) (effect P (part_in was) q).takes)
-  kept = keeps_records P q (wired P) has (replay P es) (part_in was) state_fits h.told
+  kept = keeps_records P q (wired P) has (replay P es) (part_in was) state_fits h.keeps.told
 
   -- # The records served
 
@@ -48,8 +50,7 @@ module _ (P : Plan) (q : Request) (es : List HistoryEntry) (was : Records) (has 
     served_stands = record {
       legal = legal_done P es q h.legal h.faultless has;
       faultless = faultless_done es q h.faultless;
-      of = serves.of;
-      told = λ r is. ap (λ S. part_of P S r) (replay_done P es q) ∙ kept.1 r is ∙ sym (serves.parts r is);
+      keeps = record { of = serves.of; told = λ r is. ap (λ S. part_of P S r) (replay_done P es q) ∙ kept.1 r is ∙ sym (serves.parts r is) };
     }
 
   -- # The journal appended
@@ -95,6 +96,16 @@ module _ (P : Plan) (q : Request) (es : List HistoryEntry) (was : Records) (has 
   stands_after (Ok x) fs now reply before next serves empty entry = rw entry (served_stands now reply before next serves empty)
   stands_after (Err k) fs now reply before next serves empty entry = tt
 
+  -- what the request changed is set back where its entry is a fault
+  pub keeps_after : (k : ℕ) (fs : List HistoryEntry) (now back : Records) (reply : Reply) (before next : Bounded Op) → Serves P was now (effect P (part_in was) q) reply before next
+      → AreRecordsOf P back → ((r : Record) → part_in back r ≡ put (part_in now) (old_takes P (part_in now) (old_of P (part_in was) q)) r)
+      → fs ≡ es ++ fault_entry 0 q k ∷ [] → Keeps P fs back
+  keeps_after k fs now back reply before next serves of parts entries = record {
+    of = of;
+    told = λ r is. ap (λ S. part_of P S r) (ap (replay P) entries ∙ replay_stopped P es q k)
+        ∙ restored P (replay P es) state_fits was h.keeps.told (part_in now) q has serves.parts r is ∙ sym (parts r);
+  }
+
   pub stopped_after : {X : Type 0} (result : Result X ℕ) (fs : List HistoryEntry) → IfErr result (λ k. fs ≡ es ++ fault_entry 0 q k ∷ []) → OnErr result (is_some (fault_at fs) ≡ true)
   stopped_after (Ok x) fs fault = tt
   stopped_after (Err k) fs fault = rw (fault, stopped_last es q k h.faultless) refl
@@ -113,4 +124,4 @@ opening_few P ops is = ap length is ∙ opening_ops-length P
 -- the records at the start
 pub stands_first : (P : Plan) (R : Records) → AreRecordsOf P R → ((r : Record) → IsRecord P r → part_in R r ≡ opening_part P r) → Stands P [] R
 unfolding replay
-stands_first P R of parts = record { legal = legal-empty P; faultless = tt; of = of; told = λ r is. opens_right P r ∙ sym (parts r is) }
+stands_first P R of parts = record { legal = legal-empty P; faultless = tt; keeps = record { of = of; told = λ r is. opens_right P r ∙ sym (parts r is) } }
