@@ -26,6 +26,7 @@ use Rattle.pw_parts.proofs.Steps.{keeps_records}
 use Rattle.pw_journal.specs.Entries.{fault_entry}
 use Rattle.pw_regs.specs.Seen.{RegistersSeen}
 use Rattle.pw_drive.specs.declared.records.Records.{Records}
+use Rattle.pw_drive.specs.declared.restoring.Old.{Old}
 use Rattle.pw_drive.specs.Keeping.{AreRecordsOf, Serves, part_in}
 use Rattle.pw_drive.specs.inner.Restoring.{old_of, old_takes}
 use Rattle.pw_drive.specs.inner.Running.{Did, Keeps, Stands, Turned, opening_done}
@@ -46,7 +47,7 @@ module _ (P : Plan) (q : Request) (es : List HistoryEntry) (was : Records) (has 
     pub served_ops : next.elements ≡ ops_of P (replay P es) q
     served_ops = ap (λ (b : Bounded Op). b.elements) serves.list ∙ ap (λ (ops : List Op). ops ++ (effect P (part_in was) q).ops) empty ∙ sym kept.0.operations
 
-    pub served_stands : Stands P (es ++ entry_of 0 q ∷ []) now
+    served_stands : Stands P (es ++ entry_of 0 q ∷ []) now
     served_stands = record {
       legal = legal_done P es q h.legal h.faultless has;
       faultless = faultless_done es q h.faultless;
@@ -91,24 +92,24 @@ module _ (P : Plan) (q : Request) (es : List HistoryEntry) (was : Records) (has 
   turned ops (Ok x) fs old new is entry fault within did = turned_done ops fs old new is entry did
   turned ops (Err k) fs old new is entry fault within did = turned_stopped ops k fs old new is fault within did
 
-  pub stands_after : {X : Type 0} (result : Result X ℕ) (fs : List HistoryEntry) (now : Records) (reply : Reply) (before next : Bounded Op)
-      → Serves P was now (effect P (part_in was) q) reply before next → before.elements ≡ [] → OnOk result (fs ≡ es ++ entry_of 0 q ∷ []) → OnOk result (Stands P fs now)
-  stands_after (Ok x) fs now reply before next serves empty entry = rw entry (served_stands now reply before next serves empty)
-  stands_after (Err k) fs now reply before next serves empty entry = tt
+  pub stands_after : (fs : List HistoryEntry) (now : Records) (reply : Reply) (before next : Bounded Op)
+      → Serves P was now (effect P (part_in was) q) reply before next → before.elements ≡ [] → fs ≡ es ++ entry_of 0 q ∷ [] → Stands P fs now
+  stands_after fs now reply before next serves empty entry = rw entry (served_stands now reply before next serves empty)
 
   -- what the request changed is set back where its entry is a fault
-  pub keeps_after : (k : ℕ) (fs : List HistoryEntry) (now back : Records) (reply : Reply) (before next : Bounded Op) → Serves P was now (effect P (part_in was) q) reply before next
-      → AreRecordsOf P back → ((r : Record) → part_in back r ≡ put (part_in now) (old_takes P (part_in now) (old_of P (part_in was) q)) r)
+  pub keeps_after : (k : ℕ) (fs : List HistoryEntry) (now back : Records) (reply : Reply) (before next : Bounded Op) (set : Old)
+      → Serves P was now (effect P (part_in was) q) reply before next → set ≡ old_of P (part_in was) q
+      → AreRecordsOf P back → ((r : Record) → part_in back r ≡ put (part_in now) (old_takes P (part_in now) set) r)
       → fs ≡ es ++ fault_entry 0 q k ∷ [] → Keeps P fs back
-  keeps_after k fs now back reply before next serves of parts entries = record {
+  keeps_after k fs now back reply before next set serves is_old of parts fault = record {
     of = of;
-    told = λ r is. ap (λ S. part_of P S r) (ap (replay P) entries ∙ replay_stopped P es q k)
-        ∙ restored P (replay P es) state_fits was h.keeps.told (part_in now) q has serves.parts r is ∙ sym (parts r);
+    told = λ r is. ap (λ S. part_of P S r) (ap (replay P) fault ∙ replay_stopped P es q k)
+        ∙ restored P (replay P es) state_fits was h.keeps.told (part_in now) q has serves.parts r is
+        ∙ sym (parts r ∙ ap (λ o. put (part_in now) (old_takes P (part_in now) o) r) is_old);
   }
 
-  pub stopped_after : {X : Type 0} (result : Result X ℕ) (fs : List HistoryEntry) → IfErr result (λ k. fs ≡ es ++ fault_entry 0 q k ∷ []) → OnErr result (is_some (fault_at fs) ≡ true)
-  stopped_after (Ok x) fs fault = tt
-  stopped_after (Err k) fs fault = rw (fault, stopped_last es q k h.faultless) refl
+  pub stopped_after : (k : ℕ) (fs : List HistoryEntry) → fs ≡ es ++ fault_entry 0 q k ∷ [] → is_some (fault_at fs) ≡ true
+  stopped_after k fs fault = rw (fault, stopped_last es q k h.faultless) refl
 
 -- # At the start
 
