@@ -183,10 +183,14 @@ module _ (P : Plan) (R : Records) (are : AreRecordsOf P R) where
         step true h = let lt : d < length P.domains = grind (arith, nat_tests) in let it = levels_held lt in (it.stands, it.within, it.holds.limit k it.within)
         step false h = tt
 
-  pub old_fits : (q : Request) → Has P q → Fits P (old_of P (part_in R) q)
-  old_fits (Idle p s t) has = idle_fits (cpu_at P p).idle.kind p has
-  old_fits (Wake p) has = idle_fits (cpu_at P p).idle.kind p has
-  old_fits (Perf p i) has = ask_fits kinds.Perf p has refl
-  old_fits (Throttle p i) has = ask_fits kinds.Throttle p has refl
-  old_fits (PerfLimit p n) has = limit_fits kinds.Perf p has refl
-  old_fits (ThrottleLimit p n) has = limit_fits kinds.Throttle p has refl
+  each_fits : (q : Request) → Has P q → Fits P (old_of P (part_in R) q)
+  each_fits (Idle p s t) has = idle_fits (cpu_at P p).idle.kind p has
+  each_fits (Wake p) has = idle_fits (cpu_at P p).idle.kind p has
+  each_fits (Perf p i) has = ask_fits kinds.Perf p has refl
+  each_fits (Throttle p i) has = ask_fits kinds.Throttle p has refl
+  each_fits (PerfLimit p n) has = limit_fits kinds.Perf p has refl
+  each_fits (ThrottleLimit p n) has = limit_fits kinds.Throttle p has refl
+
+-- what is read may be set back
+pub old_fits : (P : Plan) (set : Old) (R : Records) (q : Request) → set ≡ old_of P (part_in R) q → AreRecordsOf P R → Has P q → Fits P set
+old_fits P set R q e are has = rw e (each_fits P R are q has)

@@ -1,4 +1,4 @@
-use Rattle.std.proofs.Common.{◌≡◌, ◌∙◌, ap, arith}
+use Rattle.std.proofs.Common.{◌≡◌, ◌∙◌, ap, arith, rules}
 use Rattle.acpi_values.specs.declared.operation.Op.{Op}
 use Rattle.pw_base.specs.Room.{Bounded}
 use Rattle.pw_model.specs.History.{replay}
@@ -58,7 +58,9 @@ returns-clause-keeps g c =
     c.append.new.self.entries served.new.self served.result c.clear.new.self served.new.ops served.ensures empty (rw c.in_default.is at c.append.ensures.entry)).keeps
 
 pub set_back-requires-clause-fits : goal.set_back-requires-clause-fits
-set_back-requires-clause-fits g c = rw c.old_of-old.ensures (old_fits c.args.plan.now c.args.records.now c.requires.stands.keeps.of c.args.request c.requires.has)
+set_back-requires-clause-fits g c =
+    let fits = old_fits c.args.plan.now c.old_of-old.result c.args.records.now c.args.request c.old_of-old.ensures c.requires.stands.keeps.of c.requires.has in
+    search (rules, fits)
 
 pub returns-in-Err-clause-turned : goal.returns-in-Err-clause-turned
 returns-in-Err-clause-turned g c =
