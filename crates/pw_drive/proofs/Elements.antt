@@ -129,7 +129,8 @@ module _ (P : Plan) (R : Records) (are : AreRecordsOf P R) where
   state_fits p = step (nat_lt (group_of P p) (length P.groups)) refl
     where
       step : (b : Bool) → nat_lt (group_of P p) (length P.groups) ≡ b
-          → Fits P (cond b (olds.State (group_of P p) (member_place (group_at P (group_of P p)).members p) (get_or (group_in R.groups.items (group_of P p)).states (member_place (group_at P (group_of P p)).members p) 0)) olds.Nothing)
+          → Fits P (cond b (olds.State (group_of P p) (member_place (group_at P (group_of P p)).members p)
+          (get_or (group_in R.groups.items (group_of P p)).states (member_place (group_at P (group_of P p)).members p) 0)) olds.Nothing)
       step true h =
           let lt : group_of P p < length P.groups = grind (arith, nat_tests) in
           let r = group_in R.groups.items (group_of P p) in

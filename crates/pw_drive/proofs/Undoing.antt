@@ -158,11 +158,13 @@ module _ (P : Plan) (R : Records) (G : Record → Part) (p : ℕ) where
       undo : Part → Part
       undo x = with_state k (own_vote (F (group g)) k) x
 
-      step : (b : Bool) → nat_lt g (length P.groups) ≡ b → (refused : Option Reply) → did.takes ≡ cond b (one (group g) (states (states_with (group_at P g).members p s (states_in (F (group g)))))) []
+      step : (b : Bool) → nat_lt g (length P.groups) ≡ b → (refused : Option Reply)
+          → did.takes ≡ cond b (one (group g) (states (states_with (group_at P g).members p s (states_in (F (group g)))))) []
           → Gives P F G (if_accepted refused refused_effect did).takes → GivesBack P F G (old_takes P G (cond b (olds.State g k (own_vote (F (group g)) k)) olds.Nothing))
       step true h None takes gives =
           let lt : g < length P.groups = grind (arith, nat_tests) in
-          put_back P F G (group g) (states (states_with (group_at P g).members p s (states_in (F (group g))))) undo lt (subst (λ ts. Gives P F G ts) takes gives) (state_back (states_in (F (group g))) k s)
+          put_back P F G (group g) (states (states_with (group_at P g).members p s (states_in (F (group g))))) undo lt
+          (subst (λ ts. Gives P F G ts) takes gives) (state_back (states_in (F (group g))) k s)
       step true h (Some reply) takes gives =
           let lt : g < length P.groups = grind (arith, nat_tests) in
           none_back P F G (group g) undo lt gives (state_same (states_in (F (group g))) k)

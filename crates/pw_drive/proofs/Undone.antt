@@ -56,13 +56,16 @@ module _ (P : Plan) (R : Records) (G : Record → Part) where
     asked i refused some gives = step (nat_lt i (get_or (limits_in (F (domain d))) k 0)) refused some gives
       where
         step : (b : Bool) (refused : Option Reply) → (refused ≡ None → is_some (scale_of kind (cpu_at P p)) ≡ true)
-            → Gives P F G (if_accepted refused refused_effect (cond b (refused_above (domain d) (F (domain d)) (get_or (limits_in (F (domain d))) k 0)) (level_effect P kind p d (F (domain d)) (with_ask k i (F (domain d)))))).takes
+            → Gives P F G (if_accepted refused refused_effect (cond b (refused_above (domain d) (F (domain d)) (get_or (limits_in (F (domain d))) k 0))
+            (level_effect P kind p d (F (domain d)) (with_ask k i (F (domain d)))))).takes
             → GivesBack P F G (old_takes P G (old_ask P F kind p))
         step true refused some gives =
-            level_back P F G kind p scaled exists refused (refused_above (domain d) (F (domain d)) (get_or (limits_in (F (domain d))) k 0)) (F (domain d)) (λ x. with_ask k (own_ask (F (domain d)) k) x)
+            level_back P F G kind p scaled exists refused (refused_above (domain d) (F (domain d)) (get_or (limits_in (F (domain d))) k 0)) (F (domain d))
+            (λ x. with_ask k (own_ask (F (domain d)) k) x)
             (olds.Ask d k (own_ask (F (domain d)) k)) some refl (ask_same _ _ k) (ask_same _ _ k) refl gives
         step false refused some gives =
-            level_back P F G kind p scaled exists refused (level_effect P kind p d (F (domain d)) (with_ask k i (F (domain d)))) (with_ask k i (F (domain d))) (λ x. with_ask k (own_ask (F (domain d)) k) x)
+            level_back P F G kind p scaled exists refused (level_effect P kind p d (F (domain d)) (with_ask k i (F (domain d)))) (with_ask k i (F (domain d)))
+            (λ x. with_ask k (own_ask (F (domain d)) k) x)
             (olds.Ask d k (own_ask (F (domain d)) k)) some refl (ask_back _ _ k i) (ask_same _ _ k) refl gives
 
     limited : (n : ℕ) (refused : Option Reply) → (refused ≡ None → is_some (scale_of kind (cpu_at P p)) ≡ true)
@@ -93,7 +96,8 @@ module _ (P : Plan) (R : Records) (G : Record → Part) where
       under lpi (Some n) e =
           let was = get_or (votes_in (F (container n))) (child_place P n (Cpu p)) running in
           let there : was ≡ vote_of S p = vote_there P p n exists e S (F (container n)) lpi (told (container n) (P.sound.tree.within p n exists e)) in
-          subst (λ (T : State). AllTold P T (put G (map rung_taken (rungs P G p was)))) (ap (λ (w : Vote). with_change later (changes.Vote p w)) there ∙ back) (climb_told P p exists lpi later long was G then)
+          subst (λ (T : State). AllTold P T (put G (map rung_taken (rungs P G p was)))) (ap (λ (w : Vote). with_change later (changes.Vote p w)) there ∙ back)
+          (climb_told P p exists lpi later long was G then)
 
       by_kind : (kind : IdleKind) → (cpu_at P p).idle.kind ≡ kind → AllTold P S (put G (old_takes P G (old_idle kind P F p)))
       by_kind Lpi e = under e (cpu_at P p).parent refl
@@ -129,10 +133,12 @@ module _ (P : Plan) (S : State) (state : IsState P S) (R : Records) (told : AllT
   pub restored : (q : Request) → Has P q → Gives P (part_in R) G (effect P (part_in R) q).takes → AllTold P S (put G (old_takes P G (old_of P (part_in R) q)))
   restored (Idle p s t) has gives =
       let q = Idle p s t in
-      voted P R G S told p has (idling s t) (fixed_refusal P q) (effect_within P (part_in R) q) refl (given q has gives) (after P S q) (long q has gives p has) (held q has gives) (idle_back P S p s t)
+      voted P R G S told p has (idling s t) (fixed_refusal P q) (effect_within P (part_in R) q) refl (given q has gives)
+      (after P S q) (long q has gives p has) (held q has gives) (idle_back P S p s t)
   restored (Wake p) has gives =
       let q = Wake p in
-      voted P R G S told p has running (fixed_refusal P q) (effect_within P (part_in R) q) refl (given q has gives) (after P S q) (long q has gives p has) (held q has gives) (wake_back P S p)
+      voted P R G S told p has running (fixed_refusal P q) (effect_within P (part_in R) q) refl (given q has gives)
+      (after P S q) (long q has gives p has) (held q has gives) (wake_back P S p)
   restored (Perf p i) has gives =
       held_again P R G S told (old_takes P G (old_ask P (part_in R) kinds.Perf p))
       (asked P R G kinds.Perf p refl has i (fixed_refusal P (Perf p i)) (λ e. some_scale P kinds.Perf p (scale_of kinds.Perf (cpu_at P p)) _ e) (given (Perf p i) has gives))
@@ -141,7 +147,9 @@ module _ (P : Plan) (S : State) (state : IsState P S) (R : Records) (told : AllT
       (asked P R G kinds.Throttle p refl has i (fixed_refusal P (Throttle p i)) (λ e. some_scale P kinds.Throttle p (scale_of kinds.Throttle (cpu_at P p)) _ e) (given (Throttle p i) has gives))
   restored (PerfLimit p n) has gives =
       held_again P R G S told (old_takes P G (old_limit P (part_in R) kinds.Perf p))
-      (limited P R G kinds.Perf p refl has n (fixed_refusal P (PerfLimit p n)) (λ e. some_scale_alone P kinds.Perf p (scale_of kinds.Perf (cpu_at P p)) e) (given (PerfLimit p n) has gives))
+      (limited P R G kinds.Perf p refl has n (fixed_refusal P (PerfLimit p n)) (λ e. some_scale_alone P kinds.Perf p (scale_of kinds.Perf (cpu_at P p)) e)
+      (given (PerfLimit p n) has gives))
   restored (ThrottleLimit p n) has gives =
       held_again P R G S told (old_takes P G (old_limit P (part_in R) kinds.Throttle p))
-      (limited P R G kinds.Throttle p refl has n (fixed_refusal P (ThrottleLimit p n)) (λ e. some_scale_alone P kinds.Throttle p (scale_of kinds.Throttle (cpu_at P p)) e) (given (ThrottleLimit p n) has gives))
+      (limited P R G kinds.Throttle p refl has n (fixed_refusal P (ThrottleLimit p n)) (λ e. some_scale_alone P kinds.Throttle p (scale_of kinds.Throttle (cpu_at P p)) e)
+      (given (ThrottleLimit p n) has gives))

@@ -1,5 +1,6 @@
 -- The element of a record that a request may change, and that element set back.
-use Rattle.std.specs.Prelude.{◌<◌, ◌≤◌, ℕ, List, [], ◌∷◌, map, length, slice_index_or, Option, Some, None, nat_lt, if◌then◌else◌}
+use Rattle.std.specs.Prelude.{◌<◌, ◌≤◌, ℕ, List, [], ◌∷◌, map, length, slice_index_or, Option, Some, None}
+use Rattle.std.specs.Prelude.{nat_lt, if◌then◌else◌}
 use Rattle.acpi_values.specs.Idle.{rows_of}
 use Rattle.acpi_values.specs.declared.idle.IdleKind.{IdleKind}
 use Rattle.acpi_values.specs.declared.idle.IdleKind.TheVariants.{Lpi, Cst, Absent}
@@ -65,9 +66,15 @@ old_of P F (ThrottleLimit p n) = old_limit P F kinds.Throttle p
 abbrev pub Fits : Plan → Old → Type 0
 Fits P olds.Nothing = Unit {0}
 Fits P (olds.Vote p v) = (p < length P.cpus) × (v.state ≤ length (rows_of (cpu_at P p).idle)) × IsProper v
-Fits P (olds.State g k s) = (g < length P.groups) × (k < length (group_at P g).members) × (s ≤ length (rows_of (cpu_at P (member_in (group_at P g).members k)).idle))
-Fits P (olds.Ask d k i) = (d < scaled_count P) × (k < length (domain_at P d).members) × IsIndex (scale_of (domain_at P d).kind (cpu_at P (member_in (domain_at P d).members k))) i
-Fits P (olds.Limit d k n) = (d < scaled_count P) × (k < length (domain_at P d).members) × IsIndex (scale_of (domain_at P d).kind (cpu_at P (member_in (domain_at P d).members k))) n
+Fits P (olds.State g k s) =
+    (g < length P.groups) × (k < length (group_at P g).members)
+    × (s ≤ length (rows_of (cpu_at P (member_in (group_at P g).members k)).idle))
+Fits P (olds.Ask d k i) =
+    (d < scaled_count P) × (k < length (domain_at P d).members)
+    × IsIndex (scale_of (domain_at P d).kind (cpu_at P (member_in (domain_at P d).members k))) i
+Fits P (olds.Limit d k n) =
+    (d < scaled_count P) × (k < length (domain_at P d).members)
+    × IsIndex (scale_of (domain_at P d).kind (cpu_at P (member_in (domain_at P d).members k))) n
 
 -- the records that are taken where it is set back, with their parts
 abbrev pub old_takes : Plan → (Record → Part) → Old → List Taken
