@@ -61,7 +61,7 @@ module _ (P : Plan) (R : Records) (are : AreRecordsOf P R) (p n k : ℕ) (exists
     vote_is s t a b =
         let at : child_place P n (Cpu p) ≡ k = subst (λ (d : Child). child_place P n d ≡ k) (child_here P (Cpu p) n k n refl parent place) ((calls_serve P).child_at n k (place n parent).0) in
         let same : get_or held.votes k running ≡ get_or (votes_in (node_part (node_in R.nodes.items n))) (child_place P n (Cpu p)) running =
-            ap (λ (x : NodeRec). get_or x.votes k running) node_held ∙ ap (λ (j : ℕ). get_or (votes_in (node_part (node_in R.nodes.items n))) j running) (sym at) in
+        ap (λ (x : NodeRec). get_or x.votes k running) node_held ∙ ap (λ (j : ℕ). get_or (votes_in (node_part (node_in R.nodes.items n))) j running) (sym at) in
         subst (λ o. olds.Vote p (record { state = s; tolerance = t }) ≡ old_vote P (part_in R) p o) (sym parent) (rw (a, b) (ap (λ (w : Vote). olds.Vote p w) same))
 
 -- # An ask or a limit in the record of a domain

@@ -1,5 +1,5 @@
 -- A processor's vote in its containers, read and set back.
-use Rattle.std.proofs.Common.{◌≡◌, ◌<◌, ◌≤◌, ℕ, Bool, true, false, cond, List, [], ◌∷◌, map, length, get_or, set, Option, Some, None, refl, ap, sym, subst, ◌∙◌, arith, eqb-true, inl, inr}
+use Rattle.std.proofs.Common.{◌≡◌, ◌<◌, ℕ, Bool, true, false, cond, List, [], ◌∷◌, map, length, get_or, Option, Some, None, refl, ap, sym, subst, ◌∙◌, eqb-true, inl, inr}
 use Rattle.std.specs.List.{AllByRecursion}
 use Rattle.std.proofs.lemmas.List.{get_or-map, set-get_or, set-set}
 use Rattle.acpi_values.specs.declared.idle.IdleKind.{IdleKind}
@@ -15,12 +15,12 @@ use Rattle.pw_model.specs.declared.state.Change.TheVariants as changes
 use Rattle.pw_model.specs.declared.state.State.{State}
 use Rattle.pw_model.specs.declared.state.Vote.{Vote}
 use Rattle.pw_model.specs.Answers.{if_accepted}
-use Rattle.pw_model.specs.Containers.{ancestors, child_vote, child_votes, seen_by_kind}
+use Rattle.pw_model.specs.Containers.{ancestors, child_vote, seen_by_kind}
 use Rattle.pw_model.specs.States.{running, vote_of, with_change}
 use Rattle.pw_parts.specs.Effects.{Taken, child_place, group_takes, rung_taken, rungs, takes_by, takes_in, vote_takes, votes_in}
 use Rattle.pw_parts.specs.Locality.{AllTold, put}
 use Rattle.pw_parts.specs.Numbers.{IsIn}
-use Rattle.pw_parts.specs.Records.{IsRecord, Part, Record, container, is_record, part_of, votes}
+use Rattle.pw_parts.specs.Records.{Part, Record, container, is_record, part_of}
 use Rattle.pw_parts.proofs.Calls.{calls_serve}
 use Rattle.pw_parts.proofs.Lines.{Among, ancestors_line, below, starts}
 use Rattle.pw_parts.proofs.Loops.{climb_agrees}

@@ -1,6 +1,6 @@
 -- One request on records and registers.
 use Rattle.std.proofs.Common.{◌≡◌, ◌≤◌, ◌<◌, ◌++◌, ◌∷◌, ◌∙◌, ℕ, true, List, [], length, take, Some, None, Result, Ok, Err, refl, ap, sym, subst, arith}
-use Rattle.std.specs.Prelude.{is_some, IfErr, OnErr, OnOk}
+use Rattle.std.specs.Prelude.{is_some, IfErr, OnOk}
 use Rattle.std.specs.Result.{result_err}
 use Rattle.acpi_values.specs.declared.operation.Op.{Op}
 use Rattle.pw_base.specs.Room.{Bounded}

@@ -19,7 +19,10 @@ pub enum Old {
     /// No record has one.
     Nothing,
     /// The vote of a processor in the record of its container.
-    Vote { cpu: u32, vote: Vote },
+    Vote {
+        cpu: u32,
+        vote: Vote,
+    },
     /// The state of a member's vote in the record of a group.
     State {
         group: usize,

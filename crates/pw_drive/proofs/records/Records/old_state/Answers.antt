@@ -10,6 +10,6 @@ overflow_cast-member c =
 pub own_vote-requires : goal.own_vote-requires
 own_vote-requires c =
     let is = group_is c.args.plan.now c.args.self.now c.args.cpu c.requires.of c.in-Some.at.place c.in-Some.at.member c.in-Some.ensures.place c.in-Some.ensures.member
-        c.index-held.result.now c.index-held.ensures in
+    c.index-held.result.now c.index-held.ensures in
     rw is.of.holds.members (member_within c.args.plan.now c.args.self.now c.args.cpu c.requires.of c.in-Some.at.place c.in-Some.at.member c.in-Some.ensures.place c.in-Some.ensures.member
     c.index-held.result.now c.index-held.ensures)

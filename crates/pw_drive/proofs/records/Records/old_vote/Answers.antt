@@ -6,7 +6,7 @@ use Rattle.pw_drive.proofs.records.Records.old_vote.Goals as goal
 pub overflow_cast-child : goal.overflow_cast-child
 overflow_cast-child c =
     let few = child_few c.args.plan.now c.args.self.now c.requires.of c.args.cpu c.in-Some.node c.in-Some-place_of.place c.requires.cpu
-        (ap (λ (x : CpuParts). x.parent) (sym c.cpu.ensures) ∙ c.in-Some.is) c.in-Some-place_of.ensures in
+    (ap (λ (x : CpuParts). x.parent) (sym c.cpu.ensures) ∙ c.in-Some.is) c.in-Some-place_of.ensures in
     omega (arith, few)
 
 pub child-requires : goal.child-requires
