@@ -64,3 +64,7 @@ record_there P R kind p are exists some d at held e =
 pub record_is : (P : Plan) (R : Records) (kind : DomainKind) (p : ℕ) (are : AreRecordsOf P R) (exists : p < length P.cpus) (some : is_some (scale_of kind (cpu_at P p)) ≡ true) (held : DomainRec)
     → held ≡ domain_in R.domains.items (domain_of P kind p) → IsDomain P (domain_of P kind p) held
 record_is P R kind p are exists some held e = subst (λ x. IsDomain P (domain_of P kind p) x) (sym e) (are.domains.each (domain_of P kind p) (scaled_exists P kind p exists some))
+
+-- the record at a domain's number
+pub held_is : (P : Plan) (R : Records) → AreRecordsOf P R → (d : ℕ) → d < scaled_count P → (held : DomainRec) → held ≡ get_or R.domains.items d held → IsDomain P d held
+held_is P R are d lt held e = subst (λ x. IsDomain P d x) (sym (e ∙ get_or_default R.domains.items d held no_domain_record (rw are.domains.count lt))) (are.domains.each d lt)
