@@ -31,11 +31,12 @@ use Rattle.pw_idle.specs.Nodes.{node_part}
 use Rattle.pw_drive.specs.declared.records.Records.{Records}
 use Rattle.pw_drive.specs.declared.restoring.Old.{Old}
 use Rattle.pw_drive.specs.declared.restoring.Old.TheVariants as olds
-use Rattle.pw_drive.specs.Keeping.{AreRecordsOf, IsDomain, IsNode, domain_in, group_in, no_node_record, node_in, part_in}
+use Rattle.pw_drive.specs.Keeping.{AreRecordsOf, domain_in, group_in, no_node_record, node_in, part_in}
+use Rattle.pw_walker.specs.Records.{IsDomain, IsNode}
 use Rattle.pw_drive.specs.inner.Restoring.{Fits, old_ask, old_idle, old_limit, old_of, old_state, old_vote}
-use Rattle.pw_drive.proofs.Children.{child_here, child_small, child_within}
-use Rattle.pw_drive.proofs.Members.{place_within}
-use Rattle.pw_drive.proofs.Putting.{member_small, record_is, record_there, record_within, scaled_exists}
+use Rattle.pw_walker.proofs.Children.{child_here, child_small, child_within}
+use Rattle.pw_walker.proofs.Members.{member_small, place_within, scaled_exists}
+use Rattle.pw_drive.proofs.Putting.{record_is, record_there, record_within}
 use Rattle.pw_drive.proofs.Reclimbing.{child_there, node_within}
 use Rattle.pw_drive.proofs.Reclimbing.{place_within as child_listed}
 use Rattle.pw_drive.proofs.Undoing.{has_scale}

@@ -24,7 +24,7 @@ use Rattle.pw_drive.specs.declared.restoring.Old.TheVariants as olds
 use Rattle.pw_drive.specs.declared.records.Records.{Records}
 use Rattle.pw_drive.specs.Keeping.{part_in}
 use Rattle.pw_drive.specs.inner.Restoring.{old_state, old_takes}
-use Rattle.pw_drive.proofs.Putting.{scaled_exists}
+use Rattle.pw_walker.proofs.Members.{scaled_exists}
 
 -- # Parts with one element set and set back
 
