@@ -72,6 +72,10 @@ stopped_last (e ∷ es) q k a = rw (none_is e.fault a.0) (stopped_last es q k a.
 pub replay_done : (P : Plan) (es : List HistoryEntry) (q : Request) → replay P (es ++ entry_of 0 q ∷ []) ≡ after P (replay P es) q
 replay_done P es q = replay-append P es (entry_of 0 q ∷ []) ∙ rw (none_is (entry_of 0 q).fault (fault_of-entry 0 q), request_of-entry 0 q) refl
 
+-- and a fault leaves the state as it was
+pub replay_stopped : (P : Plan) (es : List HistoryEntry) (q : Request) (k : ℕ) → replay P (es ++ fault_entry 0 q k ∷ []) ≡ replay P es
+replay_stopped P es q k = replay-append P es (fault_entry 0 q k ∷ []) ∙ rw (some_is k) refl
+
 pub ops_done : (P : Plan) (S : State) (q : Request) → entry_ops P S (entry_of 0 q) ≡ ops_of P S q
 ops_done P S q = rw (none_is (entry_of 0 q).fault (fault_of-entry 0 q), request_of-entry 0 q) refl
 

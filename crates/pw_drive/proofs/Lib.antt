@@ -9,3 +9,7 @@ pub mod Operating
 pub mod Entering
 pub mod Requesting
 pub mod Lining
+pub mod Undoing
+pub mod Reclimbing
+pub mod Undone
+pub mod Elements

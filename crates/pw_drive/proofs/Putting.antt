@@ -1,20 +1,17 @@
 -- A domain's record set, among the records of a plan.
-use Rattle.std.proofs.Common.{◌≡◌, ◌<◌, ◌≤◌, ◌==◌, ℕ, true, cond, List, [], ◌∷◌, ◌++◌, not, length, get_or, set, refl, ap, sym, subst, ◌∙◌, arith, inl, inr}
+use Rattle.std.proofs.Common.{◌≡◌, ◌<◌, ◌==◌, ℕ, true, cond, List, [], ◌∷◌, ◌++◌, length, get_or, set, refl, ap, sym, subst, ◌∙◌, inl, inr}
 use Rattle.std.proofs.lemmas.Bool.Decides.{eqb_tells}
 use Rattle.std.proofs.lemmas.List.{get_or-set_other, get_or-set_same, get_or_default, length-set}
 use Rattle.std.specs.Prelude.{is_some}
 use Rattle.acpi_values.specs.declared.operation.Op.{Op}
 use Rattle.pw_base.specs.Room.{Bounded}
 use Rattle.pw_plan.specs.declared.domain.DomainKind.{DomainKind}
-use Rattle.pw_plan.specs.declared.domain.DomainKind.TheVariants.{Perf, Throttle, Idle}
 use Rattle.pw_plan.specs.declared.plan.Plan.{Plan}
-use Rattle.pw_plan.specs.Groups.{is_idle, no_domain}
 use Rattle.pw_plan.specs.Parts.{scale_of}
-use Rattle.pw_plan.specs.Places.{cpu_at, domain_at, domain_of}
+use Rattle.pw_plan.specs.Places.{cpu_at, domain_of}
 use Rattle.pw_model.specs.declared.reply.Reply.{Reply}
-use Rattle.pw_parts.proofs.Levels.{has_domain}
 use Rattle.pw_walker.proofs.Members.{scaled_exists}
-use Rattle.pw_parts.specs.Effects.{Effect, Taken, member_place}
+use Rattle.pw_parts.specs.Effects.{Effect, Taken}
 use Rattle.pw_parts.specs.Locality.{put}
 use Rattle.pw_parts.specs.Records.{Record, container, domain, group, scaled_count}
 use Rattle.pw_domain.specs.declared.domain.DomainRec.{DomainRec}
@@ -67,3 +64,7 @@ record_there P R kind p are exists some d at held e =
 pub record_is : (P : Plan) (R : Records) (kind : DomainKind) (p : ℕ) (are : AreRecordsOf P R) (exists : p < length P.cpus) (some : is_some (scale_of kind (cpu_at P p)) ≡ true) (held : DomainRec)
     → held ≡ domain_in R.domains.items (domain_of P kind p) → IsDomain P (domain_of P kind p) held
 record_is P R kind p are exists some held e = subst (λ x. IsDomain P (domain_of P kind p) x) (sym e) (are.domains.each (domain_of P kind p) (scaled_exists P kind p exists some))
+
+-- the record at a domain's number
+pub held_is : (P : Plan) (R : Records) → AreRecordsOf P R → (d : ℕ) → d < scaled_count P → (held : DomainRec) → held ≡ get_or R.domains.items d held → IsDomain P d held
+held_is P R are d lt held e = subst (λ x. IsDomain P d x) (sym (e ∙ get_or_default R.domains.items d held no_domain_record (rw are.domains.count lt))) (are.domains.each d lt)

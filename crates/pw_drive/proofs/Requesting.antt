@@ -1,6 +1,6 @@
 -- One request on records and registers.
 use Rattle.std.proofs.Common.{◌≡◌, ◌≤◌, ◌<◌, ◌++◌, ◌∷◌, ◌∙◌, ℕ, true, List, [], length, take, Some, None, Result, Ok, Err, refl, ap, sym, subst, arith}
-use Rattle.std.specs.Prelude.{is_some, IfErr, OnErr, OnOk}
+use Rattle.std.specs.Prelude.{is_some, IfErr, OnOk}
 use Rattle.std.specs.Result.{result_err}
 use Rattle.acpi_values.specs.declared.operation.Op.{Op}
 use Rattle.pw_base.specs.Room.{Bounded}
@@ -26,17 +26,20 @@ use Rattle.pw_parts.proofs.Steps.{keeps_records}
 use Rattle.pw_journal.specs.Entries.{fault_entry}
 use Rattle.pw_regs.specs.Seen.{RegistersSeen}
 use Rattle.pw_drive.specs.declared.records.Records.{Records}
+use Rattle.pw_drive.specs.declared.restoring.Old.{Old}
 use Rattle.pw_drive.specs.Keeping.{AreRecordsOf, Serves, part_in}
-use Rattle.pw_drive.specs.inner.Running.{Did, Stands, Turned, opening_done}
-use Rattle.pw_drive.proofs.Entering.{each_states, faultless_done, legal_done, legal_stopped, ops_done, ops_stopped, replay_done, seat_of-entry, stopped_last}
+use Rattle.pw_drive.specs.inner.Restoring.{old_of, old_takes}
+use Rattle.pw_drive.specs.inner.Running.{Did, Keeps, Stands, Turned, opening_done}
+use Rattle.pw_drive.proofs.Entering.{each_states, faultless_done, legal_done, legal_stopped, ops_done, ops_stopped, replay_done, replay_stopped, seat_of-entry, stopped_last}
 use Rattle.pw_drive.proofs.Operating.{did_as, did_within, ops_by}
+use Rattle.pw_drive.proofs.Undone.{restored}
 
 module _ (P : Plan) (q : Request) (es : List HistoryEntry) (was : Records) (has : Has P q) (h : Stands P es was) where
   state_fits : IsState P (replay P es)
   state_fits = replay_fits P es (each_states P es h.legal.well_formed.entries)
 
   kept : IsDone P (replay P es) q (effect P (part_in was) q) × AllTold P (after P (replay P es) q) (put (part_in was) (effect P (part_in was) q).takes)
-  kept = keeps_records P q (wired P) has (replay P es) (part_in was) state_fits h.told
+  kept = keeps_records P q (wired P) has (replay P es) (part_in was) state_fits h.keeps.told
 
   -- # The records served
 
@@ -44,12 +47,11 @@ module _ (P : Plan) (q : Request) (es : List HistoryEntry) (was : Records) (has 
     pub served_ops : next.elements ≡ ops_of P (replay P es) q
     served_ops = ap (λ (b : Bounded Op). b.elements) serves.list ∙ ap (λ (ops : List Op). ops ++ (effect P (part_in was) q).ops) empty ∙ sym kept.0.operations
 
-    pub served_stands : Stands P (es ++ entry_of 0 q ∷ []) now
+    served_stands : Stands P (es ++ entry_of 0 q ∷ []) now
     served_stands = record {
       legal = legal_done P es q h.legal h.faultless has;
       faultless = faultless_done es q h.faultless;
-      of = serves.of;
-      told = λ r is. ap (λ S. part_of P S r) (replay_done P es q) ∙ kept.1 r is ∙ sym (serves.parts r is);
+      keeps = record { of = serves.of; told = λ r is. ap (λ S. part_of P S r) (replay_done P es q) ∙ kept.1 r is ∙ sym (serves.parts r is) };
     }
 
   -- # The journal appended
@@ -90,14 +92,24 @@ module _ (P : Plan) (q : Request) (es : List HistoryEntry) (was : Records) (has 
   turned ops (Ok x) fs old new is entry fault within did = turned_done ops fs old new is entry did
   turned ops (Err k) fs old new is entry fault within did = turned_stopped ops k fs old new is fault within did
 
-  pub stands_after : {X : Type 0} (result : Result X ℕ) (fs : List HistoryEntry) (now : Records) (reply : Reply) (before next : Bounded Op)
-      → Serves P was now (effect P (part_in was) q) reply before next → before.elements ≡ [] → OnOk result (fs ≡ es ++ entry_of 0 q ∷ []) → OnOk result (Stands P fs now)
-  stands_after (Ok x) fs now reply before next serves empty entry = rw entry (served_stands now reply before next serves empty)
-  stands_after (Err k) fs now reply before next serves empty entry = tt
+  pub stands_after : (fs : List HistoryEntry) (now : Records) (reply : Reply) (before next : Bounded Op)
+      → Serves P was now (effect P (part_in was) q) reply before next → before.elements ≡ [] → fs ≡ es ++ entry_of 0 q ∷ [] → Stands P fs now
+  stands_after fs now reply before next serves empty entry = rw entry (served_stands now reply before next serves empty)
 
-  pub stopped_after : {X : Type 0} (result : Result X ℕ) (fs : List HistoryEntry) → IfErr result (λ k. fs ≡ es ++ fault_entry 0 q k ∷ []) → OnErr result (is_some (fault_at fs) ≡ true)
-  stopped_after (Ok x) fs fault = tt
-  stopped_after (Err k) fs fault = rw (fault, stopped_last es q k h.faultless) refl
+  -- what the request changed is set back where its entry is a fault
+  pub keeps_after : (k : ℕ) (fs : List HistoryEntry) (now back : Records) (reply : Reply) (before next : Bounded Op) (set : Old)
+      → Serves P was now (effect P (part_in was) q) reply before next → set ≡ old_of P (part_in was) q
+      → AreRecordsOf P back → ((r : Record) → part_in back r ≡ put (part_in now) (old_takes P (part_in now) set) r)
+      → fs ≡ es ++ fault_entry 0 q k ∷ [] → Keeps P fs back
+  keeps_after k fs now back reply before next set serves is_old of parts fault = record {
+    of = of;
+    told = λ r is. ap (λ S. part_of P S r) (ap (replay P) fault ∙ replay_stopped P es q k)
+        ∙ restored P (replay P es) state_fits was h.keeps.told (part_in now) q has serves.parts r is
+        ∙ sym (parts r ∙ ap (λ o. put (part_in now) (old_takes P (part_in now) o) r) is_old);
+  }
+
+  pub stopped_after : (k : ℕ) (fs : List HistoryEntry) → fs ≡ es ++ fault_entry 0 q k ∷ [] → is_some (fault_at fs) ≡ true
+  stopped_after k fs fault = rw (fault, stopped_last es q k h.faultless) refl
 
 -- # At the start
 
@@ -113,4 +125,4 @@ opening_few P ops is = ap length is ∙ opening_ops-length P
 -- the records at the start
 pub stands_first : (P : Plan) (R : Records) → AreRecordsOf P R → ((r : Record) → IsRecord P r → part_in R r ≡ opening_part P r) → Stands P [] R
 unfolding replay
-stands_first P R of parts = record { legal = legal-empty P; faultless = tt; of = of; told = λ r is. opens_right P r ∙ sym (parts r is) }
+stands_first P R of parts = record { legal = legal-empty P; faultless = tt; keeps = record { of = of; told = λ r is. opens_right P r ∙ sym (parts r is) } }

@@ -1,5 +1,5 @@
 -- A climb over the records of containers, one turn after the other.
-use Rattle.std.proofs.Common.{◌≡◌, ◌≢◌, ◌<◌, ◌≤◌, ◌+◌, ◌==◌, ◌&&◌, ℕ, suc, Bool, true, false, cond, List, [], ◌∷◌, ◌++◌, map, length, set, Option, Some, None, refl, ap, sym, subst, ◌∙◌, arith, inl, inr, ne_eqb, append_assoc, length-append, take, replicate, ◌-◌}
+use Rattle.std.proofs.Common.{◌≡◌, ◌≢◌, ◌<◌, ◌≤◌, ◌+◌, ◌==◌, ◌&&◌, ℕ, suc, Bool, true, false, cond, List, [], ◌∷◌, ◌++◌, map, length, set, Option, Some, None, refl, ap, sym, subst, ◌∙◌, arith, inl, inr, ne_eqb, append_assoc, length-append}
 use Rattle.std.specs.Prelude.{nat_lt}
 use Rattle.std.proofs.lemmas.Bool.Decides.{eqb_tells, nat_tests}
 use Rattle.std.proofs.lemmas.List.{append-nil, get_or-set_other, get_or-set_same, length-set}
@@ -15,7 +15,7 @@ use Rattle.pw_model.specs.States.{IsProper}
 use Rattle.pw_model.specs.Answers.{chain_of}
 use Rattle.pw_model.specs.Containers.{ancestors, node_vote}
 use Rattle.pw_core.specs.Chains.{IsChain, states_in}
-use Rattle.pw_core.proofs.Climbing.{is_chain, length-states_in, line-None, line-Some, states_in-chain_of}
+use Rattle.pw_core.proofs.Climbing.{is_chain, line-None, line-Some, states_in-chain_of}
 use Rattle.pw_parts.specs.Effects.{Rung, both_run, climb, rung_taken, rungs, states_up, votes_in, votes_with}
 use Rattle.pw_parts.specs.Locality.{put}
 use Rattle.pw_parts.specs.Loops.{put_votes}

@@ -9,7 +9,7 @@ ghost use Rattle.pw_script.specs.declared.script.Line.{Line as asked};
 ghost use Rattle.pw_script.specs.Lawful.{LawfulSerial};
 ghost use Rattle.pw_script.specs.Reading.{operations, requests_of};
 ghost use Rattle.pw_drive.specs.Driven.{OperatesFor};
-ghost use Rattle.pw_drive.specs.inner.Running.{Did, Stands, opening_done};
+ghost use Rattle.pw_drive.specs.inner.Running.{Did, Keeps, Stands, opening_done};
 
 use crate::records::Records;
 use crate::running::{make_all, most_operations};
@@ -78,6 +78,7 @@ fn run<R: Registers>(
     requires room { (q : request) → ops_bound plan.now q ≤ ops.old.capacity }
     requires empty { journal.old.entries ≡ [] }
     requires space { journal.old.capacity ≡ length lines.now }
+    ensures keeps { Keeps plan.now journal.new.entries records.new }
     ensures lawful { LawfulSerial plan.now (requests_of lines.now) result journal.new.entries }
     ensures seats { AllByRecursion (λ (e : entry). e.seat ≡ 0) journal.new.entries }
     ensures operates { OperatesFor plan.now (operations plan.now lines.now) result journal.new.entries

@@ -6,6 +6,7 @@ mod driving;
 mod grouping;
 mod idling;
 mod records;
+mod restoring;
 mod running;
 mod scaling;
 mod serving;

@@ -5,7 +5,7 @@ ghost use Rattle.pw_plan.specs.Requests.{Has, ops_bound, opening_bound};
 ghost use Rattle.pw_model.specs.History.{fault_at};
 ghost use Rattle.pw_regs.specs.Seen.{registers_seen};
 ghost use Rattle.pw_script.specs.declared.script.Line.{Line as asked};
-ghost use Rattle.pw_drive.specs.inner.Running.{Ran, Stands, Turned};
+ghost use Rattle.pw_drive.specs.inner.Running.{Keeps, Ran, Stands, Turned};
 
 use crate::records::Records;
 use pw_core::Ops;
@@ -25,8 +25,8 @@ pub fn most_operations(plan: &Plan) -> u32
     plan.opening_bound().max(MOST_OF_A_REQUEST)
 }
 
-/// Makes a request: does its operations, and appends its entry. At a fault it answers how many of
-/// them were done.
+/// Makes a request: does its operations, and appends its entry. At a fault it sets back what the
+/// request changed, and answers how many of the operations were done.
 fn make<R: Registers>(
     plan: &Plan,
     records: &mut Records,
@@ -44,11 +44,17 @@ fn make<R: Registers>(
     ensures turned { Turned plan.now request journal.old.entries journal.new.entries
         (registers_seen R.Registers journal.old.regs) (registers_seen R.Registers journal.new.regs) }
     ensures stands { OnOk result (Stands plan.now journal.new.entries records.new) }
+    ensures keeps { Keeps plan.now journal.new.entries records.new }
     ensures stopped { OnErr result (is_some (fault_at journal.new.entries) ≡ true) }
 {
     ops.clear();
+    let old = records.old_of(plan, request);
     let _reply = records.serve(plan, request, ops);
-    journal.append(0, request, ops.list())
+    if let Err(done) = journal.append(0, request, ops.list()) {
+        records.set_back(plan, old);
+        return Err(done);
+    }
+    Ok(())
 }
 
 /// Makes the requests of the lines in their order, up to the first fault.
@@ -65,7 +71,8 @@ pub fn make_all<R: Registers>(
     requires space { journal.old.capacity ≡ length lines.now }
     requires room { (q : request) → ops_bound plan.now q ≤ ops.old.capacity }
     requires few { ops.old.capacity < 2 ^ 32 }
-    ensures { Ran plan.now lines.now journal.new.entries
+    ensures keeps { Keeps plan.now journal.new.entries records.new }
+    ensures ran { Ran plan.now lines.now journal.new.entries
         (registers_seen R.Registers journal.old.regs) (registers_seen R.Registers journal.new.regs) }
 {
     for line in lines {

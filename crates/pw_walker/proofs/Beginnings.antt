@@ -1,7 +1,6 @@
 -- Where a request that isn't refused in every state begins.
-use Rattle.std.proofs.Common.{◌≡◌, ◌≢◌, ◌<◌, ◌≤◌, ◌+◌, ◌==◌, ℕ, Bool, true, false, cond, List, [], ◌∷◌, ◌++◌, length, Option, Some, None, refl, ap, sym, subst, ◌∙◌, arith}
+use Rattle.std.proofs.Common.{◌≡◌, ◌≤◌, ℕ, Bool, true, false, cond, List, [], ◌∷◌, length, Option, Some, None, ap, sym, subst, ◌∙◌}
 use Rattle.std.specs.Prelude.{is_some, nat_lt}
-use Rattle.std.proofs.lemmas.Bool.Decides.{nat_tests}
 use Rattle.acpi_values.specs.Idle.{rows_of}
 use Rattle.acpi_values.specs.declared.idle.IdleKind.{IdleKind}
 use Rattle.acpi_values.specs.declared.idle.IdleKind.TheVariants.{Lpi, Cst, Absent}
@@ -9,7 +8,6 @@ use Rattle.acpi_values.specs.declared.operation.Chain.{Chain}
 use Rattle.acpi_values.specs.declared.operation.Op.{Op}
 use Rattle.pw_plan.specs.declared.domain.Child.TheVariants.{Cpu}
 use Rattle.pw_plan.specs.declared.domain.DomainKind.{DomainKind}
-use Rattle.pw_plan.specs.declared.domain.DomainKind.TheVariants as kinds
 use Rattle.pw_plan.specs.declared.plan.Plan.{Plan}
 use Rattle.pw_plan.specs.declared.request.Request.{Request}
 use Rattle.pw_plan.specs.declared.request.Request.TheVariants.{Idle, Wake, Perf, Throttle, PerfLimit, ThrottleLimit}
@@ -19,20 +17,17 @@ use Rattle.pw_plan.specs.Requests.{Has, cpu_of}
 use Rattle.pw_model.specs.declared.state.Vote.{Vote}
 use Rattle.pw_model.specs.States.{idling, running}
 use Rattle.pw_model.specs.Answers.{chain_of}
-use Rattle.pw_model.specs.Containers.{ancestors}
 use Rattle.pw_model.specs.Operations.{own_entry}
 use Rattle.pw_model.specs.Refusals.{fixed_refusal}
 use Rattle.pw_model.proofs.Accepting.{idle_from}
-use Rattle.pw_core.specs.Chains.{IsChain, states_in}
-use Rattle.pw_core.proofs.Climbing.{is_chain, states_in-chain_of}
+use Rattle.pw_core.specs.Chains.{states_in}
+use Rattle.pw_core.proofs.Climbing.{states_in-chain_of}
 use Rattle.pw_parts.specs.Effects.{enter_c}
-use Rattle.pw_parts.specs.Records.{scaled_count}
 use Rattle.pw_walk.specs.Standing.{own_vote}
-use Rattle.pw_walk.specs.Walk.{Walk, begins_at, climb_on, climbed, climbing, grouped, over, scaled, vote_begins, vote_reply}
-use Rattle.pw_walker.specs.declared.place.Climb.{Climb}
-use Rattle.pw_walker.specs.declared.place.Place.TheVariants.{Grouped, Scaled}
+use Rattle.pw_walk.specs.Walk.{begins_at, climb_on, grouped, over, scaled, vote_begins, vote_reply}
+use Rattle.pw_walker.specs.declared.place.Place.TheVariants.{Scaled}
 use Rattle.pw_walker.specs.Places.{AreStatesUpTo, IsPlace}
-use Rattle.pw_walker.specs.inner.Going.{HandsOn, IsVote}
+use Rattle.pw_walker.specs.inner.Going.{IsVote}
 use Rattle.pw_walker.proofs.Members.{scaled_exists}
 
 -- # Votes

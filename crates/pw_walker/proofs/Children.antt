@@ -22,7 +22,7 @@ module _ (P : Plan) (c : Child) (n k m : ℕ) (number : m ≡ n) (parent : paren
   pub child_small : n < length P.containers → k ≤ 512
   child_small lt = let a = (place n parent).0 in let b = children_few P n lt in omega (arith, a, b)
 
-  child_here : get_or (children_at P n) k (Cpu 0) ≡ c
+  pub child_here : get_or (children_at P n) k (Cpu 0) ≡ c
   child_here = get_or_default (children_at P n) k (Cpu 0) c (place n parent).0 ∙ (place n parent).1
 
   pub child_fits : (v : Vote) → v.state ≤ length (rows_of (table_of P c)) → v.state ≤ table_at P m k

@@ -1,35 +1,28 @@
 -- A climb goes on from a container.
-use Rattle.std.proofs.Common.{◌≡◌, ◌<◌, ◌≤◌, ◌+◌, ◌==◌, ◌&&◌, not, ℕ, zero, suc, Bool, true, false, cond, List, [], ◌∷◌, ◌++◌, length, Option, Some, None, refl, ap, sym, subst, ◌∙◌, arith, append_assoc, length-append}
+use Rattle.std.proofs.Common.{◌≡◌, ◌<◌, ◌≤◌, ◌+◌, ◌==◌, ◌&&◌, not, ℕ, Bool, true, false, cond, List, [], ◌∷◌, ◌++◌, length, Some, None, refl, ap, sym, subst, ◌∙◌, arith, append_assoc, length-append}
 use Rattle.std.specs.Prelude.{nat_lt}
 use Rattle.std.proofs.lemmas.List.{append-nil}
 use Rattle.std.proofs.lemmas.Bool.Decides.{nat_tests}
 use Rattle.acpi_values.specs.Idle.{rows_of}
 use Rattle.acpi_values.specs.declared.operation.Chain.{Chain}
-use Rattle.acpi_values.specs.declared.operation.Op.{Op}
-use Rattle.pw_plan.specs.declared.domain.Child.{Child}
-use Rattle.pw_plan.specs.declared.domain.Child.TheVariants.{Cpu, Container}
+use Rattle.pw_plan.specs.declared.domain.Child.TheVariants.{Container}
 use Rattle.pw_plan.specs.declared.plan.Plan.{Plan}
 use Rattle.pw_plan.specs.declared.request.Request.{Request}
 use Rattle.pw_plan.specs.declared.request.Request.TheVariants.{Idle, Wake, Perf, Throttle, PerfLimit, ThrottleLimit}
-use Rattle.pw_plan.specs.Places.{IsIn, container_at, parent_of}
-use Rattle.pw_plan.specs.Requests.{Has}
+use Rattle.pw_plan.specs.Places.{container_at, parent_of}
 use Rattle.pw_plan.specs.Tree.{line_from}
 use Rattle.pw_plan.proofs.Lists.{and_first, and_second}
 use Rattle.pw_model.specs.declared.state.Vote.{Vote}
 use Rattle.pw_model.specs.States.{IsProper}
 use Rattle.pw_model.specs.Answers.{chain_of}
-use Rattle.pw_model.specs.Containers.{node_vote}
 use Rattle.pw_model.specs.Refusals.{fixed_refusal}
 use Rattle.pw_core.specs.Chains.{AreStates, AreStatesOf, IsChain, states_in}
 use Rattle.pw_core.proofs.Climbing.{is_chain, line-Some, states_in-chain_of}
 use Rattle.pw_idle.proofs.Nodes.{vote_fits, vote_proper}
-use Rattle.pw_parts.specs.Effects.{both_run, votes_in, votes_with}
-use Rattle.pw_parts.specs.Records.{Part}
-use Rattle.pw_walk.specs.Standing.{ClimbsFrom, MayVote}
-use Rattle.pw_walk.specs.Walk.{Walk, climb_on, climb_past, climbed, risen}
+use Rattle.pw_walk.specs.Standing.{MayVote}
+use Rattle.pw_walk.specs.Walk.{Walk, climb_on, climbed, risen}
 use Rattle.pw_walker.specs.declared.place.Climb.{Climb}
-use Rattle.pw_walker.specs.declared.place.Place.TheVariants.{Climbing}
-use Rattle.pw_walker.specs.Places.{AreStatesUpTo, IsClimb, IsPlace, ahead}
+use Rattle.pw_walker.specs.Places.{AreStatesUpTo, IsClimb, ahead}
 use Rattle.pw_walker.specs.inner.Going.{HandsOn, past}
 
 above_zero : (s : ℕ) → nat_lt 0 s ≡ not (s == 0)

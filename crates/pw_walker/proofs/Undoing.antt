@@ -6,19 +6,18 @@ use Rattle.pw_plan.specs.declared.domain.Child.{Child}
 use Rattle.pw_plan.specs.declared.domain.DomainKind.{DomainKind}
 use Rattle.pw_plan.specs.declared.plan.Plan.{Plan}
 use Rattle.pw_plan.specs.Parts.{scale_of}
-use Rattle.pw_plan.specs.Places.{children_at, cpu_at, domain_at, group_at}
+use Rattle.pw_plan.specs.Places.{cpu_at, domain_at, group_at}
 use Rattle.pw_model.specs.declared.state.Vote.{Vote}
 use Rattle.pw_model.specs.States.{capped, running}
 use Rattle.pw_parts.specs.Calls.{with_state, with_vote}
 use Rattle.pw_parts.specs.Effects.{ask_effect, child_place, level_effect, limit_effect, member_place, refused_above, votes_with, with_ask, with_limit}
-use Rattle.pw_parts.specs.Holding.{HoldsLevels, HoldsStates, HoldsVotes}
+use Rattle.pw_parts.specs.Holding.{HoldsLevels, HoldsStates}
 use Rattle.pw_parts.specs.Records.{Part, domain, levels, states, votes}
-use Rattle.pw_idle.specs.declared.node.NodeRec.{NodeRec}
 use Rattle.pw_domain.specs.declared.domain.DomainRec.{DomainRec}
 use Rattle.pw_domain.specs.declared.group.GroupRec.{GroupRec}
 use Rattle.pw_walk.specs.Walk.{first_left}
-use Rattle.pw_walker.specs.Records.{IsDomain, IsGroup, IsNode}
-use Rattle.pw_walker.specs.Undoing.{FitsState, FitsVote, IsMemberIndex}
+use Rattle.pw_walker.specs.Records.{IsDomain, IsGroup}
+use Rattle.pw_walker.specs.Undoing.{FitsState, IsMemberIndex}
 
 -- a list with an element set, and its old one set again
 set_back : {X : Type 0} (xs : List X) (k : ℕ) (x d : X) → set (set xs k x) k (get_or xs k d) ≡ xs

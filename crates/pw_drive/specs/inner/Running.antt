@@ -31,12 +31,16 @@ abbrev pub opening_done : Plan → Option ℕ → List Op
 opening_done P (Some k) = take k (opening_ops P)
 opening_done P None = opening_ops P
 
--- After this history, in which no register failed, the plan's records hold what its state does.
+-- The plan's records hold what the state does that this history leaves.
+pub record Keeps (P : Plan) (es : List HistoryEntry) (R : Records) : Type 0 where
+  pub of : AreRecordsOf P R
+  pub told : AllTold P (replay P es) (part_in R)
+
+-- They do, and no register failed in this history.
 pub record Stands (P : Plan) (es : List HistoryEntry) (R : Records) : Type 0 where
   pub legal : Legal P es
   pub faultless : Faultless es
-  pub of : AreRecordsOf P R
-  pub told : AllTold P (replay P es) (part_in R)
+  pub keeps : Keeps P es R
 
 -- A request was made: its entry follows, and its operations were done.
 pub record Turned (P : Plan) (q : Request) (es fs : List HistoryEntry) (old new : RegistersSeen) : Type 0 where

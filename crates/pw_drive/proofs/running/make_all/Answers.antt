@@ -10,8 +10,8 @@ loop-line-init g c = record {
   room = refl;
 }
 
-pub returns-then-is_err : goal.returns-then-is_err
-returns-then-is_err g c =
+pub returns-then-is_err-clause-ran : goal.returns-then-is_err-clause-ran
+returns-then-is_err-clause-ran g c =
     let seen = registers_seen g.R.Registers in
     let l = c.loop-line in
     let fails = sym c.is_err.ensures.value ∙ c.if-is_err.true in
@@ -32,8 +32,8 @@ loop-line-preserved g c =
       room = c.make.ensures.room ∙ l.invariant.room;
     }
 
-pub returns : goal.returns
-returns g c =
+pub returns-clause-ran : goal.returns-clause-ran
+returns-clause-ran g c =
     let seen = registers_seen g.R.Registers in
     let l = c.loop-line in
     let past : length c.args.lines.now ≤ l.line-index = omega arith in

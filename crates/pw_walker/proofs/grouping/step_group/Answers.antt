@@ -1,4 +1,4 @@
-use Rattle.std.proofs.Common.{◌≡◌, ◌<◌, ◌∙◌, ap, length, refl, subst, sym}
+use Rattle.std.proofs.Common.{◌<◌, ◌∙◌, ap, length, refl, subst, sym}
 use Rattle.pw_plan.specs.Places.{group_at, group_of}
 use Rattle.pw_plan.specs.Requests.{cpu_of}
 use Rattle.pw_parts.specs.Calls.{with_state}
