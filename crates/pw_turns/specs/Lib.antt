@@ -11,6 +11,7 @@ pub mod Climb
 pub mod Told
 pub mod ClimbsOn
 pub mod Finished
+pub mod Alone
 pub mod Opens
 pub mod Ends
 pub mod inner

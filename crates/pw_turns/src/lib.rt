@@ -6,6 +6,7 @@
 mod close;
 mod coordinator;
 mod counts;
+mod laws;
 mod loads;
 mod open;
 mod plays;
@@ -18,6 +19,7 @@ mod waiting;
 
 pub use close::{Closed, Sealed};
 pub use coordinator::{Coordinator, Seat};
+pub use laws::alone_is_answered;
 pub use open::OpenFault;
 pub use requests::Try;
 pub use seats::SplitFault;

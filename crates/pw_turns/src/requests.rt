@@ -163,7 +163,8 @@ impl<R: Registers> Coordinator<R> {
         requires owns { Owns self.now.table.shared.table_id seat.old }
         requires has { Has self.now.plan request }
         ensures owns { Owns self.now.table.shared.table_id seat.new }
-        ensures told { Told (given_of R.Registers self.now.table.shared.key) (view_in seat.old.badge.views) request result (view_in seat.new.badge.views) }
+        ensures told { Told (given_of R.Registers self.now.table.shared.key) (view_in seat.old.badge.views) request result
+            (view_in seat.new.badge.views) }
     {
         let number = seat.number;
         let mut raw: Raw<R> = out(&mut seat.badge);

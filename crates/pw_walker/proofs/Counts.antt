@@ -29,6 +29,7 @@ pub children_few : (P : Plan) (n : ℕ) → n < length P.containers → length (
 children_few P n lt = ∥∥₁_elim P.planned (hlevel (le_prop)) (λ plan.
     let k = length P.containers in
     let at : children_at P n ≡ children_of P.containers P.cpus (get_or (range_with_len 0 k) n 0) =
-    ap (λ (xs : List (List Child)). get_or xs n []) plan.children_are ∙ get_or-map (children_of P.containers P.cpus) (range_with_len 0 k) n 0 [] (let l = length-range_with_len 0 k in omega (arith, l, lt)) in
+    ap (λ (xs : List (List Child)). get_or xs n []) plan.children_are
+    ∙ get_or-map (children_of P.containers P.cpus) (range_with_len 0 k) n 0 [] (let l = length-range_with_len 0 k in omega (arith, l, lt)) in
     let few = few_of P.containers P.cpus (get_or (range_with_len 0 k) n 0) P.sound.small.containers P.sound.small.cpus in
     rw at few)

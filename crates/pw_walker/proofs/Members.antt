@@ -35,7 +35,8 @@ module _ (P : Plan) (kind : DomainKind) (p : ℕ) (exists : p < length P.cpus) (
     index_there : (i : ℕ) → IsIndex (scale_of kind (cpu_at P p)) i → IsIndex (scale_of (domain_at P d).kind (cpu_at P (member_in (domain_at P d).members k))) i
     index_there i h =
         let has = has_domain P kind p exists some in
-        rw (at, there) (subst (λ (j : DomainKind). IsIndex (scale_of j (cpu_at P (member_in (domain_at P (domain_of P kind p)).members (member_place (domain_at P (domain_of P kind p)).members p)))) i) (sym has.kind_is)
+        rw (at, there) (subst (λ (j : DomainKind). IsIndex (scale_of j (cpu_at P
+        (member_in (domain_at P (domain_of P kind p)).members (member_place (domain_at P (domain_of P kind p)).members p)))) i) (sym has.kind_is)
         (subst (λ q. IsIndex (scale_of kind (cpu_at P q)) i) (sym ((calls_serve P).member_at (domain_of P kind p) p has.member).1) h))
 
     pub asked_index : (i : ℕ) → i < count_of (scale_of kind (cpu_at P p)) → IsIndex (scale_of (domain_at P d).kind (cpu_at P (member_in (domain_at P d).members k))) i
@@ -54,7 +55,8 @@ module _ (P : Plan) (kind : DomainKind) (p : ℕ) (exists : p < length P.cpus) (
         let j = member_place (domain_at P (domain_of P kind p)).members p in
         let le : own_limit x j ≤ i = subst (λ m. own_limit x m ≤ i) there above in
         let within : nat_lt i (own_limit x j) ≡ false = grind (arith, nat_tests) in
-        rw (is, at, there) (sym (ap (λ b. (cond b (refused_above (domain D) x (own_limit x j)) (level_effect P kind p D x (with_ask j i x))).ops) within ∙ (calls_serve P).level_ops_are kind p x (with_ask j i x) exists some))
+        rw (is, at, there) (sym (ap (λ b. (cond b (refused_above (domain D) x (own_limit x j)) (level_effect P kind p D x (with_ask j i x))).ops) within
+        ∙ (calls_serve P).level_ops_are kind p x (with_ask j i x) exists some))
 
     pub limited_ops : (n i : ℕ) (x y : Part) → i ≡ capped (scale_of kind (cpu_at P p)) n → y ≡ with_limit k i x → level_ops P d k x y ≡ (limit_effect P kind p n (domain_of P kind p) x).ops
     limited_ops n i x y few is =
@@ -68,7 +70,8 @@ scaled_exists P Throttle p lt some = let has = has_domain P Throttle p lt some i
 scaled_exists P Idle p lt some = cc
 
 -- the member's place is small
-pub member_small : (P : Plan) (kind : DomainKind) (p : ℕ) → p < length P.cpus → is_some (scale_of kind (cpu_at P p)) ≡ true → (d k : ℕ) → d ≡ domain_of P kind p → k ≡ member_place (domain_at P d).members p → k ≤ 256
+pub member_small : (P : Plan) (kind : DomainKind) (p : ℕ) → p < length P.cpus → is_some (scale_of kind (cpu_at P p)) ≡ true
+    → (d k : ℕ) → d ≡ domain_of P kind p → k ≡ member_place (domain_at P d).members p → k ≤ 256
 member_small P kind p exists some d k at is =
     let has = has_domain P kind p exists some in
     let there : k ≡ member_place (domain_at P (domain_of P kind p)).members p = subst (λ e. k ≡ member_place (domain_at P e).members p) at is in

@@ -13,7 +13,8 @@ pub ask_ops-requires-clause-place : goal.ask_ops-requires-clause-place
 ask_ops-requires-clause-place c = place_within c.args.plan.now c.args.kind c.args.cpu c.requires.cpu c.requires.scale c.args.levels.now.domain c.args.member c.requires.of.number c.requires.member
 
 pub ask_ops-requires-clause-index : goal.ask_ops-requires-clause-index
-ask_ops-requires-clause-index c = asked_index c.args.plan.now c.args.kind c.args.cpu c.requires.cpu c.requires.scale c.args.levels.now.domain c.args.member c.requires.of.number c.requires.member c.args.index c.requires.index
+ask_ops-requires-clause-index c = asked_index c.args.plan.now c.args.kind c.args.cpu c.requires.cpu c.requires.scale
+    c.args.levels.now.domain c.args.member c.requires.of.number c.requires.member c.args.index c.requires.index
 
 pub returns-clause-list : goal.returns-clause-list
 returns-clause-list c =

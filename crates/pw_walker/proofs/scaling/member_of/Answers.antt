@@ -4,5 +4,6 @@ use Rattle.pw_walker.proofs.scaling.member_of.Goals as goal
 
 pub overflow_cast-result : goal.overflow_cast-result
 overflow_cast-result c =
-    let few = member_small c.args.plan.now c.args.kind c.args.cpu c.requires.cpu c.requires.scale c.in-Some.membership.place c.in-Some.membership.member c.in-Some.ensures.place.0 c.in-Some.ensures.member in
+    let few = member_small c.args.plan.now c.args.kind c.args.cpu c.requires.cpu c.requires.scale
+    c.in-Some.membership.place c.in-Some.membership.member c.in-Some.ensures.place.0 c.in-Some.ensures.member in
     omega (arith, few)

@@ -62,7 +62,8 @@ free-requires g t c =
     let told = subst (λ (v : View). Climbs given v q r u) is c.climb-told.ensures.told in
     let has = subst (λ P. Has P q) (sym self.planned) c.requires.place.has in
     let moved = s.part ∙ ap (λ w. left P q w x) (sym c.requires.walk) ∙ ap (λ P. left P q (walk P q v.held) x) (sym self.planned) in
-    let free = may_free given v q turn x o.new c.requires.asks.1 r c.step_load-next.result.1 u (load_part c.step_load-next.new.load) (load_part c.settle.new.load) has told moved s.back c.settle.ensures.part in
+    let free = may_free given v q turn x o.new c.requires.asks.1 r c.step_load-next.result.1 u (load_part c.step_load-next.new.load) (load_part c.settle.new.load)
+    has told moved s.back c.settle.ensures.part in
     let taken = subst (λ P. IsRecordOf P turn x c.in-Ok.load) self.planned o.holds in record {
       id = search rules;
       turn = let n = c.next_turn-turn.ensures ops in subst (λ n. n < record_count P) (sym n) (turn_low P q ops c.args.place c.requires.place c.in_default.not-Over);

@@ -13,7 +13,17 @@ invariant_of-result g c =
     record {
       one = search rules;
       numbered = (c.args.a.numbered.0 ∙ ap (λ (x : View). x.number) first ∙ sym (ap (λ (x : View). x.number) is), c.args.a.numbered.1);
-      shared = (omega (arith, c.args.a.shared.0, c.args.b.shared.0, ap (λ (x : View). x.parts) first, ap (λ (x : View). x.parts) second, ap (λ (x : View). x.parts) is), omega (arith, c.args.a.shared.1));
+      shared = (
+        omega (
+          arith,
+          c.args.a.shared.0,
+          c.args.b.shared.0,
+          ap (λ (x : View). x.parts) first,
+          ap (λ (x : View). x.parts) second,
+          ap (λ (x : View). x.parts) is,
+        ),
+        omega (arith, c.args.a.shared.1),
+      );
       saw = let l = joined_seen v w r c.look.result is in
           omega (arith, c.max.ensures, l, c.args.a.saw, c.args.b.saw, ap (λ (x : View). length x.seen) first, ap (λ (x : View). length x.seen) second);
       found = joined_met v w r c.look.result is c.args.a.met (subst (λ x. is_met c.args.a.met x ≡ _) first c.args.a.found);
