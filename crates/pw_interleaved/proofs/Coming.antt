@@ -1,0 +1,46 @@
+-- Workers, one after the other.
+use Rattle.std.proofs.Common.{◌≡◌, ◌≢◌, ◌≤◌, ◌<◌, ◌⊎◌, ◌==◌, ℕ, Bool, true, false, List, [], ◌∷◌, ◌++◌, length, refl, ap, sym, ◌∙◌, subst, arith, ne_eqb, inl, inr}
+use Rattle.std.specs.List.{AllByRecursion}
+use mathlib.Core.Logic.{dite}
+use native.Mathlib.Decide.{dec_lt}
+use Rattle.pw_plan.specs.declared.plan.Plan.{Plan}
+use Rattle.pw_plan.specs.declared.request.Request.{Request}
+use Rattle.pw_plan.specs.Requests.{Has, cpu_of}
+use Rattle.pw_plan.proofs.Lists.{each_append}
+use Rattle.pw_machine.specs.declared.view.Calls.{Calls}
+use Rattle.pw_notice.specs.Limits.{own}
+use Rattle.pw_interleaved.specs.Workers.{AreApart, HasWorker, Worker, joined_down, joined_up}
+
+pub apart_more : (ws : List Worker) (w : Worker) → AreApart ws → AllByRecursion (λ (v : Worker). v.cpu ≢ w.cpu) ws → AreApart (ws ++ w ∷ [])
+apart_more [] w apart other = (tt, tt)
+apart_more (v ∷ vs) w apart other = (each_append (λ (x : Worker). x.cpu ≢ v.cpu) vs (w ∷ []) apart.0 ((λ is. other.0 (sym is)), tt), apart_more vs w apart.1 other.1)
+
+pub has_more : (ws : List Worker) (w : Worker) (p : ℕ) → HasWorker ws p → HasWorker (ws ++ w ∷ []) p
+has_more [] w p has = absurd has
+has_more (v ∷ vs) w p (inl is) = inl is
+has_more (v ∷ vs) w p (inr later) = inr (has_more vs w p later)
+
+pub has_last : (ws : List Worker) (w : Worker) → HasWorker (ws ++ w ∷ []) w.cpu
+has_last [] w = inl refl
+has_last (v ∷ vs) w = inr (has_last vs w)
+
+-- no line is of a processor that the plan doesn't have
+none_past : (P : Plan) (asked : List Request) (p : ℕ) → AllByRecursion (Has P) asked → length P.cpus ≤ p → own p asked ≡ []
+none_past P [] p has past = refl
+none_past P (q ∷ qs) p has past =
+    let lt : cpu_of q < length P.cpus = has.0 in
+    let other : (cpu_of q == p) ≡ false = ne_eqb (cpu_of q) p (λ is. absurd (omega (arith, is, lt, past))) in
+    rw other (none_past P qs p has.1 past)
+
+pub has_all : (P : Plan) (asked : List Request) (ws : List Worker) → AllByRecursion (Has P) asked → ((p : ℕ) → p < length P.cpus → own p asked ≢ [] → HasWorker ws p) → (p : ℕ) → own p asked ≢ [] → HasWorker ws p
+has_all P asked ws has all p some = dite (dec_lt p (length P.cpus))
+    (λ lt. all p lt some)
+    (λ ge. absurd (some (none_past P asked p has (omega arith))))
+
+pub up_more : (book : List Calls) (ws : List Worker) (w : Worker) → joined_up book (ws ++ w ∷ []) ≡ joined_up book ws ++ w.book
+up_more book [] w = refl
+up_more book (v ∷ vs) w = up_more (book ++ v.book) vs w
+
+pub down_more : (book : List Calls) (ws : List Worker) (w : Worker) → joined_down book (ws ++ w ∷ []) ≡ joined_down (book ++ w.book) ws
+down_more book [] w = refl
+down_more book (v ∷ vs) w = ap (λ b. b ++ v.book) (down_more book vs w)

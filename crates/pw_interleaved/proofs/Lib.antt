@@ -1,0 +1,5 @@
+pub mod Seats
+pub mod Lines
+pub mod Joins
+pub mod Workers
+pub mod Coming

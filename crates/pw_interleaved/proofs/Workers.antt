@@ -1,0 +1,132 @@
+-- From what each worker did to what each seat asked.
+use Rattle.std.proofs.Common.{◌≡◌, ◌≢◌, ◌==◌, ◌+◌, ◌<◌, ◌⊎◌, ℕ, Bool, true, false, cond, List, [], ◌∷◌, ◌++◌, refl, ap, sym, ◌∙◌, subst, arith, eq-eqb, ne_eqb, inl, inr}
+use Rattle.std.specs.List.{AllByRecursion}
+use mathlib.Core.Logic.{dite}
+use native.Mathlib.Decide.{dec_lt}
+use Rattle.pw_plan.specs.declared.request.Request.{Request}
+use Rattle.pw_model.specs.declared.entry.HistoryEntry.{HistoryEntry}
+use Rattle.pw_model.specs.History.{Faultless}
+use Rattle.pw_machine.specs.declared.view.Calls.{Calls}
+use Rattle.pw_machine.specs.Books.{Knows, calls_of, count_in, entries_of}
+use Rattle.pw_machine.specs.Books.{Begins as SeenBy}
+use Rattle.pw_machine.proofs.Lists.{one-of}
+use Rattle.pw_notice.specs.Limits.{own, requests}
+use Rattle.pw_script.specs.Lawful.{Begins}
+use Rattle.pw_interleaved.specs.Seats.{AskedBySeats, IsSeat}
+use Rattle.pw_interleaved.specs.Workers.{AreApart, AreJoined, HasWorker, MadeByWorkers, Worked, Worker, joined_down, joined_up, seat_of}
+use Rattle.pw_interleaved.proofs.Seats.{each_first}
+use Rattle.pw_interleaved.proofs.Joins.{Joined, counted, down_has, each_map, each_own, silent_none, up_has}
+
+-- # Workers of a list
+
+abbrev IsAmong : Worker → List Worker → Type 0
+IsAmong v [] = ⊥
+IsAmong v (w ∷ ws) = (v ≡ w) ⊎ IsAmong v ws
+
+of_each : (T : Worker → Type 0) (ws : List Worker) (v : Worker) → AllByRecursion T ws → IsAmong v ws → T v
+of_each T [] v each is = absurd is
+of_each T (w ∷ ws) v each (inl is) = subst T (sym is) each.0
+of_each T (w ∷ ws) v each (inr later) = of_each T ws v each.1 later
+
+-- the worker of a processor, and one in whose book a number stands
+of_cpu : (ws : List Worker) (p : ℕ) → HasWorker ws p → (w : Worker) × IsAmong w ws × (w.cpu ≡ p)
+of_cpu [] p has = absurd has
+of_cpu (w ∷ ws) p (inl is) = (w, inl refl, is)
+of_cpu (w ∷ ws) p (inr later) = let r = of_cpu ws p later in (r.0, inr r.1, r.2)
+
+of_number : (ws : List Worker) (n : ℕ) → 0 < counted n ws → (w : Worker) × IsAmong w ws × (0 < count_in n w.book)
+of_number [] n some = absurd (omega arith)
+of_number (w ∷ ws) n some = dite (dec_lt 0 (count_in n w.book))
+    (λ here. (w, inl refl, here))
+    (λ not_here. let r = of_number ws n (omega arith) in (r.0, inr r.1, r.2))
+
+-- where no two have the same processor, its seat is the worker's
+seat_is : (ws : List Worker) → AreApart ws → (v : Worker) → IsAmong v ws → seat_of ws v.cpu ≡ v.number
+seat_is [] apart v is = absurd is
+seat_is (w ∷ ws) apart v (inl is) = ap (λ b. cond b w.number (seat_of ws v.cpu)) (eq-eqb w.cpu v.cpu (ap (λ (x : Worker). x.cpu) (sym is))) ∙ ap (λ (x : Worker). x.number) (sym is)
+seat_is (w ∷ ws) apart v (inr later) =
+    let ne : v.cpu ≢ w.cpu = of_each (λ (x : Worker). x.cpu ≢ w.cpu) ws v apart.0 later in
+    ap (λ b. cond b w.number (seat_of ws v.cpu)) (ne_eqb w.cpu v.cpu (λ is. ne (sym is))) ∙ seat_is ws apart.1 v later
+
+module _ (asked : List Request) (es : List HistoryEntry) where
+  -- what a worker's seat has in the history
+  record Did (w : Worker) : Type 0 where
+    begins : Begins (requests (entries_of w.number es)) (own w.cpu asked)
+    whole : Faultless es → requests (entries_of w.number es) ≡ own w.cpu asked
+    number : (n : ℕ) → 0 < count_in n w.book → w.number ≡ n
+
+  did : (w : Worker) → Worked (own w.cpu asked) w.number w.book w.seen → SeenBy es w.seen → Knows w.book es → Did w
+  did w worked saw knows =
+      let alone : Knows (calls_of w.number worked.entries ∷ []) es = subst (λ b. Knows b es) worked.alone knows in
+      let same : requests worked.entries ≡ requests (entries_of w.number es) = ap requests (sym alone.0) in
+      record {
+        begins = subst (λ l. Begins l (own w.cpu asked)) same worked.begins;
+        whole = λ none. sym same ∙ step worked.whole (each_first (λ (e : HistoryEntry). e.fault ≡ 0) w.seen saw.0 (subst Faultless saw.1 none));
+        number = λ n some.
+            let here : 0 < count_in n (calls_of w.number worked.entries ∷ []) = subst (λ b. 0 < count_in n b) worked.alone some in
+            one-of w.number n (omega (arith, here));
+      }
+    where
+      step : (requests worked.entries ≡ own w.cpu asked) ⊎ (Faultless w.seen → ⊥) → Faultless w.seen → requests worked.entries ≡ own w.cpu asked
+      step (inl all) none = all
+      step (inr fault) none = absurd (fault none)
+
+  each_did : (ws : List Worker) → AllByRecursion (λ (w : Worker). Worked (own w.cpu asked) w.number w.book w.seen) ws → AllByRecursion (λ (w : Worker). SeenBy es w.seen) ws
+      → AllByRecursion (λ (w : Worker). Knows w.book es) ws → AllByRecursion Did ws
+  each_did [] worked saw knows = tt
+  each_did (w ∷ ws) worked saw knows = (did w worked.0 saw.0 knows.0, each_did ws worked.1 saw.1 knows.1)
+
+  -- a seat that has an entry asked a line
+  has_lines : (n p : ℕ) → entries_of n es ≢ [] → Begins (requests (entries_of n es)) (own p asked) → own p asked ≢ []
+  has_lines n p some b = λ none. some (step (entries_of n es) b.rest (sym none ∙ b.is))
+    where
+      step : (l : List HistoryEntry) (rest : List Request) → [] ≡ requests l ++ rest → l ≡ []
+      step [] rest e = refl
+      step (x ∷ xs) rest e = absurd (cc)
+
+  module _ (ws : List Worker) (book : List Calls) (made : MadeByWorkers asked ws book es) where
+    has : Joined made.joined.first ws book es
+    has = step made.joined.joined
+      where
+        step : (book ≡ joined_up made.joined.first ws) ⊎ (book ≡ joined_down made.joined.first ws) → Joined made.joined.first ws book es
+        step (inl is) = subst (λ b. Joined made.joined.first ws b es) (sym is) (up_has made.joined.first ws es (subst (λ b. Knows b es) is made.knows))
+        step (inr is) = subst (λ b. Joined made.joined.first ws b es) (sym is) (down_has made.joined.first ws es (subst (λ b. Knows b es) is made.knows))
+
+    each : AllByRecursion Did ws
+    each = each_did ws made.worked made.saw has.knows
+
+    -- an entry's number is a worker's
+    sits : (n : ℕ) → entries_of n es ≢ [] → count_in n book ≡ 1 → IsSeat asked (seat_of ws) n
+    sits n some once =
+        let stranger : count_in n made.joined.first ≡ 0 = none (count_in n made.joined.first) (λ lt. some (silent_none n made.joined.first es made.joined.silent has.first_knows lt)) in
+        let r = of_number ws n (omega (arith, once, has.count n, stranger)) in
+        let w = r.0 in
+        let d = of_each Did ws w each r.1 in
+        let is : w.number ≡ n = d.number n r.2 in
+        record {
+          cpu = w.cpu;
+          some = has_lines w.number w.cpu (subst (λ x. entries_of x es ≢ []) (sym is) some) d.begins;
+          is = sym is ∙ sym (seat_is ws made.apart w r.1);
+        }
+      where
+        none : (k : ℕ) → (0 < k → ⊥) → k ≡ 0
+        none k nothing = dite (dec_lt 0 k) (λ lt. absurd (nothing lt)) (λ ge. omega arith)
+
+    all_sit : (fs : List HistoryEntry) → AllByRecursion (λ e. entries_of e.seat es ≢ []) fs → AllByRecursion (λ e. count_in e.seat book ≡ 1) fs → AllByRecursion (λ e. IsSeat asked (seat_of ws) e.seat) fs
+    all_sit [] some once = tt
+    all_sit (f ∷ fs) some once = (sits f.seat some.0 once.0, all_sit fs some.1 once.1)
+
+    -- a processor with lines has a worker, whose seat is its own
+    its : (p : ℕ) → own p asked ≢ [] → (w : Worker) × Did w × (w.cpu ≡ p) × (seat_of ws p ≡ w.number)
+    its p some =
+        let r = of_cpu ws p (made.all p some) in
+        (r.0, of_each Did ws r.0 each r.1, r.2, ap (seat_of ws) (sym r.2) ∙ seat_is ws made.apart r.0 r.1)
+
+    pub workers-asked : AskedBySeats asked (seat_of ws) es
+    workers-asked = record {
+      seated = all_sit es (each_own es) made.numbers;
+      begins = λ p some. let i = its p some in let d = i.1 in
+          subst (λ n. Begins (requests (entries_of n es)) (own p asked)) (sym i.3) (subst (λ k. Begins (requests (entries_of i.0.number es)) (own k asked)) i.2 d.begins);
+      whole = λ none p some. let i = its p some in let d = i.1 in
+          ap (λ n. requests (entries_of n es)) i.3 ∙ d.whole none ∙ ap (λ k. own k asked) i.2;
+    }
