@@ -7,6 +7,7 @@ use native.Mathlib.Decide.{ℕ_discrete}
 use Rattle.pw_model.specs.declared.entry.HistoryEntry.{HistoryEntry}
 use Rattle.pw_machine.specs.declared.view.Calls.{Calls}
 use Rattle.pw_machine.specs.Books.{Knows, count_in, entries_of}
+use Rattle.pw_machine.specs.Machine.{total}
 use Rattle.pw_machine.proofs.Books.{count-append}
 use Rattle.pw_machine.proofs.Lists.{none-of}
 use Rattle.pw_interleaved.specs.Workers.{Worker, joined_down, joined_up}
@@ -19,16 +20,11 @@ knows_rest : (xs ys : List Calls) (log : List HistoryEntry) → Knows (xs ++ ys)
 knows_rest [] ys log k = k
 knows_rest (c ∷ cs) ys log k = knows_rest cs ys log k.1
 
--- how often the number stands in the workers' books
-abbrev pub counted : ℕ → List Worker → ℕ
-counted n [] = 0
-counted n (w ∷ ws) = count_in n w.book + counted n ws
-
 -- a book that has what the first one and the workers' books have
 pub record Joined (first : List Calls) (ws : List Worker) (book : List Calls) (log : List HistoryEntry) : Type 0 where
   pub first_knows : Knows first log
   pub knows : AllByRecursion (λ w. Knows w.book log) ws
-  pub count : (n : ℕ) → count_in n book ≡ count_in n first + counted n ws
+  pub count : (n : ℕ) → count_in n book ≡ count_in n first + total (λ w. count_in n w.book) ws
 
 pub up_has : (first : List Calls) (ws : List Worker) (log : List HistoryEntry) → Knows (joined_up first ws) log → Joined first ws (joined_up first ws) log
 up_has first [] log k = record { first_knows = k; knows = tt; count = λ n. omega arith }

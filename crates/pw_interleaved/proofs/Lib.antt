@@ -1,5 +1,6 @@
 pub mod Seats
 pub mod Lines
 pub mod Joins
+pub mod Counting
 pub mod Workers
 pub mod Coming

@@ -1,5 +1,5 @@
 -- One worker, line by line.
-use Rattle.std.proofs.Common.{◌≡◌, ◌≢◌, ◌<◌, ◌+◌, ℕ, suc, List, [], ◌∷◌, ◌++◌, cond, length, get_or, take, drop, take-suc, refl, ap, sym, ◌∙◌, subst, eq-eqb, append-nil, arith, inl, inr}
+use Rattle.std.proofs.Common.{◌≡◌, ◌≢◌, ◌<◌, ◌≤◌, ◌+◌, ℕ, suc, List, [], ◌∷◌, ◌++◌, cond, length, get_or, take, drop, take-suc, refl, ap, sym, ◌∙◌, subst, eq-eqb, append-nil, arith, inl, inr}
 use Rattle.std.specs.List.{AllByRecursion}
 use Rattle.std.proofs.lemmas.List.{map-append, take-append-drop}
 use Rattle.pw_plan.specs.declared.request.Request.{Request}
@@ -7,8 +7,9 @@ use Rattle.pw_model.specs.declared.entry.HistoryEntry.{HistoryEntry}
 use Rattle.pw_model.specs.History.{Faultless, request_of}
 use Rattle.pw_machine.specs.declared.view.Calls.{Calls}
 use Rattle.pw_machine.specs.Books.{calls_of, grown}
+use Rattle.pw_notice.specs.Limits.{requests}
 use Rattle.pw_script.specs.Lawful.{Begins}
-use Rattle.pw_interleaved.specs.Workers.{HasAsked, Worked}
+use Rattle.pw_interleaved.specs.Workers.{Filled, HasAsked, Worked}
 
 pub asked_none : (n : ℕ) → HasAsked [] n (calls_of n [] ∷ [])
 asked_none n = record { entries = []; alone = refl; asked = refl }
@@ -38,13 +39,19 @@ worked_whole lines n book seen h = record {
   whole = inl h.asked;
 }
 
+first_lines : (lines : List Request) (k n : ℕ) (book : List Calls) → (h : HasAsked (take k lines) n book) → Begins (requests h.entries) lines
+first_lines lines k n book h = record { rest = drop k lines; is = sym (take-append-drop k lines) ∙ ap (λ l. l ++ drop k lines) (sym h.asked) }
+
 pub worked_part : (lines : List Request) (k n : ℕ) (book : List Calls) (seen : List HistoryEntry) → HasAsked (take k lines) n book → (Faultless seen → ⊥) → Worked lines n book seen
 worked_part lines k n book seen h fault = record {
   entries = h.entries;
   alone = h.alone;
-  begins = record { rest = drop k lines; is = sym (take-append-drop k lines) ∙ ap (λ l. l ++ drop k lines) (sym h.asked) };
+  begins = first_lines lines k n book h;
   whole = inr fault;
 }
+
+pub filled_part : (lines : List Request) (room k n : ℕ) (book : List Calls) (seen : List HistoryEntry) → HasAsked (take k lines) n book → room ≤ length seen → Filled lines room n book seen
+filled_part lines room k n book seen h full = record { entries = h.entries; alone = h.alone; begins = first_lines lines k n book h; full = full }
 
 -- a history that ends with a fault has one
 pub faults : (before : List HistoryEntry) (e : HistoryEntry) → e.fault ≢ 0 → Faultless (before ++ e ∷ []) → ⊥

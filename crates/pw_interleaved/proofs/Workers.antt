@@ -1,5 +1,5 @@
 -- From what each worker did to what each seat asked.
-use Rattle.std.proofs.Common.{◌≡◌, ◌≢◌, ◌==◌, ◌+◌, ◌<◌, ◌⊎◌, ℕ, Bool, true, false, cond, List, [], ◌∷◌, ◌++◌, refl, ap, sym, ◌∙◌, subst, arith, eq-eqb, ne_eqb, inl, inr}
+use Rattle.std.proofs.Common.{◌≡◌, ◌≢◌, ◌==◌, ◌+◌, ◌<◌, ◌≤◌, ◌⊎◌, ℕ, Bool, true, false, cond, List, [], ◌∷◌, ◌++◌, length, length-append, refl, ap, sym, ◌∙◌, subst, arith, eq-eqb, ne_eqb, inl, inr}
 use Rattle.std.specs.List.{AllByRecursion}
 use mathlib.Core.Logic.{dite}
 use native.Mathlib.Decide.{dec_lt}
@@ -9,13 +9,15 @@ use Rattle.pw_model.specs.History.{Faultless}
 use Rattle.pw_machine.specs.declared.view.Calls.{Calls}
 use Rattle.pw_machine.specs.Books.{Knows, calls_of, count_in, entries_of}
 use Rattle.pw_machine.specs.Books.{Begins as SeenBy}
-use Rattle.pw_machine.proofs.Lists.{one-of}
+use Rattle.pw_machine.specs.Machine.{bit, total}
+use Rattle.pw_machine.proofs.Lists.{one, one-of}
 use Rattle.pw_notice.specs.Limits.{own, requests}
 use Rattle.pw_script.specs.Lawful.{Begins}
 use Rattle.pw_interleaved.specs.Seats.{AskedBySeats, IsSeat}
-use Rattle.pw_interleaved.specs.Workers.{AreApart, AreJoined, HasWorker, MadeByWorkers, Worked, Worker, joined_down, joined_up, seat_of}
+use Rattle.pw_interleaved.specs.Workers.{AreApart, AreJoined, Ended, HasWorker, MadeByWorkers, Worker, joined_down, joined_up, seat_of}
 use Rattle.pw_interleaved.proofs.Seats.{each_first}
-use Rattle.pw_interleaved.proofs.Joins.{Joined, counted, down_has, each_map, each_own, silent_none, up_has}
+use Rattle.pw_interleaved.proofs.Counting.{Begun, all_made}
+use Rattle.pw_interleaved.proofs.Joins.{Joined, down_has, each_map, each_own, silent_none, up_has}
 
 -- # Workers of a list
 
@@ -34,7 +36,7 @@ of_cpu [] p has = absurd has
 of_cpu (w ∷ ws) p (inl is) = (w, inl refl, is)
 of_cpu (w ∷ ws) p (inr later) = let r = of_cpu ws p later in (r.0, inr r.1, r.2)
 
-of_number : (ws : List Worker) (n : ℕ) → 0 < counted n ws → (w : Worker) × IsAmong w ws × (0 < count_in n w.book)
+of_number : (ws : List Worker) (n : ℕ) → 0 < total (λ (w : Worker). count_in n w.book) ws → (w : Worker) × IsAmong w ws × (0 < count_in n w.book)
 of_number [] n some = absurd (omega arith)
 of_number (w ∷ ws) n some = dite (dec_lt 0 (count_in n w.book))
     (λ here. (w, inl refl, here))
@@ -48,33 +50,57 @@ seat_is (w ∷ ws) apart v (inr later) =
     let ne : v.cpu ≢ w.cpu = of_each (λ (x : Worker). x.cpu ≢ w.cpu) ws v apart.0 later in
     ap (λ b. cond b w.number (seat_of ws v.cpu)) (ne_eqb w.cpu v.cpu (λ is. ne (sym is))) ∙ seat_is ws apart.1 v later
 
+-- and that worker's number is counted
+hits : (ws : List Worker) (v : Worker) (n : ℕ) → IsAmong v ws → v.number ≡ n → 1 ≤ total (λ (w : Worker). bit (n == w.number)) ws
+hits [] v n is same = absurd is
+hits (w ∷ ws) v n (inl is) same = omega (arith, one n w.number (sym (ap (λ (x : Worker). x.number) (sym is) ∙ same)))
+hits (w ∷ ws) v n (inr later) same = omega (arith, hits ws v n later same)
+
 module _ (asked : List Request) (es : List HistoryEntry) where
   -- what a worker's seat has in the history
   record Did (w : Worker) : Type 0 where
     begins : Begins (requests (entries_of w.number es)) (own w.cpu asked)
-    whole : Faultless es → requests (entries_of w.number es) ≡ own w.cpu asked
+    whole : (requests (entries_of w.number es) ≡ own w.cpu asked) ⊎ ((Faultless es → ⊥) ⊎ (length asked ≤ length es))
     number : (n : ℕ) → 0 < count_in n w.book → w.number ≡ n
 
-  did : (w : Worker) → Worked (own w.cpu asked) w.number w.book w.seen → SeenBy es w.seen → Knows w.book es → Did w
-  did w worked saw knows =
-      let alone : Knows (calls_of w.number worked.entries ∷ []) es = subst (λ b. Knows b es) worked.alone knows in
-      let same : requests worked.entries ≡ requests (entries_of w.number es) = ap requests (sym alone.0) in
+  first_faultless : (seen : List HistoryEntry) → SeenBy es seen → Faultless es → Faultless seen
+  first_faultless seen saw none = each_first (λ (e : HistoryEntry). e.fault ≡ 0) seen saw.0 (subst Faultless saw.1 none)
+
+  first_long : (seen : List HistoryEntry) → SeenBy es seen → length seen ≤ length es
+  first_long seen saw = omega (arith, ap (length {A = HistoryEntry}) saw.1, length-append seen saw.0)
+
+  known : (n : ℕ) (book : List Calls) (entries : List HistoryEntry) → book ≡ calls_of n entries ∷ [] → Knows book es → entries ≡ entries_of n es
+  known n book entries alone knows = let k : Knows (calls_of n entries ∷ []) es = subst (λ b. Knows b es) alone knows in sym k.0
+
+  only : (n : ℕ) (book : List Calls) (entries : List HistoryEntry) → book ≡ calls_of n entries ∷ [] → (m : ℕ) → 0 < count_in m book → n ≡ m
+  only n book entries alone m some = let here : 0 < count_in m (calls_of n entries ∷ []) = subst (λ b. 0 < count_in m b) alone some in one-of n m (omega (arith, here))
+
+  did : (w : Worker) → Ended asked w → SeenBy es w.seen → Knows w.book es → Did w
+  did w (inl worked) saw knows =
+      let same : requests worked.entries ≡ requests (entries_of w.number es) = ap requests (known w.number w.book worked.entries worked.alone knows) in
       record {
         begins = subst (λ l. Begins l (own w.cpu asked)) same worked.begins;
-        whole = λ none. sym same ∙ step worked.whole (each_first (λ (e : HistoryEntry). e.fault ≡ 0) w.seen saw.0 (subst Faultless saw.1 none));
-        number = λ n some.
-            let here : 0 < count_in n (calls_of w.number worked.entries ∷ []) = subst (λ b. 0 < count_in n b) worked.alone some in
-            one-of w.number n (omega (arith, here));
+        whole = step worked.whole same;
+        number = only w.number w.book worked.entries worked.alone;
       }
     where
-      step : (requests worked.entries ≡ own w.cpu asked) ⊎ (Faultless w.seen → ⊥) → Faultless w.seen → requests worked.entries ≡ own w.cpu asked
-      step (inl all) none = all
-      step (inr fault) none = absurd (fault none)
+      step : {made : List Request} → (made ≡ own w.cpu asked) ⊎ (Faultless w.seen → ⊥) → made ≡ requests (entries_of w.number es)
+          → (requests (entries_of w.number es) ≡ own w.cpu asked) ⊎ ((Faultless es → ⊥) ⊎ (length asked ≤ length es))
+      step (inl all) same = inl (sym same ∙ all)
+      step (inr fault) same = inr (inl (λ none. fault (first_faultless w.seen saw none)))
+  did w (inr filled) saw knows =
+      let same : requests filled.entries ≡ requests (entries_of w.number es) = ap requests (known w.number w.book filled.entries filled.alone knows) in
+      let full = filled.full in
+      record {
+        begins = subst (λ l. Begins l (own w.cpu asked)) same filled.begins;
+        whole = inr (inr (omega (arith, full, first_long w.seen saw)));
+        number = only w.number w.book filled.entries filled.alone;
+      }
 
-  each_did : (ws : List Worker) → AllByRecursion (λ (w : Worker). Worked (own w.cpu asked) w.number w.book w.seen) ws → AllByRecursion (λ (w : Worker). SeenBy es w.seen) ws
+  each_did : (ws : List Worker) → AllByRecursion (Ended asked) ws → AllByRecursion (λ (w : Worker). SeenBy es w.seen) ws
       → AllByRecursion (λ (w : Worker). Knows w.book es) ws → AllByRecursion Did ws
-  each_did [] worked saw knows = tt
-  each_did (w ∷ ws) worked saw knows = (did w worked.0 saw.0 knows.0, each_did ws worked.1 saw.1 knows.1)
+  each_did [] ended saw knows = tt
+  each_did (w ∷ ws) ended saw knows = (did w ended.0 saw.0 knows.0, each_did ws ended.1 saw.1 knows.1)
 
   -- a seat that has an entry asked a line
   has_lines : (n p : ℕ) → entries_of n es ≢ [] → Begins (requests (entries_of n es)) (own p asked) → own p asked ≢ []
@@ -93,40 +119,54 @@ module _ (asked : List Request) (es : List HistoryEntry) where
         step (inr is) = subst (λ b. Joined made.joined.first ws b es) (sym is) (down_has made.joined.first ws es (subst (λ b. Knows b es) is made.knows))
 
     each : AllByRecursion Did ws
-    each = each_did ws made.worked made.saw has.knows
+    each = each_did ws made.ended made.saw has.knows
 
     -- an entry's number is a worker's
-    sits : (n : ℕ) → entries_of n es ≢ [] → count_in n book ≡ 1 → IsSeat asked (seat_of ws) n
-    sits n some once =
+    whose : (n : ℕ) → entries_of n es ≢ [] → count_in n book ≡ 1 → (w : Worker) × IsAmong w ws × (w.number ≡ n)
+    whose n some once =
         let stranger : count_in n made.joined.first ≡ 0 = none (count_in n made.joined.first) (λ lt. some (silent_none n made.joined.first es made.joined.silent has.first_knows lt)) in
         let r = of_number ws n (omega (arith, once, has.count n, stranger)) in
-        let w = r.0 in
-        let d = of_each Did ws w each r.1 in
-        let is : w.number ≡ n = d.number n r.2 in
-        record {
-          cpu = w.cpu;
-          some = has_lines w.number w.cpu (subst (λ x. entries_of x es ≢ []) (sym is) some) d.begins;
-          is = sym is ∙ sym (seat_is ws made.apart w r.1);
-        }
+        (r.0, r.1, (of_each Did ws r.0 each r.1).number n r.2)
       where
         none : (k : ℕ) → (0 < k → ⊥) → k ≡ 0
         none k nothing = dite (dec_lt 0 k) (λ lt. absurd (nothing lt)) (λ ge. omega arith)
 
-    all_sit : (fs : List HistoryEntry) → AllByRecursion (λ e. entries_of e.seat es ≢ []) fs → AllByRecursion (λ e. count_in e.seat book ≡ 1) fs → AllByRecursion (λ e. IsSeat asked (seat_of ws) e.seat) fs
-    all_sit [] some once = tt
-    all_sit (f ∷ fs) some once = (sits f.seat some.0 once.0, all_sit fs some.1 once.1)
+    sits : (n : ℕ) → entries_of n es ≢ [] → count_in n book ≡ 1 → IsSeat asked (seat_of ws) n
+    sits n some once =
+        let r = whose n some once in
+        record {
+          cpu = r.0.cpu;
+          some = has_lines r.0.number r.0.cpu (subst (λ x. entries_of x es ≢ []) (sym r.2) some) (of_each Did ws r.0 each r.1).begins;
+          is = sym r.2 ∙ sym (seat_is ws made.apart r.0 r.1);
+        }
+
+    each_entry : (T : ℕ → Type 0) → ((n : ℕ) → entries_of n es ≢ [] → count_in n book ≡ 1 → T n) → (fs : List HistoryEntry) → AllByRecursion (λ e. entries_of e.seat es ≢ []) fs
+        → AllByRecursion (λ e. count_in e.seat book ≡ 1) fs → AllByRecursion (λ e. T e.seat) fs
+    each_entry T f [] some once = tt
+    each_entry T f (e ∷ fs) some once = (f e.seat some.0 once.0, each_entry T f fs some.1 once.1)
+
+    -- a history with an entry for each line has all lines
+    all_whole : length asked ≤ length es → AllByRecursion (λ (w : Worker). requests (entries_of w.number es) ≡ own w.cpu asked) ws
+    all_whole full = all_made asked es ws made.apart (each_map Did (Begun asked es) (λ w (d : Did w). d.begins) ws each)
+        (each_entry (λ n. 1 ≤ total (λ (w : Worker). bit (n == w.number)) ws) (λ n some once. let r = whose n some once in hits ws r.0 n r.1 r.2) es (each_own es) made.numbers) full
+
+    its_whole : (w : Worker) → IsAmong w ws → Faultless es → requests (entries_of w.number es) ≡ own w.cpu asked
+    its_whole w is none = step (of_each Did ws w each is).whole
+      where
+        step : (requests (entries_of w.number es) ≡ own w.cpu asked) ⊎ ((Faultless es → ⊥) ⊎ (length asked ≤ length es)) → requests (entries_of w.number es) ≡ own w.cpu asked
+        step (inl all) = all
+        step (inr (inl fault)) = absurd (fault none)
+        step (inr (inr full)) = of_each (λ (v : Worker). requests (entries_of v.number es) ≡ own v.cpu asked) ws w (all_whole full) is
 
     -- a processor with lines has a worker, whose seat is its own
-    its : (p : ℕ) → own p asked ≢ [] → (w : Worker) × Did w × (w.cpu ≡ p) × (seat_of ws p ≡ w.number)
-    its p some =
-        let r = of_cpu ws p (made.all p some) in
-        (r.0, of_each Did ws r.0 each r.1, r.2, ap (seat_of ws) (sym r.2) ∙ seat_is ws made.apart r.0 r.1)
+    its : (p : ℕ) → own p asked ≢ [] → (w : Worker) × IsAmong w ws × (w.cpu ≡ p) × (seat_of ws p ≡ w.number)
+    its p some = let r = of_cpu ws p (made.all p some) in (r.0, r.1, r.2, ap (seat_of ws) (sym r.2) ∙ seat_is ws made.apart r.0 r.1)
 
     pub workers-asked : AskedBySeats asked (seat_of ws) es
     workers-asked = record {
-      seated = all_sit es (each_own es) made.numbers;
-      begins = λ p some. let i = its p some in let d = i.1 in
-          subst (λ n. Begins (requests (entries_of n es)) (own p asked)) (sym i.3) (subst (λ k. Begins (requests (entries_of i.0.number es)) (own k asked)) i.2 d.begins);
-      whole = λ none p some. let i = its p some in let d = i.1 in
-          ap (λ n. requests (entries_of n es)) i.3 ∙ d.whole none ∙ ap (λ k. own k asked) i.2;
+      seated = each_entry (IsSeat asked (seat_of ws)) sits es (each_own es) made.numbers;
+      begins = λ p some. let i = its p some in
+          subst (λ n. Begins (requests (entries_of n es)) (own p asked)) (sym i.3) (subst (λ k. Begins (requests (entries_of i.0.number es)) (own k asked)) i.2 (of_each Did ws i.0 each i.1).begins);
+      whole = λ none p some. let i = its p some in
+          ap (λ n. requests (entries_of n es)) i.3 ∙ its_whole i.0 i.1 none ∙ ap (λ k. own k asked) i.2;
     }

@@ -1,5 +1,5 @@
 -- What workers did, each with a seat of its own and the lines of one processor, and how their seats' books become one.
-use Rattle.std.specs.Prelude.{◌≡◌, ◌≢◌, ◌==◌, ◌++◌, ◌⊎◌, ℕ, List, [], ◌∷◌, cond}
+use Rattle.std.specs.Prelude.{◌≡◌, ◌≢◌, ◌==◌, ◌++◌, ◌⊎◌, ◌≤◌, ℕ, List, [], ◌∷◌, cond, length}
 use Rattle.std.specs.List.{AllByRecursion}
 use Rattle.pw_plan.specs.declared.request.Request.{Request}
 use Rattle.pw_model.specs.declared.entry.HistoryEntry.{HistoryEntry}
@@ -26,6 +26,13 @@ pub record Worked (lines : List Request) (number : ℕ) (book : List Calls) (see
   pub begins : Begins (requests entries) lines
   pub whole : (requests entries ≡ lines) ⊎ (Faultless seen → ⊥)
 
+-- A worker was refused behind a beginning of its lines: the history that it has seen had all entries for which there was room.
+pub record Filled (lines : List Request) (room number : ℕ) (book : List Calls) (seen : List HistoryEntry) : Type 0 where
+  pub entries : List HistoryEntry
+  pub alone : book ≡ calls_of number entries ∷ []
+  pub begins : Begins (requests entries) lines
+  pub full : room ≤ length seen
+
 -- # All workers
 
 -- A worker as it ended: its processor, and of its seat the number, the book, and the history as far as it has seen it.
@@ -34,6 +41,11 @@ pub record Worker : Type 0 where
   pub number : ℕ
   pub book : List Calls
   pub seen : List HistoryEntry
+
+-- it ended in one of these ways, and there was room for an entry of each line of all processors
+abbrev pub Ended : List Request → Worker → Type 0
+Ended asked w =
+    Worked (own w.cpu asked) w.number w.book w.seen ⊎ Filled (own w.cpu asked) (length asked) w.number w.book w.seen
 
 -- the number of the seat of the processor's first worker
 abbrev pub seat_of : List Worker → ℕ → ℕ
@@ -69,7 +81,7 @@ pub record AreJoined (workers : List Worker) (book : List Calls) : Type 0 where
 -- Each processor with lines had one worker, which made them, and these workers made the history: their seats were joined to one
 -- whose book then has each entry's number once, and of each of its numbers what the history has. Each saw a beginning of the history.
 pub record MadeByWorkers (asked : List Request) (workers : List Worker) (book : List Calls) (es : List HistoryEntry) : Type 0 where
-  pub worked : AllByRecursion (λ w. Worked (own w.cpu asked) w.number w.book w.seen) workers
+  pub ended : AllByRecursion (Ended asked) workers
   pub apart : AreApart workers
   pub all : (p : ℕ) → own p asked ≢ [] → HasWorker workers p
   pub saw : AllByRecursion (λ w. SeenBy es w.seen) workers

@@ -1,4 +1,4 @@
-ghost use Rattle.std.specs.Prelude.{◌≡◌, ◌≢◌, ◌<◌, ◌+◌, ◌++◌, ◌∷◌, ℕ, [], List, length, slice_index_or, take};
+ghost use Rattle.std.specs.Prelude.{◌≡◌, ◌≢◌, ◌<◌, ◌≤◌, ◌+◌, ◌++◌, ◌∷◌, ℕ, [], List, length, slice_index_or, take};
 ghost use Rattle.std.specs.List.{AllByRecursion};
 ghost use Rattle.pw_plan.specs.declared.plan.Plan.{Plan as plan};
 ghost use Rattle.pw_plan.specs.declared.request.Request.{Request as request};
@@ -10,7 +10,7 @@ ghost use Rattle.pw_machine.specs.Books.{calls_of, grown};
 ghost use Rattle.pw_notice.specs.Limits.{own};
 ghost use Rattle.pw_script.specs.Lawful.{IsRunOf};
 ghost use Rattle.pw_interleaved.specs.Seats.{AskedBySeats, SeatsTell};
-ghost use Rattle.pw_interleaved.specs.Workers.{AreApart, HasAsked, HasWorker, MadeByWorkers};
+ghost use Rattle.pw_interleaved.specs.Workers.{AreApart, Filled, HasAsked, HasWorker, MadeByWorkers};
 ghost use Rattle.pw_interleaved.specs.Workers.{Worked, Worker as worker};
 ghost use Rattle.pw_interleaved.specs.Workers.{joined_down, joined_up, seat_of};
 
@@ -24,7 +24,8 @@ pub fn seats_make_histories()
 {}
 
 /// A worker goes over its lines: it begins with a seat that has asked nothing, an entry of its seat for
-/// the next line is one step, and it ends behind the last line or at a fault.
+/// the next line is one step, and it ends behind the last line or at a fault, or
+/// is refused where the history is full.
 pub fn workers_make_their_lines()
     ensures begins { (n : ℕ) → HasAsked [] n (calls_of n [] ∷ []) }
     ensures next { (lines : List request) (k n : ℕ) (book : List calls) (e : entry) (q : request)
@@ -36,6 +37,8 @@ pub fn workers_make_their_lines()
         (q : request) → HasAsked (take k lines) n book → k < length lines
         → slice_index_or lines k q ≡ request_of e → e.seat ≡ n → e.fault ≢ 0
         → Worked lines n (grown book e) (before ++ e ∷ []) }
+    ensures filled { (lines : List request) (room k n : ℕ) (book : List calls) (seen : List entry)
+        → HasAsked (take k lines) n book → room ≤ length seen → Filled lines room n book seen }
     ensures stopped { (lines : List request) (k n : ℕ) (book : List calls) (seen : List entry)
         → HasAsked (take k lines) n book → (Faultless seen → ⊥) → Worked lines n book seen }
 {}

@@ -1,6 +1,6 @@
 use Rattle.std.proofs.Common.{◌+◌, ◌++◌, ◌∷◌, []}
 use Rattle.pw_machine.specs.Books.{grown}
-use Rattle.pw_interleaved.proofs.Lines.{asked_next, asked_none, faults, worked_part, worked_whole}
+use Rattle.pw_interleaved.proofs.Lines.{asked_next, asked_none, faults, filled_part, worked_part, worked_whole}
 use Rattle.pw_interleaved.proofs.laws.workers_make_their_lines.Goals as goal
 
 pub returns-clause-begins : goal.returns-clause-begins
@@ -18,3 +18,6 @@ returns-clause-fault c = λ lines k n book before e q h lt is seat ne.
 
 pub returns-clause-stopped : goal.returns-clause-stopped
 returns-clause-stopped c = λ lines k n book seen h fault. worked_part lines k n book seen h fault
+
+pub returns-clause-filled : goal.returns-clause-filled
+returns-clause-filled c = λ lines room k n book seen h full. filled_part lines room k n book seen h full
