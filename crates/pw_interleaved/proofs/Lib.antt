@@ -3,4 +3,4 @@ pub mod Lines
 pub mod Joins
 pub mod Counting
 pub mod Workers
-pub mod Coming
+pub mod Gathering

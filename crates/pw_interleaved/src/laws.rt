@@ -6,11 +6,11 @@ ghost use Rattle.pw_plan.specs.Requests.{Has};
 ghost use Rattle.pw_model.specs.declared.entry.HistoryEntry.{HistoryEntry as entry};
 ghost use Rattle.pw_model.specs.History.{Faultless, Legal, request_of};
 ghost use Rattle.pw_machine.specs.declared.view.Calls.{Calls as calls};
-ghost use Rattle.pw_machine.specs.Books.{calls_of, grown};
+ghost use Rattle.pw_machine.specs.Books.{calls_of, count_in, entries_of, grown};
 ghost use Rattle.pw_notice.specs.Limits.{own};
 ghost use Rattle.pw_script.specs.Lawful.{IsRunOf};
 ghost use Rattle.pw_interleaved.specs.Seats.{AskedBySeats, SeatsTell};
-ghost use Rattle.pw_interleaved.specs.Workers.{AreApart, Filled, HasAsked, HasWorker, MadeByWorkers};
+ghost use Rattle.pw_interleaved.specs.Workers.{AreApart, Ended, Filled, HasAsked, HasWorker, MadeByWorkers};
 ghost use Rattle.pw_interleaved.specs.Workers.{Worked, Worker as worker};
 ghost use Rattle.pw_interleaved.specs.Workers.{joined_down, joined_up, seat_of};
 
@@ -54,9 +54,10 @@ pub fn workers_make_histories()
         → MadeByWorkers asked workers book H → SeatsTell H }
 {}
 
-/// Workers come and go one by one: one of another processor may be added behind the others, all are
-/// there once each processor of the plan with lines has one, and a join from either end leaves the rest.
-pub fn workers_come_and_go()
+/// Workers are gathered one by one, behind the others: one of another processor leaves them apart, and
+/// all are there once each processor of the plan with lines has one. Their seats' books are joined one by
+/// one, from the first or from the last.
+pub fn workers_are_gathered()
     ensures apart { (workers : List worker) (w : worker) → AreApart workers
         → AllByRecursion (λ (v : worker). v.cpu ≢ w.cpu) workers → AreApart (workers ++ w ∷ []) }
     ensures has { (workers : List worker) (w : worker) (p : ℕ) → HasWorker workers p
@@ -66,8 +67,14 @@ pub fn workers_come_and_go()
         → AllByRecursion (Has P) asked
         → ((p : ℕ) → p < length P.cpus → own p asked ≢ [] → HasWorker workers p)
         → (p : ℕ) → own p asked ≢ [] → HasWorker workers p }
+    ensures ended { (asked : List request) (workers : List worker)
+        → AllByRecursion (λ (w : worker). Worked (own w.cpu asked) w.number w.book w.seen) workers
+        → AllByRecursion (Ended asked) workers }
     ensures up { (book : List calls) (workers : List worker) (w : worker)
         → joined_up book (workers ++ w ∷ []) ≡ joined_up book workers ++ w.book }
     ensures down { (book : List calls) (workers : List worker) (w : worker)
         → joined_down book (workers ++ w ∷ []) ≡ joined_down (book ++ w.book) workers }
+    ensures numbers { (book : List calls) (H : List entry)
+        → ((n : ℕ) → 0 < length (entries_of n H) → count_in n book ≡ 1)
+        → AllByRecursion (λ (e : entry). count_in e.seat book ≡ 1) H }
 {}

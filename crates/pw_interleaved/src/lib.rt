@@ -5,5 +5,5 @@
 mod laws;
 
 pub use laws::{
-    seats_make_histories, workers_come_and_go, workers_make_histories, workers_make_their_lines,
+    seats_make_histories, workers_are_gathered, workers_make_histories, workers_make_their_lines,
 };

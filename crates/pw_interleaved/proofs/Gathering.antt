@@ -1,4 +1,4 @@
--- Workers, one after the other.
+-- Workers and their books, one after the other.
 use Rattle.std.proofs.Common.{◌≡◌, ◌≢◌, ◌≤◌, ◌<◌, ◌⊎◌, ◌==◌, ℕ, Bool, true, false, List, [], ◌∷◌, ◌++◌, length, refl, ap, sym, ◌∙◌, subst, arith, ne_eqb, inl, inr}
 use Rattle.std.specs.List.{AllByRecursion}
 use mathlib.Core.Logic.{dite}
@@ -7,9 +7,12 @@ use Rattle.pw_plan.specs.declared.plan.Plan.{Plan}
 use Rattle.pw_plan.specs.declared.request.Request.{Request}
 use Rattle.pw_plan.specs.Requests.{Has, cpu_of}
 use Rattle.pw_plan.proofs.Lists.{each_append}
+use Rattle.pw_model.specs.declared.entry.HistoryEntry.{HistoryEntry}
 use Rattle.pw_machine.specs.declared.view.Calls.{Calls}
+use Rattle.pw_machine.specs.Books.{count_in, entries_of}
 use Rattle.pw_notice.specs.Limits.{own}
-use Rattle.pw_interleaved.specs.Workers.{AreApart, HasWorker, Worker, joined_down, joined_up}
+use Rattle.pw_interleaved.specs.Workers.{AreApart, Ended, HasWorker, Worked, Worker, joined_down, joined_up}
+use Rattle.pw_interleaved.proofs.Joins.{each_map, each_own}
 
 pub apart_more : (ws : List Worker) (w : Worker) → AreApart ws → AllByRecursion (λ (v : Worker). v.cpu ≢ w.cpu) ws → AreApart (ws ++ w ∷ [])
 apart_more [] w apart other = (tt, tt)
@@ -44,3 +47,13 @@ up_more book (v ∷ vs) w = up_more (book ++ v.book) vs w
 pub down_more : (book : List Calls) (ws : List Worker) (w : Worker) → joined_down book (ws ++ w ∷ []) ≡ joined_down (book ++ w.book) ws
 down_more book [] w = refl
 down_more book (v ∷ vs) w = ap (λ b. b ++ v.book) (down_more book vs w)
+
+pub all_ended : (asked : List Request) (ws : List Worker) → AllByRecursion (λ (w : Worker). Worked (own w.cpu asked) w.number w.book w.seen) ws → AllByRecursion (Ended asked) ws
+all_ended asked ws worked = each_map (λ (w : Worker). Worked (own w.cpu asked) w.number w.book w.seen) (Ended asked) (λ w is. inl is) ws worked
+
+pub counted_once : (book : List Calls) (es : List HistoryEntry) → ((n : ℕ) → 0 < length (entries_of n es) → count_in n book ≡ 1) → AllByRecursion (λ e. count_in e.seat book ≡ 1) es
+counted_once book es once = each_map (λ e. entries_of e.seat es ≢ []) (λ e. count_in e.seat book ≡ 1) (λ e some. once e.seat (long (entries_of e.seat es) some)) es (each_own es)
+  where
+    long : (l : List HistoryEntry) → l ≢ [] → 0 < length l
+    long [] some = absurd (some refl)
+    long (x ∷ xs) some = omega arith
