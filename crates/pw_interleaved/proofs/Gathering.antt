@@ -28,7 +28,7 @@ has_last [] w = inl refl
 has_last (v ∷ vs) w = inr (has_last vs w)
 
 -- no line is of a processor that the plan doesn't have
-none_past : (P : Plan) (asked : List Request) (p : ℕ) → AllByRecursion (Has P) asked → length P.cpus ≤ p → own p asked ≡ []
+pub none_past : (P : Plan) (asked : List Request) (p : ℕ) → AllByRecursion (Has P) asked → length P.cpus ≤ p → own p asked ≡ []
 none_past P [] p has past = refl
 none_past P (q ∷ qs) p has past =
     let lt : cpu_of q < length P.cpus = has.0 in

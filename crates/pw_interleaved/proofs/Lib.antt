@@ -4,3 +4,4 @@ pub mod Joins
 pub mod Counting
 pub mod Workers
 pub mod Gathering
+pub mod Runs

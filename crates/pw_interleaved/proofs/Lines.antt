@@ -51,7 +51,7 @@ worked_part lines k n book seen h fault = record {
 }
 
 pub filled_part : (lines : List Request) (room k n : ℕ) (book : List Calls) (seen : List HistoryEntry) → HasAsked (take k lines) n book → room ≤ length seen → Filled lines room n book seen
-filled_part lines room k n book seen h full = record { entries = h.entries; alone = h.alone; begins = first_lines lines k n book h; full = full }
+filled_part lines room k n book seen h full = record { entries = h.entries; alone = h.alone; begins = first_lines lines k n book h; full = omega (arith, full) }
 
 -- a history that ends with a fault has one
 pub faults : (before : List HistoryEntry) (e : HistoryEntry) → e.fault ≢ 0 → Faultless (before ++ e ∷ []) → ⊥

@@ -103,7 +103,7 @@ module _ (asked : List Request) (es : List HistoryEntry) where
   each_did (w ∷ ws) ended saw knows = (did w ended.0 saw.0 knows.0, each_did ws ended.1 saw.1 knows.1)
 
   -- a seat that has an entry asked a line
-  has_lines : (n p : ℕ) → entries_of n es ≢ [] → Begins (requests (entries_of n es)) (own p asked) → own p asked ≢ []
+  pub has_lines : (n p : ℕ) → entries_of n es ≢ [] → Begins (requests (entries_of n es)) (own p asked) → own p asked ≢ []
   has_lines n p some b = λ none. some (step (entries_of n es) b.rest (sym none ∙ b.is))
     where
       step : (l : List HistoryEntry) (rest : List Request) → [] ≡ requests l ++ rest → l ≡ []

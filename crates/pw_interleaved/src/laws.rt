@@ -15,12 +15,16 @@ ghost use Rattle.pw_interleaved.specs.Workers.{Worked, Worker as worker};
 ghost use Rattle.pw_interleaved.specs.Workers.{joined_down, joined_up, seat_of};
 
 /// What seats have made that ask the lines of one processor each is a history of the lines, and its
-/// seats tell the processors apart.
+/// seats tell the processors apart; and each history of the lines that has such seats is made so.
 pub fn seats_make_histories()
     ensures lawful { (P : plan) (asked : List request) (seats : ℕ → ℕ) (H : List entry) → Legal P H
         → AskedBySeats asked seats H → IsRunOf P asked H }
     ensures seats { (asked : List request) (seats : ℕ → ℕ) (H : List entry)
         → AskedBySeats asked seats H → SeatsTell H }
+    ensures asked { (P : plan) (asked : List request) (seats : ℕ → ℕ) (H : List entry)
+        → AllByRecursion (Has P) asked → ((p r : ℕ) → seats p ≡ seats r → p ≡ r)
+        → AllByRecursion (λ (e : entry). e.seat ≡ seats e.cpu) H
+        → IsRunOf P asked H → AskedBySeats asked seats H }
 {}
 
 /// A worker goes over its lines: it begins with a seat that has asked nothing, an entry of its seat for
