@@ -1,5 +1,5 @@
 -- From what each worker did to what each seat asked.
-use Rattle.std.proofs.Common.{◌≡◌, ◌≢◌, ◌==◌, ◌+◌, ◌<◌, ◌≤◌, ◌⊎◌, ℕ, Bool, true, false, cond, List, [], ◌∷◌, ◌++◌, length, length-append, refl, ap, sym, ◌∙◌, subst, arith, eq-eqb, ne_eqb, inl, inr}
+use Rattle.std.proofs.Common.{◌≡◌, ◌≢◌, ◌==◌, ◌<◌, ◌≤◌, ◌⊎◌, ℕ, cond, List, [], ◌∷◌, ◌++◌, length, length-append, refl, ap, sym, ◌∙◌, subst, arith, eq-eqb, ne_eqb, inl, inr}
 use Rattle.std.specs.List.{AllByRecursion}
 use mathlib.Core.Logic.{dite}
 use native.Mathlib.Decide.{dec_lt}
@@ -14,7 +14,7 @@ use Rattle.pw_machine.proofs.Lists.{one, one-of}
 use Rattle.pw_notice.specs.Limits.{own, requests}
 use Rattle.pw_script.specs.Lawful.{Begins}
 use Rattle.pw_interleaved.specs.Seats.{AskedBySeats, IsSeat}
-use Rattle.pw_interleaved.specs.Workers.{AreApart, AreJoined, Ended, HasWorker, MadeByWorkers, Worker, joined_down, joined_up, seat_of}
+use Rattle.pw_interleaved.specs.Workers.{AreApart, Ended, HasWorker, MadeByWorkers, Worker, joined_down, joined_up, seat_of}
 use Rattle.pw_interleaved.proofs.Seats.{each_first}
 use Rattle.pw_interleaved.proofs.Counting.{Begun, all_made}
 use Rattle.pw_interleaved.proofs.Joins.{Joined, down_has, each_map, each_own, silent_none, up_has}
