@@ -47,7 +47,8 @@ own-more p q qs = step (cpu_of q == p) (own p qs)
     step false l = omega arith
 
 -- each entry is some worker's
-entries_hold : (ws : List Worker) (es : List HistoryEntry) → AllByRecursion (λ e. 1 ≤ total (λ (w : Worker). bit (e.seat == w.number)) ws) es → length es ≤ total (λ (w : Worker). length (entries_of w.number es)) ws
+entries_hold : (ws : List Worker) (es : List HistoryEntry) → AllByRecursion (λ e. 1 ≤ total (λ (w : Worker). bit (e.seat == w.number)) ws) es
+    → length es ≤ total (λ (w : Worker). length (entries_of w.number es)) ws
 entries_hold ws [] some = omega arith
 entries_hold ws (e ∷ es) some = omega (
   arith,
@@ -89,7 +90,9 @@ begins_le : (es : List HistoryEntry) (qs : List Request) → Begins (requests es
 begins_le es qs b = omega (arith, requests_long es, ap (length {A = Request}) b.is, length-append (requests es) b.rest)
 
 begins_all : (es : List HistoryEntry) (qs : List Request) → Begins (requests es) qs → length es ≡ length qs → requests es ≡ qs
-begins_all es qs b same = sym (b.is ∙ ap (λ l. requests es ++ l) (nothing b.rest (omega (arith, same, requests_long es, ap (length {A = Request}) b.is, length-append (requests es) b.rest))) ∙ append-nil (requests es))
+begins_all es qs b same =
+    let none_left : length b.rest ≡ 0 = omega (arith, same, requests_long es, ap (length {A = Request}) b.is, length-append (requests es) b.rest) in
+    sym (b.is ∙ ap (λ l. requests es ++ l) (nothing b.rest none_left) ∙ append-nil (requests es))
   where
     nothing : (l : List Request) → length l ≡ 0 → l ≡ []
     nothing [] e = refl
@@ -111,4 +114,6 @@ module _ (asked : List Request) (es : List HistoryEntry) where
   pub all_made : (ws : List Worker) → AreApart ws → AllByRecursion Begun ws → AllByRecursion (λ e. 1 ≤ total (λ (w : Worker). bit (e.seat == w.number)) ws) es → length asked ≤ length es
       → AllByRecursion (λ (w : Worker). requests (entries_of w.number es) ≡ own w.cpu asked) ws
   all_made ws apart begun some full =
-      each_all ws begun (each_same (λ w. length (entries_of w.number es)) (λ w. length (own w.cpu asked)) ws (each_le ws begun) (omega (arith, full, entries_hold ws es some, lines_hold ws apart asked)))
+      let no_less : total (λ (w : Worker). length (own w.cpu asked)) ws ≤ total (λ (w : Worker). length (entries_of w.number es)) ws =
+      omega (arith, full, entries_hold ws es some, lines_hold ws apart asked) in
+      each_all ws begun (each_same (λ w. length (entries_of w.number es)) (λ w. length (own w.cpu asked)) ws (each_le ws begun) no_less)

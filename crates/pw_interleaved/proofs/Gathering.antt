@@ -35,7 +35,8 @@ none_past P (q ∷ qs) p has past =
     let other : (cpu_of q == p) ≡ false = ne_eqb (cpu_of q) p (λ is. absurd (omega (arith, is, lt, past))) in
     rw other (none_past P qs p has.1 past)
 
-pub has_all : (P : Plan) (asked : List Request) (ws : List Worker) → AllByRecursion (Has P) asked → ((p : ℕ) → p < length P.cpus → own p asked ≢ [] → HasWorker ws p) → (p : ℕ) → own p asked ≢ [] → HasWorker ws p
+pub has_all : (P : Plan) (asked : List Request) (ws : List Worker) → AllByRecursion (Has P) asked → ((p : ℕ) → p < length P.cpus → own p asked ≢ [] → HasWorker ws p) → (p : ℕ)
+    → own p asked ≢ [] → HasWorker ws p
 has_all P asked ws has all p some = dite (dec_lt p (length P.cpus))
     (λ lt. all p lt some)
     (λ ge. absurd (some (none_past P asked p has (omega arith))))

@@ -63,7 +63,10 @@ each_map S T f (x ∷ xs) a = (f x a.0, each_map S T f xs a.1)
 
 pub each_own : (es : List HistoryEntry) → AllByRecursion (λ e. entries_of e.seat es ≢ []) es
 each_own [] = tt
-each_own (f ∷ fs) = (here (f.seat == f.seat) refl, each_map (λ e. entries_of e.seat fs ≢ []) (λ e. entries_of e.seat (f ∷ fs) ≢ []) (λ e some. more (f.seat == e.seat) (entries_of e.seat fs) some) fs (each_own fs))
+each_own (f ∷ fs) = (
+  here (f.seat == f.seat) refl,
+  each_map (λ e. entries_of e.seat fs ≢ []) (λ e. entries_of e.seat (f ∷ fs) ≢ []) (λ e some. more (f.seat == e.seat) (entries_of e.seat fs) some) fs (each_own fs),
+)
   where
     here : (b : Bool) → (f.seat == f.seat) ≡ b → cond b (f ∷ entries_of f.seat fs) (entries_of f.seat fs) ≢ []
     here true h = λ none. cc

@@ -23,11 +23,13 @@ asked_more made n book e h seat =
       asked = map-append request_of es (e ∷ []) ∙ ap (λ l. l ++ request_of e ∷ []) h.asked;
     }
 
-pub asked_next : (lines : List Request) (k n : ℕ) (book : List Calls) (e : HistoryEntry) (q : Request) → HasAsked (take k lines) n book → k < length lines → get_or lines k q ≡ request_of e → e.seat ≡ n
+pub asked_next : (lines : List Request) (k n : ℕ) (book : List Calls) (e : HistoryEntry) (q : Request) → HasAsked (take k lines) n book → k < length lines → get_or lines k q ≡ request_of e
+    → e.seat ≡ n
     → HasAsked (take (k + 1) lines) n (grown book e)
 asked_next lines k n book e q h lt is seat =
     let following : suc k ≡ k + 1 = omega arith in
-    let one_more : take k lines ++ request_of e ∷ [] ≡ take (k + 1) lines = ap (λ (r : Request). take k lines ++ r ∷ []) (sym is) ∙ sym (take-suc lines k q lt) ∙ ap (λ (i : ℕ). take i lines) following in
+    let one_more : take k lines ++ request_of e ∷ [] ≡ take (k + 1) lines =
+    ap (λ (r : Request). take k lines ++ r ∷ []) (sym is) ∙ sym (take-suc lines k q lt) ∙ ap (λ (i : ℕ). take i lines) following in
     subst (λ l. HasAsked l n (grown book e)) one_more (asked_more (take k lines) n book e h seat)
 
 pub worked_whole : (lines : List Request) (n : ℕ) (book : List Calls) (seen : List HistoryEntry) → HasAsked lines n book → Worked lines n book seen

@@ -36,7 +36,8 @@ module _ (seats : ℕ → ℕ) (tell : (p r : ℕ) → seats p ≡ seats r → p
     begun : (p : ℕ) → p < length P.cpus → Begins (requests (entries_of (seats p) es)) (own p asked)
     begun p lt = subst (λ l. Begins l (own p asked)) (own_seat p es its) (run.begins p lt)
 
-    seated : (fs : List HistoryEntry) → AllByRecursion (IsEntry P) fs → AllByRecursion (λ e. e.seat ≡ seats e.cpu) fs → AllByRecursion (λ e. entries_of e.seat es ≢ []) fs → AllByRecursion (λ e. IsSeat asked seats e.seat) fs
+    seated : (fs : List HistoryEntry) → AllByRecursion (IsEntry P) fs → AllByRecursion (λ e. e.seat ≡ seats e.cpu) fs → AllByRecursion (λ e. entries_of e.seat es ≢ []) fs
+        → AllByRecursion (λ e. IsSeat asked seats e.seat) fs
     seated [] are same some = tt
     seated (e ∷ fs) are same some =
         let lines : own e.cpu asked ≢ [] = has_lines asked es (seats e.cpu) e.cpu (subst (λ n. entries_of n es ≢ []) same.0 some.0) (begun e.cpu are.0.states.cpu) in
