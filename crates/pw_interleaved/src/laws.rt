@@ -28,8 +28,8 @@ pub fn seats_make_histories()
 {}
 
 /// A worker goes over its lines: it begins with a seat that has asked nothing, an entry of its seat for
-/// the next line is one step, and it ends behind the last line or at a fault, or
-/// is refused where the history is full.
+/// the next line is one step, and it ends behind the last line or at a fault, or is refused where the
+/// history is full.
 pub fn workers_make_their_lines()
     ensures begins { (n : ℕ) → HasAsked [] n (calls_of n [] ∷ []) }
     ensures next { (lines : List request) (k n : ℕ) (book : List calls) (e : entry) (q : request)
