@@ -55,7 +55,8 @@ put_for-requires-in-Err-append-clause-grown g c =
     let own : c.args.number ≡ n.0.number = c.requires.number.0 ∙ sym number in
     let a = c.in-Err-append.ensures in let k = c.in-Err-append.done in
     let less : k + 1 ≤ length c.args.ops.now = let w = a.within in omega (arith, w) in
-    grown_is by promise given _ q m j n l n.0.number (k + 1) number has c.requires.asks.1 (c.fault_at.ensures.none.0 c.in_default.is) (subst (λ (x : List Op). k + 1 ≤ length x) ops less) c.append.new.self
+    grown_is by promise given _ q m j n l n.0.number (k + 1) number has c.requires.asks.1 (c.fault_at.ensures.none.0 c.in_default.is)
+    (subst (λ (x : List Op). k + 1 ≤ length x) ops less) c.append.new.self
     (λ z. a.failed) (search rules) (a.fault ∙ ap (λ n. j.entries ++ entry_as n q (k + 1) ∷ []) own) a.capacity a.keeps.count a.keeps.same_told
     (λ t. a.part t ∙ ap (λ x. g.R.Registers.log j.regs ++ x) (ap (take k) ops ∙ sym (ops_failed given.plan (replay given.plan j.entries) n.0.number q k)))
     c.args.ops.now ops a.left a.steady (λ z. a.promised)
@@ -80,7 +81,8 @@ returns-in-Err-append-clause-told g c =
     let number : n.0.number ≡ m.0.number = ap (λ (v : View). v.number) (is_led by promise given _ q m j n l) in
     let a = c.in-Err-append.ensures in let k = c.in-Err-append.done in
     let less : k + 1 ≤ length c.args.ops.now = let w = a.within in omega (arith, w) in (
-      made by promise given _ q m j n l n.0.number (k + 1) number has c.requires.asks.1 (c.fault_at.ensures.none.0 c.in_default.is) (subst (λ (x : List Op). k + 1 ≤ length x) ops less) c.append.new.self (λ z. a.failed)
+      made by promise given _ q m j n l n.0.number (k + 1) number has c.requires.asks.1 (c.fault_at.ensures.none.0 c.in_default.is)
+          (subst (λ (x : List Op). k + 1 ≤ length x) ops less) c.append.new.self (λ z. a.failed)
           self.plan self.planned c.put_for-in-Err-append.new.raw.me.0 (ap (λ m. m.0) c.put_for-in-Err-append.ensures.view),
       subst (λ (x : List Op). k < length x) ops a.within,
     )
