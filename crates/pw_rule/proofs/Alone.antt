@@ -14,7 +14,7 @@ use Rattle.pw_machine.specs.Machine.{count_held, now}
 use Rattle.pw_machine.proofs.Told.{is_told}
 use Rattle.pw_regs.specs.declared.registers.Registers.{Ghosts as Registers}
 use Rattle.pw_rule.specs.Loads.{LiesAt}
-use Rattle.pw_rule.specs.Rule.{told_of}
+use Rattle.pw_rule.specs.Rule.{promise_of}
 use Rattle.pw_rule.specs.Moves.{AloneHasAll, IsWhole, TableCloses}
 
 module _ {R : Type 0} (by : Registers R) where
@@ -25,7 +25,7 @@ module _ {R : Type 0} (by : Registers R) where
       let told = is_told m i id v at in let knows = told.alone all in let f = i.fits id v at in
       let h = o.home.journal (knows.journal idle.no_journal) in let j = h.0 in
       let regs = knows.registers idle.unmarked in
-      subst (λ g. IsWhole by (told_of by key) g v s.homes) o.given record {
+      subst (λ g. IsWhole by (promise_of by key) g v s.homes) o.given record {
         journal = j;
         there = h.1;
         legal = subst (Legal m.given.plan) (sym h.2.entries) i.history.legal;
@@ -39,6 +39,7 @@ module _ {R : Type 0} (by : Registers R) where
             (sym h.2.entries));
         least = subst (λ c. m.given.count ≤ c) (sym h.2.count) regs.least;
         fault = λ k e. subst (Rose m.given.count) (sym h.2.count) (regs.fault k (sym (ap fault_at h.2.entries) ∙ e));
+        promised = h.2.promised;
         records = λ t low.
             let free = knows.records t low (ap (count_held t) idle.held) in
             let g = o.home.free t low free in
@@ -62,6 +63,7 @@ module _ {R : Type 0} (by : Registers R) where
         ops = w.ops;
         least = w.least;
         fault = w.fault;
+        promised = w.promised;
         records = λ t low. let l = w.records t low in record {
           load = l.load;
           here = at_map some xs t (Some l.load) (f.4 t (Some l.load) l.here);

@@ -19,7 +19,8 @@ use Rattle.pw_machine.proofs.Told.{is_told}
 use Rattle.pw_regs.specs.declared.registers.Registers.{Ghosts as Registers}
 use Rattle.pw_rule.specs.declared.load.Load.TheVariants.{Log}
 use Rattle.pw_rule.specs.Loads.{Homes}
-use Rattle.pw_rule.specs.Rule.{Ruled, given_of, told_of}
+use Rattle.pw_rule.specs.Promises.{IsPromised}
+use Rattle.pw_rule.specs.Rule.{Ruled, given_of, promise_of}
 use Rattle.pw_rule.specs.Plays.{Met, Mine, gone_with, led_to, put}
 use Rattle.pw_rule.specs.Moves.{JournalIsTaken, EntryIsMade, JournalIsLetGo}
 use Rattle.pw_rule.proofs.Shown.{comes_next, Goes, journal_stays, journal_word, lies_else, none_marked, same_words, set_journal_word, shows, still_unmarked}
@@ -27,7 +28,7 @@ use Rattle.pw_rule.proofs.Shown.{comes_next, Goes, journal_stays, journal_word, 
 module _ {R : Type 0} (by : Registers R) where
   pub takes_journal : JournalIsTaken by
   takes_journal gives_up n key id m q k new word is asks next s o wide me _ =
-      let then = led_to by gives_up (told_of by key) (given_of by key) q (step n k 0 new none) m in let mach = o.machine in let i = o.inv in
+      let then = led_to by gives_up (promise_of by key) (given_of by key) q (step n k 0 new none) m in let mach = o.machine in let i = o.inv in
       let at : get_elem? mach.views id ≡ some m.0 = subst (λ l. get_elem? l id ≡ some m.0) o.views me in
       let plan : key.plan ≡ mach.given.plan = ap (λ g. g.plan) (sym o.given) in
       let a : Asks mach.given.plan m.0 q = subst (λ P. Asks P m.0 q) plan asks in
@@ -74,6 +75,7 @@ module _ {R : Type 0} (by : Registers R) where
               ops = λ tells. h.2.ops tells ∙ (regs.log ∙ (ap (λ g. g.ops ++ opening_ops g.plan ++ history_ops g.plan mach.history) o.given
                   ∙ ap (λ l. by.log key.regs.value ++ opening_ops key.plan ++ history_ops key.plan l) (sym h.2.entries)));
               least = subst (λ g. g.count ≤ by.faults j.regs) o.given (subst (λ c. mach.given.count ≤ c) (sym h.2.count) regs.least);
+              promised = subst (λ g. IsPromised by (promise_of by key) g j.entries j.regs) o.given h.2.promised;
               known = f.reads.entries;
               noted = subst (λ g. IsNoted g.plan (replay g.plan j.entries) m.0.held) o.given
                   (subst (λ l. IsNoted mach.given.plan (replay mach.given.plan l) m.0.held) (sym h.2.entries) (f.serves a.unmarked).noted);
@@ -94,7 +96,7 @@ module _ {R : Type 0} (by : Registers R) where
             (same_words by key s o k) (ap (λ vs. set vs id w) o.views)
             record {
               free = o.home.free;
-              journal = λ z. let g = o.home.journal z in (g.0, g.1, journal_stays by (told_of by key) mach _ g.0 refl refl refl refl g.2);
+              journal = λ z. let g = o.home.journal z in (g.0, g.1, journal_stays by (promise_of by key) mach _ g.0 refl refl refl refl g.2);
               blank = λ j u there mark. absurd (none_marked by key s o id m.0 w at a.live
                   (still_unmarked gives_up _ a.unmarked) j u there mark);
             },
@@ -158,6 +160,7 @@ module _ {R : Type 0} (by : Registers R) where
                       (replay g.plan mach.history) e) given
                       ∙ ap (λ l. l ++ entry_ops mach.given.plan (now mach) e) (sym regs.log)));
                   count = refl;
+                  promised = subst (λ g. IsPromised by (promise_of by key) g j.entries j.regs) given grown.promised;
                 },
               );
               blank = λ x u there mark. absurd (none_marked by key s o id v w at live unmarked x u there mark);
@@ -202,6 +205,7 @@ module _ {R : Type 0} (by : Registers R) where
                       ∙ (ap (λ l. mach.given.ops ++ opening_ops mach.given.plan ++ history_ops mach.given.plan l) seen
                       ∙ (sym regs.log ∙ sym (ap (λ b. cond b (mach.given.ops ++ opening_ops mach.given.plan) mach.ops) same.unmarked))));
                   count = refl;
+                  promised = subst (λ g. IsPromised by (promise_of by key) g j.entries j.regs) (sym o.given) same.promised;
                 },
               );
               blank = λ y u there mark. absurd (none_marked by key s o id v w at live refl y u there mark);

@@ -6,4 +6,5 @@ pub mod Journals
 pub mod Opening
 pub mod Alone
 pub mod Slots
+pub mod Promises
 pub mod Calls

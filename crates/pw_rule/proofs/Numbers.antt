@@ -14,19 +14,19 @@ use Rattle.pw_machine.proofs.Told.{drawn_is_new, drawn_is_spare, missed_is_more}
 use Rattle.pw_regs.specs.declared.registers.Registers.{Ghosts as Registers}
 use Rattle.pw_rule.specs.declared.limit.Limit.{Limit}
 use Rattle.pw_rule.specs.Loads.{Homes}
-use Rattle.pw_rule.specs.Rule.{AreHome, told_of}
+use Rattle.pw_rule.specs.Rule.{AreHome, promise_of}
 use Rattle.pw_rule.specs.Plays.{drew}
 use Rattle.pw_rule.specs.Moves.{NumberIsDrawn, NumberIsRead, SeatIsSplit, SeatsAreJoined}
 use Rattle.pw_rule.proofs.Shown.{Goes, journal_stays, none_marked, same_words, shows}
 
 module _ {R : Type 0} (by : Registers R) where
-  home_after : (key : Limit R) (m : Machine) (hs : Homes R) (vs : List View) (made : ℕ) → AreHome by (told_of by key) m hs
+  home_after : (key : Limit R) (m : Machine) (hs : Homes R) (vs : List View) (made : ℕ) → AreHome by (promise_of by key) m hs
       → ((k : ℕ) (u : View) → get_elem? vs k ≡ some u → u.mark ≡ true → ⊥)
-      → AreHome by (told_of by key) record m { made = made; views = vs } hs
+      → AreHome by (promise_of by key) record m { made = made; views = vs } hs
   home_after key m hs vs made h unmarked = record {
     free = h.free;
     journal = λ z. let g = h.journal z in
-        (g.0, g.1, journal_stays by (told_of by key) m record m { made = made; views = vs } g.0 refl refl refl refl g.2);
+        (g.0, g.1, journal_stays by (promise_of by key) m record m { made = made; views = vs } g.0 refl refl refl refl g.2);
     blank = λ k u there mark. absurd (unmarked k u there mark);
   }
 

@@ -24,7 +24,8 @@ use Rattle.pw_machine.proofs.Turns.{turn_is}
 use Rattle.pw_regs.specs.declared.registers.Registers.{Ghosts as Registers}
 use Rattle.pw_rule.specs.declared.load.Load.TheVariants.{Log}
 use Rattle.pw_rule.specs.Loads.{Homes, LiesAt}
-use Rattle.pw_rule.specs.Rule.{Ruled, given_of, opening_parts, parts_from, told_of}
+use Rattle.pw_rule.specs.Promises.{IsPromised}
+use Rattle.pw_rule.specs.Rule.{Ruled, given_of, opening_parts, parts_from, promise_of}
 use Rattle.pw_rule.specs.Plays.{Mine, opened_by}
 use Rattle.pw_rule.proofs.Slots.{last_there, lies_longer}
 use Rattle.pw_rule.specs.Moves.{TableBegins, RecordIsOpened, JournalIsClaimed, JournalIsOpened}
@@ -127,7 +128,7 @@ module _ {R : Type 0} (by : Registers R) where
                   ))
                   (λ ne. let g = o.home.free r lowr (sym (get_or-set_other mach.turns t r 0 0 ne) ∙ z) in
                   (g.0, set_else mach.values t r x ne ∙ g.1, g.2));
-              journal = λ z. let g = o.home.journal z in (g.0, g.1, journal_stays by (told_of by key) mach _ g.0 refl refl refl refl g.2);
+              journal = λ z. let g = o.home.journal z in (g.0, g.1, journal_stays by (promise_of by key) mach _ g.0 refl refl refl refl g.2);
               blank = λ y u there mark. ⊎_elim
                   (λ (b : (y ≡ id) × (w ≡ u)). (lies.0, λ none. lies.1 (ap (count_turn (record_count mach.given.plan)) none-out)))
                   (λ (b : (y ≢ id) × (get_elem? mach.views y ≡ some u)). o.home.blank y u b.1 mark)
@@ -232,6 +233,7 @@ module _ {R : Type 0} (by : Registers R) where
                 ops = λ tells. new.ops tells ∙ (ap (λ g. g.ops ++ opening_ops g.plan) (sym o.given)
                     ∙ sym (ap (λ b. cond b (mach.given.ops ++ opening_ops mach.given.plan) mach.ops) new.marked));
                 count = refl;
+                promised = subst (λ g. IsPromised by (promise_of by key) g j.entries j.regs) (sym o.given) new.promised;
               },
             );
             blank = λ y u there mark. absurd (none_marked by key s o id v w at live refl y u

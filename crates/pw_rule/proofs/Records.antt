@@ -18,7 +18,7 @@ use Rattle.pw_machine.proofs.Takes.{either_is}
 use Rattle.pw_machine.proofs.Told.{is_told}
 use Rattle.pw_regs.specs.declared.registers.Registers.{Ghosts as Registers}
 use Rattle.pw_rule.specs.Loads.{Homes, IsRecordOf, LiesAt}
-use Rattle.pw_rule.specs.Rule.{Ruled, given_of, told_of}
+use Rattle.pw_rule.specs.Rule.{Ruled, given_of, promise_of}
 use Rattle.pw_rule.specs.Plays.{IsOf, Met, Mine, Took, gave, took}
 use Rattle.pw_rule.specs.Moves.{RecordIsTaken, RecordIsFreed}
 use Rattle.pw_rule.proofs.Shown.{comes_next, taken_turn, Goes, journal_stays, lies_else, none_marked, record_word, same_words, set_record_word, shows, still_unmarked}
@@ -52,7 +52,7 @@ module _ {R : Type 0} (by : Registers R) where
                 f.0,
                 set_else s.homes t (record_count mach.given.plan) none
                     (λ e. omega (arith, e, below)) ∙ f.1,
-                journal_stays by (told_of by key) mach _ f.0 refl refl refl refl f.2,
+                journal_stays by (promise_of by key) mach _ f.0 refl refl refl refl f.2,
               );
               blank = λ j u there mark. absurd (none_marked by key s o id m.0 w at a.live a.unmarked j u there mark);
             },
@@ -84,7 +84,7 @@ module _ {R : Type 0} (by : Registers R) where
             (same_words by key s o k) (ap (λ vs. set vs id w) o.views)
             record {
               free = o.home.free;
-              journal = λ z. let f = o.home.journal z in (f.0, f.1, journal_stays by (told_of by key) mach _ f.0 refl refl refl refl f.2);
+              journal = λ z. let f = o.home.journal z in (f.0, f.1, journal_stays by (promise_of by key) mach _ f.0 refl refl refl refl f.2);
               blank = λ j u there mark. absurd (none_marked by key s o id m.0 w at a.live
                   (still_unmarked gives_up _ a.unmarked) j u there mark);
             },
@@ -134,7 +134,7 @@ module _ {R : Type 0} (by : Registers R) where
                 g.0,
                 set_else s.homes t (record_count mach.given.plan) (some (Some x))
                     (λ e. omega (arith, e, low)) ∙ g.1,
-                journal_stays by (told_of by key) mach _ g.0 refl refl refl refl g.2,
+                journal_stays by (promise_of by key) mach _ g.0 refl refl refl refl g.2,
               );
               blank = λ y u there mark. absurd (none_marked by key s o id v w at live unmarked y u there mark);
             },

@@ -18,7 +18,8 @@ use Rattle.pw_rule.specs.declared.limit.Limit.{Limit}
 use Rattle.pw_journal.specs.Journaled.{Journaled}
 use Rattle.pw_plan.specs.declared.plan.Plan.{Plan}
 use Rattle.pw_rule.specs.Loads.{Homes, LiesAt}
-use Rattle.pw_rule.specs.Rule.{AreHome, IsJournal, Ruled, told_of, words_of}
+use Rattle.pw_rule.specs.Promises.{IsPromised, Promise}
+use Rattle.pw_rule.specs.Rule.{AreHome, IsJournal, Ruled, promise_of, words_of}
 use Rattle.pw_rule.specs.Plays.{Mine}
 use Rattle.pw_rule.specs.Moves.{TellsNext}
 use Rattle.pw_rule.proofs.Words.{get_before, set_before, get_last, set_last, set_again_or}
@@ -43,14 +44,15 @@ lies_else P hs t r x part ne l = record { load = l.load; here = set_else hs t r 
 
 module _ {R : Type 0} (by : Registers R) where
   -- the journal is the same where the history, what was done and what was given are
-  pub journal_stays : (told : Bool) (m n : Machine) (j : Journaled R) → n.history ≡ m.history → n.given ≡ m.given → n.ops ≡ m.ops
-      → n.count ≡ m.count → IsJournal by told m j → IsJournal by told n j
-  journal_stays told m n j history given ops count h = record {
+  pub journal_stays : (promise : Promise) (m n : Machine) (j : Journaled R) → n.history ≡ m.history → n.given ≡ m.given → n.ops ≡ m.ops
+      → n.count ≡ m.count → IsJournal by promise m j → IsJournal by promise n j
+  journal_stays promise m n j history given ops count h = record {
     entries = h.entries ∙ sym history;
     capacity = h.capacity ∙ ap (λ g. g.capacity) (sym given);
     same_told = h.same_told;
     ops = λ tells. h.ops tells ∙ sym ops;
     count = h.count ∙ sym count;
+    promised = subst (λ g. IsPromised by promise g j.entries j.regs) (sym given) h.promised;
   }
 
   abbrev pub Goes : Limit R → Table R → ℕ → ℕ → Mine R → (ℕ → Mine R → Type 0) → ℕ → Type 0
@@ -61,7 +63,7 @@ module _ {R : Type 0} (by : Registers R) where
       (vs : List View)
       → get_elem? o.machine.views id ≡ some v → May o.machine id v k → (after o.machine id v k).given ≡ o.machine.given
       → ws ≡ words_of (after o.machine id v k) → vs ≡ (after o.machine id v k).views
-      → AreHome by (told_of by key) (after o.machine id v k) hs
+      → AreHome by (promise_of by key) (after o.machine id v k) hs
       → Ruled by key record { words = ws; homes = hs; views = vs }
   shows key s o id v k ws hs vs at may same words views home = record {
     machine = after o.machine id v k;

@@ -25,7 +25,8 @@ use Rattle.pw_rule.specs.declared.limit.Limit.{Limit}
 use Rattle.pw_rule.specs.declared.load.Load.{Load}
 use Rattle.pw_rule.specs.declared.load.Load.TheVariants.{Log}
 use Rattle.pw_rule.specs.Loads.{AreOpening, Homes, IsRecordOf, LiesAt}
-use Rattle.pw_rule.specs.Rule.{Ruled, first_of, given_of, told_of}
+use Rattle.pw_rule.specs.Promises.{IsPromised, Promise}
+use Rattle.pw_rule.specs.Rule.{Ruled, first_of, given_of, promise_of}
 use Rattle.pw_rule.specs.Plays.{IsFirst, IsFound, IsGrown, Mine, claimed, drew, gave, gone_with, led_to, looked_at, opened_by, opened_record, put, took}
 
 -- what the seat noted tells that this turn comes next on the request's route: it does in each state that fits what it noted
@@ -57,7 +58,7 @@ module _ {R : Type 0} (by : Registers R) where
   abbrev pub JournalIsOpened : Type 0
   JournalIsOpened = (n : ℕ) (key : Limit R) (id : ℕ) (v : View) (more : List (ℕ × Option (Load R))) (j : Journaled R) (k : ℕ) (m : Mine R)
       → k ≡ suc (record_count key.plan) → record_count key.plan < n → m ≡ (v, (record_count key.plan, Some (Log j)) ∷ more)
-      → IsFirst by (told_of by key) (given_of by key) v j
+      → IsFirst by (promise_of by key) (given_of by key) v j
       → Allows (Ruled by key) n id m k (λ _. 0) (λ r. opened_by (record_count key.plan) (by.faults j.regs) (step n k 0 0 none) m r)
 
   -- # A request
@@ -71,19 +72,19 @@ module _ {R : Type 0} (by : Registers R) where
   JournalIsTaken = (gives_up : Bool) (n : ℕ) (key : Limit R) (id : ℕ) (m : Mine R) (q : Request) (k new : ℕ)
       → k ≡ suc (record_count key.plan) → new ≡ suc m.0.number → Asks key.plan m.0 q → TellsNext key.plan m.0 q (record_count key.plan)
       → Allows (Ruled by key) n id m k (λ y. either (y == 0) new y)
-      (led_to by gives_up (told_of by key) (given_of by key) q (step n k 0 new none) m)
+      (led_to by gives_up (promise_of by key) (given_of by key) q (step n k 0 new none) m)
 
   abbrev pub EntryIsMade : Type 0
   EntryIsMade = (n : ℕ) (key : Limit R) (id : ℕ) (v : View) (more : List (ℕ × Option (Load R))) (j : Journaled R) (e : HistoryEntry)
       (k : ℕ) (m : Mine R)
       → k ≡ suc (record_count key.plan) → record_count key.plan < n → m ≡ (v, (record_count key.plan, Some (Log j)) ∷ more)
-      → IsGrown by (told_of by key) (given_of by key) v e j
+      → IsGrown by (promise_of by key) (given_of by key) v e j
       → Allows (Ruled by key) n id m k (λ _. 0) (λ r. put key.plan e (by.faults j.regs) (step n k 0 0 none) m r)
 
   abbrev pub JournalIsLetGo : Type 0
   JournalIsLetGo = (n : ℕ) (key : Limit R) (id : ℕ) (v : View) (more : List (ℕ × Option (Load R))) (j : Journaled R) (k : ℕ) (m : Mine R)
       → k ≡ suc (record_count key.plan) → record_count key.plan < n → m ≡ (v, (record_count key.plan, Some (Log j)) ∷ more)
-      → IsFound by (told_of by key) (given_of by key) v j
+      → IsFound by (promise_of by key) (given_of by key) v j
       → Allows (Ruled by key) n id m k (λ _. 0) (λ r. gone_with (by.faults j.regs) (step n k 0 0 none) m r)
 
   abbrev pub RecordIsFreed : Type 0
@@ -115,7 +116,7 @@ module _ {R : Type 0} (by : Registers R) where
   -- # The end
 
   -- What the slots have where an idle seat has all parts: each record its part, and the journal the history that the seat knows.
-  pub record IsWhole (told : Bool) (given : Given) (v : View) (hs : Homes R) : Type 0 where
+  pub record IsWhole (promise : Promise) (given : Given) (v : View) (hs : Homes R) : Type 0 where
     pub journal : Journaled R
     pub there : get_elem? hs (record_count given.plan) ≡ some (some (Some (Log journal)))
     pub legal : Legal given.plan journal.entries
@@ -126,18 +127,19 @@ module _ {R : Type 0} (by : Registers R) where
     pub seats : (made : ℕ) × (made ≤ 65536) × ((n : ℕ) → n < made → count_in n v.book ≡ 1)
         × ((n : ℕ) → made ≤ n → entries_of n journal.entries ≡ [])
     pub capacity : journal.capacity ≡ given.capacity
-    pub same_told : by.told journal.regs ≡ told
-    pub ops : told ≡ true → by.log journal.regs ≡ given.ops ++ opening_ops given.plan ++ history_ops given.plan journal.entries
+    pub same_told : by.told journal.regs ≡ promise.told
+    pub ops : promise.told ≡ true → by.log journal.regs ≡ given.ops ++ opening_ops given.plan ++ history_ops given.plan journal.entries
     pub least : given.count ≤ by.faults journal.regs
     pub fault : (k : ℕ) → fault_at journal.entries ≡ Some k → Rose given.count (by.faults journal.regs)
+    pub promised : IsPromised by promise given journal.entries journal.regs
     pub records : (t : ℕ) → t < record_count given.plan → LiesAt given.plan hs t (part_at given.plan t (replay given.plan journal.entries))
 
   abbrev pub AloneHasAll : Type 0
   AloneHasAll = (key : Limit R) (s : State (Option (Load R)) View) (id : ℕ) (v : View) → Ruled by key s → get_elem? s.views id ≡ some v
       → IsIdle v
-      → v.parts ≡ 65536 → IsWhole (told_of by key) (given_of by key) v s.homes
+      → v.parts ≡ 65536 → IsWhole (promise_of by key) (given_of by key) v s.homes
 
   -- so it is with the slots of a table that was closed with such a seat
   abbrev pub TableCloses : Type 0
   TableCloses = (key : Limit R) (id : ℕ) (v : View) (ws : List ℕ) (xs : List (Option (Load R))) → Final (Seen (Ruled by key) id v) ws xs
-      → IsIdle v → v.parts ≡ 65536 → IsWhole (told_of by key) (given_of by key) v (map some xs)
+      → IsIdle v → v.parts ≡ 65536 → IsWhole (promise_of by key) (given_of by key) v (map some xs)

@@ -20,6 +20,7 @@ use Rattle.pw_journal.specs.Journaled.{Journaled}
 use Rattle.pw_rule.specs.declared.load.Load.{Load}
 use Rattle.pw_rule.specs.declared.load.Load.TheVariants.{Log}
 use Rattle.pw_rule.specs.Loads.{IsRecordOf}
+use Rattle.pw_rule.specs.Promises.{IsPromised, Promise}
 
 -- a seat: its view, and the slots that it has in hand
 abbrev pub Mine : Type 0 → Type 0
@@ -102,31 +103,32 @@ module _ {R : Type 0} (by : Registers R) where
   -- # The journal in hand
 
   -- The seat has the journal, a history that begins with all that it had seen, and what it noted is that history's.
-  pub record Led (told : Bool) (given : Given) (q : Request) (turn : ℕ) (m : Mine R) (j : Journaled R) (n : Mine R) : Type 0 where
+  pub record Led (promise : Promise) (given : Given) (q : Request) (turn : ℕ) (m : Mine R) (j : Journaled R) (n : Mine R) : Type 0 where
     pub is : n ≡ (led j.entries (by.faults j.regs) q m.0, (turn, Some (Log j)) ∷ m.1)
     pub legal : Legal given.plan j.entries
     pub size : j.capacity ≡ given.capacity
     pub room : length j.entries ≤ given.capacity
     pub seen : Begins j.entries m.0.seen
     pub book : Knows m.0.book j.entries
-    pub same_told : by.told j.regs ≡ told
-    pub ops : told ≡ true → by.log j.regs ≡ given.ops ++ opening_ops given.plan ++ history_ops given.plan j.entries
+    pub same_told : by.told j.regs ≡ promise.told
+    pub ops : promise.told ≡ true → by.log j.regs ≡ given.ops ++ opening_ops given.plan ++ history_ops given.plan j.entries
     -- the count has not sunk since the coordinator was opened
     pub least : given.count ≤ by.faults j.regs
+    pub promised : IsPromised by promise given j.entries j.regs
     pub known : Knows m.0.book (furthest m.0.told m.0.seen)
     pub noted : IsNoted given.plan (replay given.plan j.entries) m.0.held
     pub whole : turns_of m.0.held ≡ way given.plan (replay given.plan j.entries) q
     -- a seat with all parts had seen it all
     pub alone : m.0.parts ≡ 65536 → furthest m.0.told m.0.seen ≡ j.entries
 
-  abbrev pub led_to : Bool → Bool → Given → Request → Plays R
-  led_to gives_up told given q st m r n =
-      (r ≡ 0 → (j : Journaled R) × Led told given q (st.word - 1) m j n) × (r ≢ 0 → Met gives_up q m (st.word - 1) (r - 1) n)
+  abbrev pub led_to : Bool → Promise → Given → Request → Plays R
+  led_to gives_up promise given q st m r n =
+      (r ≡ 0 → (j : Journaled R) × Led promise given q (st.word - 1) m j n) × (r ≢ 0 → Met gives_up q m (st.word - 1) (r - 1) n)
 
   -- # The journal as it may be given back
 
   -- With one more entry, which the seat that holds it makes.
-  pub record IsGrown (told : Bool) (given : Given) (v : View) (e : HistoryEntry) (j : Journaled R) : Type 0 where
+  pub record IsGrown (promise : Promise) (given : Given) (v : View) (e : HistoryEntry) (j : Journaled R) : Type 0 where
     pub leads : v.leads ≡ true
     pub none_out : v.out ≡ []
     pub seat : e.seat ≡ v.number
@@ -140,28 +142,31 @@ module _ {R : Type 0} (by : Registers R) where
     pub fault : e.fault ≢ 0 → Rose first (by.faults j.regs)
     pub entries : j.entries ≡ v.seen ++ e ∷ []
     pub capacity : j.capacity ≡ given.capacity
-    pub same_told : by.told j.regs ≡ told
-    pub ops : told ≡ true → by.log j.regs
+    pub same_told : by.told j.regs ≡ promise.told
+    pub ops : promise.told ≡ true → by.log j.regs
         ≡ given.ops ++ opening_ops given.plan ++ history_ops given.plan v.seen ++ entry_ops given.plan (replay given.plan v.seen) e
+    pub promised : IsPromised by promise given j.entries j.regs
 
   -- As it was found.
-  pub record IsFound (told : Bool) (given : Given) (v : View) (j : Journaled R) : Type 0 where
+  pub record IsFound (promise : Promise) (given : Given) (v : View) (j : Journaled R) : Type 0 where
     pub leads : v.leads ≡ true
     pub unmarked : v.mark ≡ false
     pub none_out : v.out ≡ []
     pub at_take : v.first ≡ Some (by.faults j.regs)
     pub entries : j.entries ≡ v.seen
     pub capacity : j.capacity ≡ given.capacity
-    pub same_told : by.told j.regs ≡ told
-    pub ops : told ≡ true → by.log j.regs ≡ given.ops ++ opening_ops given.plan ++ history_ops given.plan v.seen
+    pub same_told : by.told j.regs ≡ promise.told
+    pub ops : promise.told ≡ true → by.log j.regs ≡ given.ops ++ opening_ops given.plan ++ history_ops given.plan v.seen
+    pub promised : IsPromised by promise given j.entries j.regs
 
   -- For the first time, with the operations of the opening done.
-  pub record IsFirst (told : Bool) (given : Given) (v : View) (j : Journaled R) : Type 0 where
+  pub record IsFirst (promise : Promise) (given : Given) (v : View) (j : Journaled R) : Type 0 where
     pub marked : v.mark ≡ true
     pub none_held : v.held ≡ []
     pub out : v.out ≡ record_count given.plan ∷ []
     pub entries : j.entries ≡ []
     pub capacity : j.capacity ≡ given.capacity
-    pub same_told : by.told j.regs ≡ told
-    pub ops : told ≡ true → by.log j.regs ≡ given.ops ++ opening_ops given.plan
+    pub same_told : by.told j.regs ≡ promise.told
+    pub ops : promise.told ≡ true → by.log j.regs ≡ given.ops ++ opening_ops given.plan
     pub count : given.count ≤ by.faults j.regs
+    pub promised : IsPromised by promise given j.entries j.regs

@@ -1,5 +1,5 @@
 -- The rule of the table: it shows a turn machine.
-use Rattle.std.specs.Prelude.{◌≡◌, ℕ, suc, zero, ◌<◌, List, [], ◌∷◌, ◌++◌, Bool, true, Option, Some, None, slice_index}
+use Rattle.std.specs.Prelude.{◌≡◌, ℕ, suc, zero, ◌<◌, List, [], ◌∷◌, ◌++◌, true, Option, Some, None, slice_index}
 use mathlib.Core.Option.{some}
 use lib.ListN.{get_elem?}
 use Rattle.atomic_table.specs.Table.{State}
@@ -16,6 +16,7 @@ use Rattle.pw_rule.specs.declared.limit.Limit.{Limit}
 use Rattle.pw_rule.specs.declared.load.Load.{Load}
 use Rattle.pw_rule.specs.declared.load.Load.TheVariants.{Log}
 use Rattle.pw_rule.specs.Loads.{Homes, LiesAt}
+use Rattle.pw_rule.specs.Promises.{IsPromised, Promise}
 
 -- # The start
 
@@ -39,7 +40,7 @@ words_of m = m.made ∷ m.turns ++ m.journal ∷ []
 
 -- # The rule
 
--- over registers of which `by` says whether they tell what was done, what they log and how many failed
+-- over registers of which `by` says whether they tell what was done, what they log, how much room they have and how many failed
 module _ {R : Type 0} (by : Registers R) where
   -- what the machine was given
   abbrev pub given_of : Limit R → Given
@@ -50,26 +51,27 @@ module _ {R : Type 0} (by : Registers R) where
     count = by.faults key.regs.value;
   }
 
-  -- whether the registers tell
-  abbrev pub told_of : Limit R → Bool
-  told_of key = by.told key.regs.value
+  -- what the registers promised
+  abbrev pub promise_of : Limit R → Promise
+  promise_of key = record { told = by.told key.regs.value; room = by.room key.regs.value }
 
   -- The journal is as the machine has it.
-  pub record IsJournal (told : Bool) (m : Machine) (j : Journaled R) : Type 0 where
+  pub record IsJournal (promise : Promise) (m : Machine) (j : Journaled R) : Type 0 where
     pub entries : j.entries ≡ m.history
     pub capacity : j.capacity ≡ m.given.capacity
-    pub same_told : by.told j.regs ≡ told
+    pub same_told : by.told j.regs ≡ promise.told
     -- where the registers tell, their log is the machine's
-    pub ops : told ≡ true → by.log j.regs ≡ m.ops
+    pub ops : promise.told ≡ true → by.log j.regs ≡ m.ops
     pub count : by.faults j.regs ≡ m.count
+    pub promised : IsPromised by promise m.given j.entries j.regs
 
   -- Where a turn is free its slot is at home with its value. While the coordinator is being opened the records are at
   -- home with their parts, and the journal's slot is at home and empty until the seat has it in hand.
-  pub record AreHome (told : Bool) (m : Machine) (hs : Homes R) : Type 0 where
+  pub record AreHome (promise : Promise) (m : Machine) (hs : Homes R) : Type 0 where
     pub free : (t : ℕ) → t < record_count m.given.plan → slice_index m.turns t ≡ 0
         → (part : Part) × (get_elem? m.values t ≡ some part) × LiesAt m.given.plan hs t part
     pub journal : m.journal ≡ 0
-        → (j : Journaled R) × (get_elem? hs (record_count m.given.plan) ≡ some (some (Some (Log j)))) × IsJournal told m j
+        → (j : Journaled R) × (get_elem? hs (record_count m.given.plan) ≡ some (some (Some (Log j)))) × IsJournal promise m j
     pub blank : (j : ℕ) (v : View) → get_elem? m.views j ≡ some v → v.mark ≡ true
         → ((t : ℕ) → t < record_count m.given.plan → LiesAt m.given.plan hs t (part_at m.given.plan t (now m)))
         × (count_turn (record_count m.given.plan) v.out ≡ 0 → get_elem? hs (record_count m.given.plan) ≡ some (some None))
@@ -81,4 +83,4 @@ module _ {R : Type 0} (by : Registers R) where
     pub given : machine.given ≡ given_of key
     pub words : s.words ≡ words_of machine
     pub views : s.views ≡ machine.views
-    pub home : AreHome (told_of key) machine s.homes
+    pub home : AreHome (promise_of key) machine s.homes

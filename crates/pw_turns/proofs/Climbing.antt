@@ -1,14 +1,15 @@
 -- What a call tells, from what its steps told.
-use Rattle.std.proofs.Common.{◌≡◌, ◌≢◌, inl, inr, ℕ, ◌+◌, ◌≤◌, List, [], ◌∷◌, ◌++◌, Some, Bool, true, false, length, cond, eqb, eq-eqb, sym, refl, ap, ◌∙◌, subst, arith, append_assoc, append-nil}
+use Rattle.std.proofs.Common.{◌≡◌, ◌≢◌, inl, inr, ℕ, ◌+◌, ◌<◌, ◌≤◌, List, [], ◌∷◌, ◌++◌, Some, Bool, true, false, length, cond, eqb, eq-eqb, sym, refl, ap, ◌∙◌, subst, arith, append_assoc, append-nil}
 use Rattle.acpi_values.specs.declared.operation.Op.{Op}
 use Rattle.pw_base.specs.Outside.{Rose}
 use Rattle.pw_plan.specs.declared.plan.Plan.{Plan}
 use Rattle.pw_plan.specs.declared.request.Request.{Request}
-use Rattle.pw_plan.specs.Requests.{Has}
+use Rattle.pw_plan.specs.Requests.{Has, ops_bound}
 use Rattle.pw_model.specs.declared.reply.Reply.{Reply}
 use Rattle.pw_model.specs.declared.state.State.{State}
 use Rattle.pw_model.specs.Answers.{answer}
 use Rattle.pw_model.specs.Operations.{ops_of}
+use Rattle.pw_model.proofs.Bounds.{ops_of-le}
 use Rattle.pw_model.specs.History.{Faultless, entry_ops, replay}
 use Rattle.pw_parts.specs.Records.{Part}
 use Rattle.pw_regs.specs.declared.registers.Registers.{Ghosts as Registers}
@@ -21,6 +22,8 @@ use Rattle.pw_machine.specs.Steps.{Asks, HoldsAs, entered, freed, goes_on, left_
 use Rattle.pw_machine.proofs.Plans.{legal_state}
 use Rattle.pw_walk.specs.Walk.{left, over, walk}
 use Rattle.pw_walk.proofs.Walks.{tells_answer, tells_left}
+use Rattle.pw_rule.specs.Promises.{IsPromised, Promise}
+use Rattle.pw_rule.proofs.Promises.{promised_more}
 use Rattle.pw_rule.specs.Plays.{IsFound, IsGrown, Mine}
 use Rattle.pw_turns.specs.Asked.{entry_as}
 use Rattle.pw_turns.specs.Steps.{LedOut}
@@ -35,8 +38,8 @@ over_ops r s xs ys e = cc
 
 -- # The journal
 
-module _ {R : Type 0} (by : Registers R) (told : Bool) (given : Given) (last : ℕ) (q : Request) (m : Mine R) (j : Journaled R) (n : Mine R)
-    (l : LedOut by told given q last m j n) where
+module _ {R : Type 0} (by : Registers R) (promise : Promise) (given : Given) (last : ℕ) (q : Request) (m : Mine R) (j : Journaled R) (n : Mine R)
+    (l : LedOut by promise given q last m j n) where
   pub is_led : n.0 ≡ led j.entries (by.faults j.regs) q m.0
   is_led = ap (λ x. x.0) l.0.is
 
@@ -53,8 +56,8 @@ module _ {R : Type 0} (by : Registers R) (told : Bool) (given : Given) (last : �
   }
 
   -- it may be let go
-  pub found_is : m.0.mark ≡ false → m.0.out ≡ [] → IsFound by told given n.0 j
-  found_is unmarked none = subst (λ v. IsFound by told given v j) (sym is_led) record {
+  pub found_is : m.0.mark ≡ false → m.0.out ≡ [] → IsFound by promise given n.0 j
+  found_is unmarked none = subst (λ v. IsFound by promise given v j) (sym is_led) record {
     leads = refl;
     unmarked = unmarked;
     none_out = none;
@@ -63,6 +66,7 @@ module _ {R : Type 0} (by : Registers R) (told : Bool) (given : Given) (last : �
     capacity = l.0.size;
     same_told = l.0.same_told;
     ops = l.0.ops;
+    promised = l.0.promised;
   }
 
   -- the reply and the operations
@@ -86,8 +90,10 @@ module _ {R : Type 0} (by : Registers R) (told : Bool) (given : Given) (last : �
     pub grown_is : length j.entries ≢ given.capacity → k.entries ≡ j.entries ++ entry_as number q fault ∷ [] → k.capacity ≡ j.capacity
         → by.faults j.regs ≤ by.faults k.regs → by.told k.regs ≡ by.told j.regs
         → (by.told j.regs ≡ true → by.log k.regs ≡ by.log j.regs ++ entry_ops given.plan (replay given.plan j.entries) (entry_as number q fault))
-        → IsGrown by told given n.0 (entry_as number q fault) k
-    grown_is apart entries size kept same done = subst (λ v. IsGrown by told given v (entry_as number q fault) k) (sym is_led) record {
+        → (few : List Op) → few ≡ ops_of given.plan (replay given.plan j.entries) q → by.room j.regs ≤ by.room k.regs + length few
+        → (length few ≤ by.room j.regs → by.faults k.regs ≡ by.faults j.regs) → (fault ≢ 0 → by.room j.regs < length few)
+        → IsGrown by promise given n.0 (entry_as number q fault) k
+    grown_is apart entries size kept same done few is left steady failed = subst (λ v. IsGrown by promise given v (entry_as number q fault) k) (sym is_led) record {
       leads = refl;
       none_out = none_out;
       seat = seat_of number q fault ∙ own;
@@ -103,6 +109,10 @@ module _ {R : Type 0} (by : Registers R) (told : Bool) (given : Given) (last : �
       same_told = same ∙ l.0.same_told;
       ops = λ t. done (l.0.same_told ∙ t)
           ∙ ap (λ x. x ++ entry_ops given.plan (replay given.plan j.entries) (entry_as number q fault)) (l.0.ops t);
+      promised = subst (λ es. IsPromised by promise given es k.regs) (sym entries)
+          (promised_more by promise given j.entries (entry_as number q fault) (length few) j.regs k.regs l.0.promised
+          (omega (arith, ap length is, ops_of-le given.plan (replay given.plan j.entries) q, ap (ops_bound given.plan) (asks_for number q fault)))
+          left steady failed);
     }
 
     abbrev pub made : (P : Plan) → given.plan ≡ P → (w : View)

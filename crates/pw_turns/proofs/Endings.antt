@@ -17,7 +17,7 @@ use Rattle.pw_rule.specs.declared.limit.Limit.{Limit}
 use Rattle.pw_rule.specs.declared.load.Load.{Load}
 use Rattle.pw_rule.specs.declared.load.Load.TheVariants.{Log}
 use Rattle.pw_rule.specs.Loads.{IsRecordOf}
-use Rattle.pw_rule.specs.Rule.{first_of, given_of, told_of}
+use Rattle.pw_rule.specs.Rule.{first_of, given_of, promise_of}
 use Rattle.pw_rule.specs.Plays.{Mine}
 use Rattle.pw_rule.proofs.Alone as alone
 use Rattle.pw_turns.specs.Ends.{Ends}
@@ -65,7 +65,7 @@ module _ {R : Type 0} (by : Registers R) (key : Limit R) (id : ℕ) (v : View) (
         no_log_there key.plan xs t _ (w.records t (omega (arith, low, sized))) j e
 
     pub alone_ends : v.told ≡ None → (x : Option (Load R)) → EndsWith by key id v n x
-        → (j : Journaled R) × (x ≡ Some (Log j)) × Ends by (told_of by key) (given_of by key) v j.entries j.regs
+        → (j : Journaled R) × (x ≡ Some (Log j)) × Ends by (promise_of by key) (given_of by key) v j.entries j.regs
     alone_ends untold x ends =
         let w = alone.closes by key id v ends.words ends.slots ends.final idle all in
         let there = subst (λ t. get_elem? (map some ends.slots) t ≡ some (some (Some (Log w.journal)))) (sym sized) w.there in (
@@ -82,6 +82,7 @@ module _ {R : Type 0} (by : Registers R) (key : Limit R) (id : ℕ) (v : View) (
             ops = w.ops;
             least = w.least;
             fault = w.fault;
+            promised = w.promised;
           },
         )
 
@@ -115,17 +116,17 @@ module _ {R : Type 0} (by : Registers R) (key : Limit R) (P : Plan) (id n : ℕ)
     closing_has_records = alone_has_records by key id v n sized idle all_parts
 
     module _ (x : Option (Load R)) (ends : EndsWith by key id v n x) where
-      left : (j : Journaled R) × (x ≡ Some (Log j)) × Ends by (told_of by key) (given_of by key) v j.entries j.regs
+      left : (j : Journaled R) × (x ≡ Some (Log j)) × Ends by (promise_of by key) (given_of by key) v j.entries j.regs
       left = alone_ends by key id v n sized idle all_parts (none_of v.told at_rest.6) x ends
 
       pub closing_log : (j : Journaled R) × (x ≡ Some (Log j))
       closing_log = (left.0, left.1)
 
       pub closing_ends : (j : Journaled R) (entries : List HistoryEntry) (regs : R) → x ≡ Some (Log j) → entries ≡ j.entries → regs ≡ j.regs
-          → Ends by (told_of by key) (given_of by key) (view_in views) entries regs
+          → Ends by (promise_of by key) (given_of by key) (view_in views) entries regs
       closing_ends j entries regs is same-entries same-regs =
           let one : left.0 ≡ j = let e : Some (Log left.0) ≡ Some (Log j) = sym left.1 ∙ is in cc in
-          subst (λ u. Ends by (told_of by key) (given_of by key) u entries regs) (sym same)
-          (subst (λ es. Ends by (told_of by key) (given_of by key) v es regs) (sym same-entries)
-          (subst (λ r. Ends by (told_of by key) (given_of by key) v j.entries r) (sym same-regs)
-          (subst (λ (k : Journaled R). Ends by (told_of by key) (given_of by key) v k.entries k.regs) one left.2)))
+          subst (λ u. Ends by (promise_of by key) (given_of by key) u entries regs) (sym same)
+          (subst (λ es. Ends by (promise_of by key) (given_of by key) v es regs) (sym same-entries)
+          (subst (λ r. Ends by (promise_of by key) (given_of by key) v j.entries r) (sym same-regs)
+          (subst (λ (k : Journaled R). Ends by (promise_of by key) (given_of by key) v k.entries k.regs) one left.2)))

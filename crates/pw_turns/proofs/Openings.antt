@@ -18,7 +18,8 @@ use Rattle.pw_regs.specs.declared.registers.Registers.{Ghosts as Registers}
 use Rattle.pw_journal.specs.Journaled.{Journaled}
 use Rattle.pw_rule.specs.declared.limit.Limit.{Limit}
 use Rattle.pw_rule.specs.declared.load.Load.TheVariants.{Log}
-use Rattle.pw_rule.specs.Rule.{Ruled, given_of, opening_parts, parts_from, told_of}
+use Rattle.pw_rule.specs.Promises.{IsPromised}
+use Rattle.pw_rule.specs.Rule.{Ruled, given_of, opening_parts, parts_from, promise_of}
 use Rattle.pw_rule.specs.Plays.{Mine, claimed, opened_by}
 use Rattle.pw_rule.proofs.Calls as calls
 use Rattle.pw_rule.proofs.Opening.{claims, without_first}
@@ -71,10 +72,10 @@ module _ {R : Type 0} (by : Registers R) (n : ℕ) (key : Limit R) (id last : �
       (claims by n key id m k 0 0 (word ∙ ap suc place) (ap (λ (m : Mine R). m.0.mark) is) (ap (λ (m : Mine R). m.0.out) is))
 
   pub opens_it : (j : Journaled R) (count k : ℕ) (m : Mine R) → count ≡ by.faults j.regs → k ≡ suc last → last < n
-      → m ≡ (in_hand last (first_view []), (last, Some (Log j)) ∷ []) → HasBegun by (told_of by key) (given_of by key) j
+      → m ≡ (in_hand last (first_view []), (last, Some (Log j)) ∷ []) → HasBegun by (promise_of by key) (given_of by key) j
       → Allows (Ruled by key) n id m k (λ _. 0) (λ r. opened_by last count (step n k 0 0 none) m r)
   opens_it j count k m counted word slots is begun =
-      calls.open_journal by n key id (told_of by key) (given_of by key) last refl refl place (in_hand last (first_view [])) [] j count k m counted word slots is
+      calls.open_journal by n key id (promise_of by key) (given_of by key) last refl refl place (in_hand last (first_view [])) [] j count k m counted word slots is
       record {
         marked = refl;
         none_held = refl;
@@ -84,4 +85,5 @@ module _ {R : Type 0} (by : Registers R) (n : ℕ) (key : Limit R) (id last : �
         same_told = begun.same_told;
         ops = begun.ops;
         count = begun.count;
+        promised = subst (λ es. IsPromised by (promise_of by key) (given_of by key) es j.regs) (sym begun.entries) begun.promised;
       }

@@ -1,11 +1,12 @@
 -- What a step is told, and where it is told nothing: then it promises nothing.
-use Rattle.std.specs.Prelude.{ℕ, Bool, Option, Some, None}
+use Rattle.std.specs.Prelude.{ℕ, Bool, true, Option, Some, None}
 use Rattle.pw_plan.specs.declared.request.Request.{Request}
 use Rattle.pw_plan.specs.declared.request.Request.TheVariants.{Wake}
 use Rattle.pw_model.specs.declared.entry.HistoryEntry.{HistoryEntry}
 use Rattle.pw_model.specs.History.{entry_of}
 use Rattle.pw_machine.specs.Machine.{Given}
 use Rattle.pw_regs.specs.declared.registers.Registers.{Ghosts as Registers}
+use Rattle.pw_rule.specs.Promises.{Promise}
 use Rattle.pw_rule.specs.Plays.{Plays, led_to, put, took}
 
 abbrev pub no_request : Request
@@ -13,6 +14,9 @@ no_request = Wake 0
 
 abbrev pub no_entry : HistoryEntry
 no_entry = entry_of 0 (Wake 0)
+
+abbrev pub no_promise : Promise
+no_promise = record { told = true; room = 0 }
 
 -- the entry of a request that a seat made, of whose operations so many were done and 1 where one failed, or 0
 abbrev pub entry_as : ℕ → Request → ℕ → HistoryEntry
@@ -28,6 +32,6 @@ module _ {R : Type 0} where
   put_in (Some given) e count st m r n = put given.plan e count st m r n
 
 module _ {R : Type 0} (by : Registers R) where
-  abbrev pub led_in : Bool → Bool → Option Given → Request → Plays R
-  led_in gives_up told None q st m r n = Unit {0}
-  led_in gives_up told (Some given) q st m r n = led_to by gives_up told given q st m r n
+  abbrev pub led_in : Bool → Promise → Option Given → Request → Plays R
+  led_in gives_up promise None q st m r n = Unit {0}
+  led_in gives_up promise (Some given) q st m r n = led_to by gives_up promise given q st m r n

@@ -17,6 +17,7 @@ use Rattle.pw_journal.specs.Journaled.{Journaled}
 use Rattle.pw_rule.specs.declared.load.Load.{Load}
 use Rattle.pw_rule.specs.declared.load.Load.TheVariants.{Node, Domain, Group, Log}
 use Rattle.pw_rule.specs.Loads.{IsRecordOf}
+use Rattle.pw_rule.specs.Promises.{Promise}
 use Rattle.pw_rule.specs.Plays.{IsOf, Led, Met, Mine}
 
 -- the view, which last met this, and so often
@@ -56,10 +57,10 @@ module _ {R : Type 0} where
 
 module _ {R : Type 0} (by : Registers R) where
   -- the seat has the journal, out of its slot, whose turn is this
-  abbrev pub LedOut : Bool → Given → Request → ℕ → Mine R → Journaled R → Mine R → Type 0
-  LedOut told given q last m j n = Led by told given q last m j (n.0, (last, Some (Log j)) ∷ m.1) × (n.1 ≡ (last, None) ∷ m.1)
+  abbrev pub LedOut : Promise → Given → Request → ℕ → Mine R → Journaled R → Mine R → Type 0
+  LedOut promise given q last m j n = Led by promise given q last m j (n.0, (last, Some (Log j)) ∷ m.1) × (n.1 ≡ (last, None) ∷ m.1)
 
-  pub record LedOn (told : Bool) (given : Given) (q : Request) (last : ℕ) (m : Mine R) (j : Journaled R) (n : Mine R) : Type 0 where
+  pub record LedOn (promise : Promise) (given : Given) (q : Request) (last : ℕ) (m : Mine R) (j : Journaled R) (n : Mine R) : Type 0 where
     pub pair : Option pair_met
     pub count : ℕ
-    pub led : LedOut told given q last (met_on pair count m.0, m.1) j n
+    pub led : LedOut promise given q last (met_on pair count m.0, m.1) j n

@@ -1,5 +1,5 @@
 ghost use Rattle.std.specs.Prelude.{◌≡◌};
-ghost use Rattle.pw_rule.specs.Rule.{given_of, told_of};
+ghost use Rattle.pw_rule.specs.Rule.{given_of, promise_of};
 ghost use Rattle.pw_turns.specs.Ends.{Ends};
 ghost use Rattle.pw_turns.specs.Views.{view_in};
 
@@ -72,7 +72,7 @@ impl<R: Registers> Coordinator<R> {
         requires alone { (view_in seat.badge.views).parts ≡ 65536 }
         ensures plan { result.sealed.plan ≡ self.plan }
         ensures ends { let key = self.table.shared.key in
-            Ends R.Registers (told_of R.Registers key) (given_of R.Registers key) (view_in seat.badge.views)
+            Ends R.Registers (promise_of R.Registers key) (given_of R.Registers key) (view_in seat.badge.views)
             result.sealed.entries result.regs }
     {
         let Coordinator {

@@ -4,7 +4,7 @@ ghost use Rattle.pw_model.specs.Operations.{opening_ops};
 ghost use Rattle.pw_machine.specs.Law.{first_view};
 ghost use Rattle.pw_machine.specs.Machine.{count_held};
 ghost use Rattle.pw_machine.specs.Steps.{freed};
-ghost use Rattle.pw_rule.specs.Rule.{first_of, given_of, told_of};
+ghost use Rattle.pw_rule.specs.Rule.{first_of, given_of, promise_of};
 ghost use Rattle.pw_turns.specs.Views.{view_in};
 ghost use Rattle.pw_turns.specs.inner.Opening.{HasBegun};
 
@@ -140,7 +140,7 @@ impl<R: Registers> Coordinator<R> {
         requires count { Q.count ≡ R.faults journal.regs }
         requires view { raw.old.me ≡ (first_view [], []) }
         requires begun { let key = self.now.table.shared.key in
-            HasBegun R.Registers (told_of R.Registers key) (given_of R.Registers key) journal }
+            HasBegun R.Registers (promise_of R.Registers key) (given_of R.Registers key) journal }
         ensures id { raw.new.table_id ≡ raw.old.table_id }
         ensures view { raw.new.me ≡ (opened_view (R.faults journal.regs), []) }
     {
@@ -159,7 +159,7 @@ impl<R: Registers> Coordinator<R> {
         requires id { raw.table_id ≡ self.now.table.shared.table_id }
         requires view { raw.me ≡ (first_of self.now.table.shared.key, []) }
         requires begun { let key = self.now.table.shared.key in
-            HasBegun R.Registers (told_of R.Registers key) (given_of R.Registers key) journal }
+            HasBegun R.Registers (promise_of R.Registers key) (given_of R.Registers key) journal }
         requires room { (256 ≤ ops.capacity) × (ops.capacity < 2 ^ 32) }
         ensures owns { Owns self.now.table.shared.table_id result }
         ensures view { view_in result.badge.views ≡ opened_view (R.faults journal.regs) }
@@ -196,7 +196,8 @@ impl<R: Registers> Coordinator<R> {
           ops = R.log regs;
           count = R.faults regs;
         }) }
-        ensures told { IfOk result (λ made. told_of R.Registers made.0.table.shared.key ≡ R.told regs) }
+        ensures told { IfOk result (λ made. (promise_of R.Registers made.0.table.shared.key).told ≡ R.told regs) }
+        ensures room { IfOk result (λ made. (promise_of R.Registers made.0.table.shared.key).room ≡ R.room regs) }
         ensures fault { IfErr result (λ fault. OpenFails R.Registers plan regs fault) }
     {
         let Ok(ops) = opening_list(alloc, &plan) else {

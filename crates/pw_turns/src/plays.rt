@@ -3,8 +3,9 @@ ghost use Rattle.pw_plan.specs.declared.request.Request.{Request as request};
 ghost use Rattle.pw_model.specs.declared.entry.HistoryEntry.{HistoryEntry as entry};
 ghost use Rattle.pw_machine.specs.Machine.{Given, spent_view};
 ghost use Rattle.pw_machine.specs.Steps.{joined, left_of, right_of};
+ghost use Rattle.pw_rule.specs.Promises.{Promise};
 ghost use Rattle.pw_rule.specs.Plays.{claimed, drew, gave, gone_with, looked_at, opened_by, opened_record};
-ghost use Rattle.pw_turns.specs.Asked.{led_in, no_entry, no_request, put_in, took_in};
+ghost use Rattle.pw_turns.specs.Asked.{led_in, no_entry, no_promise, no_request, put_in, took_in};
 
 use atomic_table::{Join, Play, Split};
 use pw_machine::View;
@@ -12,13 +13,13 @@ use pw_regs::Registers;
 use pw_rule::Load;
 use std::marker::{Brand, PhantomData};
 
-/// What a step is about, which the call that makes it picks: what was given to open and whether the
-/// registers tell what is done, the request, whether the seat gives up where another has the turn, the
+/// What a step is about, which the call that makes it picks: what was given to open and what the
+/// registers promised, the request, whether the seat gives up where another has the turn, the
 /// entry, the registers' count, and the journal's turn.
 pub trait Asked {
     ghost given: { Option Given };
 
-    ghost told: { Bool };
+    ghost promise: { Promise };
 
     ghost request: { request };
 
@@ -34,7 +35,7 @@ pub trait Asked {
 impl Asked for Brand {
     ghost given = { None };
 
-    ghost told = { true };
+    ghost promise = { no_promise };
 
     ghost request = { no_request };
 
@@ -62,7 +63,7 @@ pub struct Lead<Q> {
 }
 
 impl<R: Registers, Q: Asked> Play<Option<Load<R>>, View> for Lead<Q> {
-    ghost then = { led_in R.Registers Q.gives_up Q.told Q.given Q.request };
+    ghost then = { led_in R.Registers Q.gives_up Q.promise Q.given Q.request };
 }
 
 /// The journal is given back with an entry more.

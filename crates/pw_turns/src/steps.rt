@@ -6,7 +6,7 @@ ghost use Rattle.pw_machine.specs.Steps.{Asks, HoldsAs, entered, freed, let_go};
 ghost use Rattle.pw_rule.specs.Loads.{IsRecordOf};
 ghost use Rattle.pw_rule.specs.Moves.{TellsNext};
 ghost use Rattle.pw_rule.specs.Plays.{IsFound, IsGrown, Met};
-ghost use Rattle.pw_rule.specs.Rule.{given_of, told_of};
+ghost use Rattle.pw_rule.specs.Rule.{given_of, promise_of};
 ghost use Rattle.pw_turns.specs.Asked.{entry_as};
 ghost use Rattle.pw_turns.specs.Steps.{IsOut, LedOut, MetRecord, TookOut, load_part};
 
@@ -84,16 +84,16 @@ impl<R: Registers> Coordinator<R> {
     ) -> Result<Journal<R>, u32>
         requires id { raw.old.table_id ≡ self.now.table.shared.table_id }
         requires given { Q.given ≡ Some (given_of R.Registers self.now.table.shared.key) }
-        requires told { Q.told ≡ told_of R.Registers self.now.table.shared.key }
+        requires promise { Q.promise ≡ promise_of R.Registers self.now.table.shared.key }
         requires asked { Q.request ≡ _request }
         requires asks { Asks self.now.plan raw.old.me.0 _request }
         requires next { TellsNext self.now.plan raw.old.me.0 _request (record_count self.now.plan) }
         requires number { (number ≡ raw.old.me.0.number) × (number < 65536) }
         ensures id { raw.new.table_id ≡ raw.old.table_id }
         ensures view { let given = given_of R.Registers self.now.table.shared.key in
-            let told = told_of R.Registers self.now.table.shared.key in
+            let promise = promise_of R.Registers self.now.table.shared.key in
             let last = record_count self.now.plan in
-            MatchResult result (λ journal. LedOut R.Registers told given _request last raw.old.me journal raw.new.me)
+            MatchResult result (λ journal. LedOut R.Registers promise given _request last raw.old.me journal raw.new.me)
             (λ holder. Met Q.gives_up _request raw.old.me last holder raw.new.me) }
     {
         let last = self.counts.records as usize;
@@ -124,9 +124,9 @@ impl<R: Registers> Coordinator<R> {
         requires number { (number ≡ raw.old.me.0.number) × (number < 65536) }
         ensures id { raw.new.table_id ≡ raw.old.table_id }
         ensures view { let given = given_of R.Registers self.now.table.shared.key in
-            let told = told_of R.Registers self.now.table.shared.key in
+            let promise = promise_of R.Registers self.now.table.shared.key in
             let last = record_count self.now.plan in
-            MatchResult result (λ journal. LedOut R.Registers told given request last raw.old.me journal raw.new.me)
+            MatchResult result (λ journal. LedOut R.Registers promise given request last raw.old.me journal raw.new.me)
             (λ holder. Met true request raw.old.me last holder raw.new.me) }
     {
         self.lead::<Brand>(raw, number, request)
@@ -146,7 +146,7 @@ impl<R: Registers> Coordinator<R> {
         requires count { Q.count ≡ R.faults journal.regs }
         requires out { IsOut (record_count self.now.plan) raw.old.me }
         requires grown { let key = self.now.table.shared.key in
-            IsGrown R.Registers (told_of R.Registers key) (given_of R.Registers key) raw.old.me.0
+            IsGrown R.Registers (promise_of R.Registers key) (given_of R.Registers key) raw.old.me.0
             (entry_as raw.old.me.0.number _request _fault) journal }
         ensures id { raw.new.table_id ≡ raw.old.table_id }
         ensures view { let e = entry_as raw.old.me.0.number _request _fault in
@@ -177,7 +177,7 @@ impl<R: Registers> Coordinator<R> {
         requires id { raw.old.table_id ≡ self.now.table.shared.table_id }
         requires out { IsOut (record_count self.now.plan) raw.old.me }
         requires grown { let key = self.now.table.shared.key in
-            IsGrown R.Registers (told_of R.Registers key) (given_of R.Registers key) raw.old.me.0
+            IsGrown R.Registers (promise_of R.Registers key) (given_of R.Registers key) raw.old.me.0
             (entry_as raw.old.me.0.number request fault) journal }
         ensures id { raw.new.table_id ≡ raw.old.table_id }
         ensures view { let e = entry_as raw.old.me.0.number request fault in
@@ -196,7 +196,7 @@ impl<R: Registers> Coordinator<R> {
         requires count { Q.count ≡ R.faults journal.regs }
         requires out { IsOut (record_count self.now.plan) raw.old.me }
         requires found { let key = self.now.table.shared.key in
-            IsFound R.Registers (told_of R.Registers key) (given_of R.Registers key) raw.old.me.0 journal }
+            IsFound R.Registers (promise_of R.Registers key) (given_of R.Registers key) raw.old.me.0 journal }
         ensures id { raw.new.table_id ≡ raw.old.table_id }
         ensures view { raw.new.me ≡ (let_go (R.faults journal.regs) raw.old.me.0, rest raw.old.me.1) }
     {
@@ -215,7 +215,7 @@ impl<R: Registers> Coordinator<R> {
         requires id { raw.old.table_id ≡ self.now.table.shared.table_id }
         requires out { IsOut (record_count self.now.plan) raw.old.me }
         requires found { let key = self.now.table.shared.key in
-            IsFound R.Registers (told_of R.Registers key) (given_of R.Registers key) raw.old.me.0 journal }
+            IsFound R.Registers (promise_of R.Registers key) (given_of R.Registers key) raw.old.me.0 journal }
         ensures id { raw.new.table_id ≡ raw.old.table_id }
         ensures view { raw.new.me ≡ (let_go (R.faults journal.regs) raw.old.me.0, rest raw.old.me.1) }
     {

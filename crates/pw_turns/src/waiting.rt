@@ -3,7 +3,7 @@ ghost use Rattle.std.specs.Prelude.{◌≡◌, ◌<◌, true};
 ghost use Rattle.pw_parts.specs.Records.{record_count};
 ghost use Rattle.pw_machine.specs.Steps.{Asks};
 ghost use Rattle.pw_rule.specs.Moves.{TellsNext};
-ghost use Rattle.pw_rule.specs.Rule.{given_of, told_of};
+ghost use Rattle.pw_rule.specs.Rule.{given_of, promise_of};
 ghost use Rattle.pw_turns.specs.Steps.{LedOn, TookOn};
 ghost use Rattle.pw_turns.specs.Views.{is_met};
 
@@ -64,7 +64,7 @@ impl<R: Registers> Coordinator<R> {
         requires met { is_met met.old raw.old.me.0 ≡ true }
         ensures id { raw.new.table_id ≡ raw.old.table_id }
         ensures view { let key = self.now.table.shared.key in
-            LedOn R.Registers (told_of R.Registers key) (given_of R.Registers key) request (record_count self.now.plan)
+            LedOn R.Registers (promise_of R.Registers key) (given_of R.Registers key) request (record_count self.now.plan)
             raw.old.me result raw.new.me }
         ensures met { is_met met.new raw.new.me.0 ≡ true }
     {

@@ -1,5 +1,5 @@
 use Rattle.std.proofs.Common.{◌≡◌, false, true, Some}
-use Rattle.pw_rule.specs.Rule.{given_of, told_of}
+use Rattle.pw_rule.specs.Rule.{given_of, promise_of}
 use Rattle.pw_turns.specs.Asked.{no_entry}
 use Rattle.pw_turns.specs.Views.{is_met}
 use Rattle.pw_turns.proofs.Again.{IsAgain}
@@ -8,7 +8,7 @@ use Rattle.pw_turns.proofs.coordinator.Coordinator.lead_on.Given as goal
 abbrev pub ghosts-lead : goal.ghosts-lead
 ghosts-lead g a = record {
   given = Some (given_of g.R.Registers a.self.now.table.shared.key);
-  told = told_of g.R.Registers a.self.now.table.shared.key;
+  promise = promise_of g.R.Registers a.self.now.table.shared.key;
   request = a._request;
   gives_up = false;
   entry = no_entry;

@@ -1,12 +1,12 @@
 use Rattle.std.proofs.Common.{true, Some}
-use Rattle.pw_rule.specs.Rule.{given_of, told_of}
+use Rattle.pw_rule.specs.Rule.{given_of, promise_of}
 use Rattle.pw_turns.specs.Asked.{entry_as}
 use Rattle.pw_turns.proofs.coordinator.Coordinator.put_for.Given as goal
 
 abbrev pub ghosts-put : goal.ghosts-put
 ghosts-put g a = record {
   given = Some (given_of g.R.Registers a.self.now.table.shared.key);
-  told = told_of g.R.Registers a.self.now.table.shared.key;
+  promise = promise_of g.R.Registers a.self.now.table.shared.key;
   request = a._request;
   gives_up = true;
   entry = entry_as a.raw.now.me.0.number a._request a._fault;
