@@ -10,7 +10,7 @@ use pw_base::OpenGate;
 use pw_machines::plan_of;
 use pw_plan::{Plan, Request};
 use pw_regs::{RegisterFile, Registers};
-use pw_turns::{Closed, Coordinator, Seat};
+use pw_turns::{Closed, Coordinator, OpenFault, Seat};
 use std::alloc::Global;
 use std::io;
 use std::sync::Wait;
@@ -40,16 +40,17 @@ fn idle<W: Wait, R: Registers>(rt: &W, shared: &Coordinator<R>, mut seat: Seat, 
     seat
 }
 
-/// Two processors go idle, each on a thread of its own. Ends with the history of both.
+/// Two processors go idle, each on a thread of its own. Ends with the history of both; with an empty one
+/// where there is no memory for a second seat.
 fn pair<T: Threads + Wait + Sync>(
     rt: &T,
     alloc: Global,
     plan: Plan,
     regs: RegisterFile,
-) -> Option<Closed<RegisterFile>> {
-    let (coordinator, mut first) = Coordinator::open(alloc, plan, regs, 2).ok()?;
+) -> Result<Closed<RegisterFile>, OpenFault<RegisterFile>> {
+    let (coordinator, mut first) = Coordinator::open(alloc, plan, regs, 2)?;
     let Ok(second) = coordinator.split(alloc, &mut first, 1) else {
-        return Some(coordinator.close(first));
+        return Ok(coordinator.close(first));
     };
     let shared = &coordinator;
     let (first, second) = join(
@@ -66,21 +67,30 @@ fn pair<T: Threads + Wait + Sync>(
         { idle(rt, shared, second, 1) },
     );
     let seat = coordinator.join(first, second);
-    Some(coordinator.close(seat))
+    Ok(coordinator.close(seat))
+}
+
+/// The plan of the cluster, and registers with room for 16 operations.
+fn prepare(alloc: Global) -> Option<(Plan, RegisterFile)> {
+    let plan = plan_of(alloc, CLUSTER).ok()?;
+    let regs = RegisterFile::new(alloc, 16).ok()?;
+    Some((plan, regs))
 }
 
 fn main(rt: HostRuntime) -> io::Result<()> {
-    let alloc = rt.alloc();
-    let closed = match (plan_of(alloc, CLUSTER), RegisterFile::new(alloc, 16)) {
-        (Ok(plan), Ok(regs)) => pair(&rt, alloc, plan, regs),
-        _ => None,
+    let Some((plan, regs)) = prepare(rt.alloc()) else {
+        return println!(rt; "no memory");
     };
-    match closed {
-        Some(closed) => println!(rt;
+    match pair(&rt, rt.alloc(), plan, regs) {
+        Ok(closed) => println!(rt;
             "{} requests, {} operations",
             closed.sealed().entries().len(),
             closed.regs().log().len()
         ),
-        None => println!(rt; "no memory"),
+        Err(OpenFault::Memory { regs }) => println!(rt;
+            "no memory for a coordinator, {} operations",
+            regs.log().len()
+        ),
+        Err(OpenFault::RegisterFault { done, .. }) => println!(rt; "register fault after {done}"),
     }
 }
