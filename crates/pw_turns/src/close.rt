@@ -80,6 +80,7 @@ impl<R: Registers> Coordinator<R> {
             counts,
             capacity: _,
             table,
+            sleepers: _,
         } = self;
         let mut seat = seat;
         let raw: Raw<R> = out(&mut seat.badge);

@@ -11,6 +11,7 @@ use pw_regs::Registers;
 use pw_rule::{Limit, Load, Turns};
 use std::alloc::Global;
 use std::mem::replace;
+use std::sync::atomic::AtomicU32;
 
 /// The most operations of one request.
 pub(crate) const MOST_OF_A_REQUEST: u32 = 256;
@@ -24,6 +25,8 @@ pub struct Coordinator<R: Registers> {
     pub(crate) counts: Counts,
     pub(crate) capacity: u32,
     pub(crate) table: Table<Option<Load<R>>, View, Limit<R>, Turns<R>, Global>,
+    /// How many threads may sleep until a turn is free.
+    pub(crate) sleepers: AtomicU32,
     ghost words: { table.shared.table_id.words ≡ counts.records + 2 },
     ghost slots: { table.shared.table_id.slots ≡ counts.records + 1 },
     ghost counted: { AreCounts plan counts },

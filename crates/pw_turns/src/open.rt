@@ -21,6 +21,7 @@ use pw_rule::{Limit, Load};
 use std::alloc::Global;
 use std::marker::Brand;
 use std::snapshot::Snapshot;
+use std::sync::atomic::AtomicU32;
 
 /// Why there is no coordinator.
 #[derive(Drop)]
@@ -85,6 +86,7 @@ impl<R: Registers> Coordinator<R> {
             counts,
             capacity,
             table,
+            sleepers: AtomicU32::new(0),
         };
         Ok((coordinator, raw))
     }
@@ -100,6 +102,7 @@ impl<R: Registers> Coordinator<R> {
             counts,
             capacity: _,
             table,
+            sleepers: _,
         } = self;
         let empty = close_shelf(table, raw, counts);
         let None = empty else { unreachable!() };

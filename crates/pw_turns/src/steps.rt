@@ -163,7 +163,7 @@ impl<R: Registers> Coordinator<R> {
             .exchange(raw, last, Some(Load::Log(journal)));
         let None = empty else { unreachable!() };
         self.table.shared.store::<Put<Q>>(raw, last + 1, 0);
-        self.table.shared.wake_one(last + 1);
+        self.wake(last + 1);
     }
 
     /// The same with what it is about picked.
@@ -207,7 +207,7 @@ impl<R: Registers> Coordinator<R> {
             .exchange(raw, last, Some(Load::Log(journal)));
         let None = empty else { unreachable!() };
         self.table.shared.store::<Leave<Q>>(raw, last + 1, 0);
-        self.table.shared.wake_one(last + 1);
+        self.wake(last + 1);
     }
 
     /// The same with what it is about picked.
@@ -237,6 +237,6 @@ impl<R: Registers> Coordinator<R> {
         let empty = self.table.shared.exchange(raw, slot, Some(load));
         let None = empty else { unreachable!() };
         self.table.shared.store::<Give>(raw, slot + 1, 0);
-        self.table.shared.wake_one(slot + 1);
+        self.wake(slot + 1);
     }
 }

@@ -41,7 +41,7 @@ impl<R: Registers> Coordinator<R> {
                 Ok(load) => return load,
                 Err(holder) => {
                     *met = Some((turn, holder));
-                    self.table.shared.park(rt, turn as usize + 1, holder + 1);
+                    self.wait_on(rt, turn as usize + 1, holder + 1);
                 }
             }
         }
@@ -74,7 +74,7 @@ impl<R: Registers> Coordinator<R> {
                 Ok(journal) => return journal,
                 Err(holder) => {
                     *met = Some((last, holder));
-                    self.table.shared.park(rt, last as usize + 1, holder + 1);
+                    self.wait_on(rt, last as usize + 1, holder + 1);
                 }
             }
         }
