@@ -14,8 +14,8 @@ import time
 
 from machine import busy, processor
 
-RUNS = 9
-ROUNDS = 40
+RUNS = 7
+ROUNDS = 20
 REQUESTS = 65536
 THREADS = (1, 2, 4, 8)
 # To idle is one operation and to wake is none; another state is one, and so is each of eight domains at the start.
