@@ -125,39 +125,83 @@ fn planned(space: &Space, machine: machine::Machine, plan: plan::Plan, c_states:
 // # The records
 
 /// A container, by the votes of its children and its own.
-struct Node {
-    votes: Vec<Vote>,
-    vote: Vote,
+pub struct Node {
+    pub votes: Vec<Vote>,
+    pub vote: Vote,
+}
+
+impl Node {
+    /// The record at the start: every child runs.
+    pub fn new(container: &Container) -> Node {
+        Node { votes: vec![RUNNING; container.children.len()], vote: RUNNING }
+    }
+
+    /// The vote of a container of this number: the deepest state that all its children allow.
+    fn deepest(&self, machine: &Machine, number: usize) -> Vote {
+        let container = &machine.containers[number];
+        let (mut deepest, mut tolerance) = (u32::MAX, u32::MAX);
+        for (child, vote) in container.children.iter().zip(&self.votes) {
+            if vote.state == 0 {
+                return RUNNING;
+            }
+            let rows = match *child {
+                Child::Cpu(cpu) => &machine.cpus[cpu as usize].rows,
+                Child::Container(below) => &machine.containers[below as usize].rows,
+            };
+            deepest = deepest.min(rows[vote.state as usize - 1].parent);
+            tolerance = tolerance.min(vote.tolerance);
+        }
+        let allowed = &container.rows[..container.rows.len().min(deepest as usize)];
+        match allowed.iter().rposition(|row| row.enabled && row.latency <= tolerance) {
+            None => RUNNING,
+            Some(at) => Vote { state: at as u8 + 1, tolerance },
+        }
+    }
+
+    /// Sets the vote of a child, and answers the container's own before and after.
+    pub fn set(&mut self, machine: &Machine, number: usize, place: usize, vote: Vote) -> (Vote, Vote) {
+        self.votes[place] = vote;
+        let before = self.vote;
+        self.vote = self.deepest(machine, number);
+        (before, self.vote)
+    }
 }
 
 /// A domain, by what its members ask for and their limits.
-struct Levels {
-    asks: Vec<u8>,
-    limits: Vec<u8>,
+pub struct Levels {
+    pub asks: Vec<u8>,
+    pub limits: Vec<u8>,
 }
 
-struct Records<'a> {
-    machine: &'a Machine,
-    c_states: &'a CStates,
-    /// Which processors have C states, and what each of those votes.
-    has_c: Vec<bool>,
-    c_votes: Vec<u8>,
-    nodes: Vec<Node>,
-    levels: Vec<Levels>,
-    /// Of each processor its place among the children of its container and among the members of its domains.
-    child: Vec<usize>,
-    member: Vec<[usize; 2]>,
-    /// Of each container its place among the children of the one around it.
-    inner: Vec<usize>,
+impl Levels {
+    /// The record at the start: every member asks for its limit.
+    pub fn new(machine: &Machine, domain: &Domain) -> Levels {
+        let limits: Vec<u8> = domain.members.iter().map(|cpu| machine.opening_limit(domain.kind, *cpu)).collect();
+        Levels { asks: limits.clone(), limits }
+    }
+
+    /// Where the domain stands, or one of its members where hardware coordinates it.
+    pub fn standing(&self, coord: Coord, member: usize) -> u8 {
+        match coord {
+            Coord::SwAll | Coord::SwAny => {
+                let fastest = self.asks.iter().fold(255, |least: u8, ask| least.min(*ask));
+                self.limits.iter().fold(fastest, |most, limit| most.max(*limit))
+            }
+            Coord::HwAll => self.asks[member].max(self.limits[member]),
+        }
+    }
 }
 
-impl<'a> Records<'a> {
-    fn new(machine: &'a Machine, c_states: &'a CStates, has_c: Vec<bool>) -> Records<'a> {
-        let nodes = machine.containers.iter().map(|of| Node { votes: vec![RUNNING; of.children.len()], vote: RUNNING });
-        let opened = |domain: &Domain| {
-            let limits: Vec<u8> = domain.members.iter().map(|cpu| machine.opening_limit(domain.kind, *cpu)).collect();
-            Levels { asks: limits.clone(), limits }
-        };
+/// Of each processor its place among the children of its container and among the members of its domains, and of each
+/// container its place among the children of the one around it.
+pub struct Places {
+    pub child: Vec<usize>,
+    pub member: Vec<[usize; 2]>,
+    pub inner: Vec<usize>,
+}
+
+impl Places {
+    pub fn new(machine: &Machine) -> Places {
         let (mut child, mut inner) = (vec![0; machine.cpus.len()], vec![0; machine.containers.len()]);
         for container in &machine.containers {
             for (place, of) in container.children.iter().enumerate() {
@@ -173,44 +217,38 @@ impl<'a> Records<'a> {
                 member[*cpu as usize][domain.kind as usize] = place;
             }
         }
-        let (nodes, levels) = (nodes.collect(), machine.domains.iter().map(opened).collect());
-        let c_votes = vec![0; machine.cpus.len()];
-        Records { machine, c_states, has_c, c_votes, nodes, levels, child, member, inner }
+        Places { child, member, inner }
     }
+}
 
-    /// The vote of a container: the deepest state that all its children allow.
-    fn vote_of(&self, number: usize) -> Vote {
-        let container = &self.machine.containers[number];
-        let (mut deepest, mut tolerance) = (u32::MAX, u32::MAX);
-        for (child, vote) in container.children.iter().zip(&self.nodes[number].votes) {
-            if vote.state == 0 {
-                return RUNNING;
-            }
-            let rows = match *child {
-                Child::Cpu(cpu) => &self.machine.cpus[cpu as usize].rows,
-                Child::Container(below) => &self.machine.containers[below as usize].rows,
-            };
-            deepest = deepest.min(rows[vote.state as usize - 1].parent);
-            tolerance = tolerance.min(vote.tolerance);
-        }
-        let allowed = &container.rows[..container.rows.len().min(deepest as usize)];
-        match allowed.iter().rposition(|row| row.enabled && row.latency <= tolerance) {
-            None => RUNNING,
-            Some(at) => Vote { state: at as u8 + 1, tolerance },
-        }
+struct Records<'a> {
+    machine: &'a Machine,
+    c_states: &'a CStates,
+    /// Which processors have C states, and what each of those votes.
+    has_c: Vec<bool>,
+    c_votes: Vec<u8>,
+    nodes: Vec<Node>,
+    levels: Vec<Levels>,
+    places: Places,
+}
+
+impl<'a> Records<'a> {
+    fn new(machine: &'a Machine, c_states: &'a CStates, has_c: Vec<bool>) -> Records<'a> {
+        let nodes = machine.containers.iter().map(Node::new).collect();
+        let levels = machine.domains.iter().map(|domain| Levels::new(machine, domain)).collect();
+        let c_votes = vec![0; machine.cpus.len()];
+        Records { machine, c_states, has_c, c_votes, nodes, levels, places: Places::new(machine) }
     }
 
     /// Sets the vote of a processor, and those of its containers up to the first that runs before and after.
     fn vote(&mut self, cpu: u32, own: Vote) -> Chain {
         let mut chain = Chain { len: 1, states: [own.state, 0, 0, 0, 0, 0, 0, 0, 0] };
-        let (mut rising, mut vote, mut place) = (true, own, self.child[cpu as usize]);
+        let (mut rising, mut vote, mut place) = (true, own, self.places.child[cpu as usize]);
         let mut next = self.machine.cpus[cpu as usize].parent;
         while let Some(number) = next {
             let number = number as usize;
-            self.nodes[number].votes[place] = vote;
-            let before = self.nodes[number].vote;
-            vote = self.vote_of(number);
-            self.nodes[number].vote = vote;
+            let before;
+            (before, vote) = self.nodes[number].set(self.machine, number, place, vote);
             rising &= vote.state > 0;
             if rising {
                 chain.states[chain.len] = vote.state;
@@ -219,7 +257,7 @@ impl<'a> Records<'a> {
             if before.state == 0 && vote.state == 0 {
                 break;
             }
-            place = self.inner[number];
+            place = self.places.inner[number];
             next = self.machine.containers[number].parent;
         }
         chain
@@ -287,20 +325,13 @@ impl<'a> Records<'a> {
 
     /// Where a domain stands, or one of its members where hardware coordinates it.
     fn standing(&self, place: usize, member: usize) -> u8 {
-        let Levels { asks, limits } = &self.levels[place];
-        match self.machine.domains[place].coord {
-            Coord::SwAll | Coord::SwAny => {
-                let fastest = asks.iter().fold(255, |least: u8, ask| least.min(*ask));
-                limits.iter().fold(fastest, |most, limit| most.max(*limit))
-            }
-            Coord::HwAll => asks[member].max(limits[member]),
-        }
+        self.levels[place].standing(self.machine.domains[place].coord, member)
     }
 
     fn scaled(&self, kind: Kind, cpu: u32) -> Result<(&'a Scale, usize), Reply> {
         let scale = self.machine.scale_of(kind, cpu).ok_or(Reply::NoTable)?;
         match self.machine.domains[scale.domain].unfit {
-            0 => Ok((scale, self.member[cpu as usize][kind as usize])),
+            0 => Ok((scale, self.places.member[cpu as usize][kind as usize])),
             why => Err(Reply::Unfit { domain: scale.domain, why }),
         }
     }

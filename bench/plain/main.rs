@@ -6,11 +6,13 @@
 //! the machine. Which fault a block has it doesn't tell; that of a table it does.
 //! `--json` makes values first, as the program does, and `--json --direct` writes the text without.
 //! `drive` makes the requests of a script on the machine, and prints their history. `generate` makes a block of so many
-//! clusters, reads it again, makes the requests of a load on its machine, and prints their summary.
+//! clusters, reads it again, makes the requests of a load on its machine, and prints their summary. `shared` makes requests of
+//! one coordinator by several threads.
 //! usage: plain show|rewrite|check [--json [--direct]] FILE..
 //!        plain drive [--serial] [--step] SCRIPT FILE..
 //!        plain generate N
 //!        plain read|print SCRIPT ROUNDS
+//!        plain shared one-lock|each-lock one-cluster|eight-clusters|domains THREADS ROUNDS
 
 mod check;
 mod drive;
@@ -20,6 +22,7 @@ mod machine;
 mod plan;
 mod read;
 mod script;
+mod shared;
 mod show;
 mod space;
 mod tables;
@@ -116,10 +119,15 @@ fn main() -> ExitCode {
     let (flags, words): (Vec<String>, Vec<String>) =
         std::env::args().skip(1).partition(|word| word.starts_with("--"));
     let Some((command, files)) = words.split_first() else {
-        panic!("usage: plain show|rewrite|check|drive|generate|read|print [FLAG..] FILE..");
+        panic!("usage: plain show|rewrite|check|drive|generate|read|print|shared [FLAG..] FILE..");
     };
     if let ("read" | "print", [file, rounds]) = (command.as_str(), files) {
         script::rounds(command, file, rounds.parse().expect("a number of rounds"));
+        return ExitCode::SUCCESS;
+    }
+    if let ("shared", [locks, machine, threads, rounds]) = (command.as_str(), files) {
+        let number = |word: &String| word.parse().expect("a number");
+        shared::rounds(locks, machine, number(threads), number(rounds));
         return ExitCode::SUCCESS;
     }
     if let ("generate", [clusters]) = (command.as_str(), files) {

@@ -1,0 +1,81 @@
+"""Measures requests of several threads on a shared coordinator, beside plain Rust with one lock and with a lock for each record.
+
+usage: measure_shared.py PROGRAM [PLAIN]
+A run makes rounds of 65,536 requests in all: a coordinator is opened, threads make the requests, each by a seat and for a
+processor of its own, and it is closed. Times are the least of several runs, wall clock and processor time each; runs of all
+programs alternate. Each is to tell as many entries and operations as a round must leave.
+"""
+
+import itertools
+import os
+import subprocess
+import sys
+import time
+
+from machine import busy, processor
+
+RUNS = 7
+ROUNDS = 20
+REQUESTS = 65536
+THREADS = (1, 2, 4, 8)
+# To idle is one operation and to wake is none; another state is one, and so is each of eight domains at the start.
+MACHINES = {"one-cluster": REQUESTS // 2, "eight-clusters": REQUESTS // 2, "domains": REQUESTS + 8}
+
+
+def run(program, words):
+    """Wall clock and processor seconds of a run, and what it told."""
+    before, start = busy(), time.perf_counter()
+    told = subprocess.run([*program, *words], stdout=subprocess.PIPE, check=True, text=True).stdout
+    wall = time.perf_counter() - start
+    return wall, busy() - before, told
+
+
+def least(programs, machine, threads):
+    """Of each program the least wall clock and the least processor nanoseconds of a request, and processors kept busy."""
+    words = [machine, str(threads), str(ROUNDS)]
+    wanted = f"{ROUNDS} rounds, {REQUESTS} entries, {MACHINES[machine]} operations\n"
+    walls, used = [[] for _ in programs], [[] for _ in programs]
+    for _ in range(RUNS):
+        for place, program in enumerate(programs):
+            wall, took, told = run(program, words)
+            if told != wanted:
+                raise SystemExit(f"{' '.join([*program, *words])} tells {told!r} and not {wanted!r}")
+            walls[place].append(wall)
+            used[place].append(took)
+    count = ROUNDS * REQUESTS / 1e9
+    return [(min(wall) / count, min(took) / count, took[wall.index(min(wall))] / min(wall)) for wall, took in zip(walls, used)]
+
+
+def rate(nanoseconds):
+    """Thousands of requests a second."""
+    return f"{1e6 / nanoseconds:.0f}"
+
+
+def main():
+    programs = [[sys.argv[1]]]
+    names = ["proved"]
+    if len(sys.argv) > 2:
+        programs += [[sys.argv[2], "shared", "one-lock"], [sys.argv[2], "shared", "each-lock"]]
+        names += ["one lock", "a lock for each record"]
+    print(f"{os.cpu_count()} processor cores, {processor() or 'of no known name'}; least of {RUNS} runs of {ROUNDS} rounds.")
+    print()
+    heads = ["machine", "threads"]
+    for name in names:
+        heads += [f"{name}: thousand requests a second", "processor, ns a request", "processors busy"]
+    if len(programs) > 1:
+        heads += ["wall clock against one lock", "against the better", "processor against one lock", "against the better"]
+    print("| " + " | ".join(heads) + " |")
+    print("|---" * len(heads) + "|")
+    for machine, threads in itertools.product(MACHINES, THREADS):
+        costs = least(programs, machine, threads)
+        cells = [machine, threads]
+        for wall, took, kept in costs:
+            cells += [rate(wall), f"{took:.0f}", f"{kept:.2f}"]
+        if len(costs) > 1:
+            for place in (0, 1):
+                own, one, each = (cost[place] for cost in costs)
+                cells += [f"{own / one:.2f}", f"{own / min(one, each):.2f}"]
+        print("| " + " | ".join(str(cell) for cell in cells) + " |", flush=True)
+
+
+main()
