@@ -108,12 +108,12 @@ pub fn ask_in_threads<R: Threads + Wait + Sync>(
         move || -> Crew
             requires { Owns shared.now.table.shared.table_id other }
             ensures owns { Owns shared.entry.now.table.shared.table_id result.seat }
-            ensures parts { parts_of result.seat ≡ parts_of other.entry }
+            ensures parts { parts_of result.seat ≡ parts_of other }
         { ask_alone(rt, alloc, shared, other, cpu, rounds) },
         move || -> Crew
             requires { IsSync R.row × Owns shared.now.table.shared.table_id seat }
             ensures owns { Owns shared.entry.now.table.shared.table_id result.seat }
-            ensures parts { parts_of result.seat ≡ parts_of seat.entry }
+            ensures parts { parts_of result.seat ≡ parts_of seat }
         {
             ask_in_threads(
                 rt,
