@@ -1,4 +1,4 @@
-ghost use Rattle.std.specs.Prelude.{◌≡◌, ◌+◌, ◌<◌, All, IfSome, sum_by, vec_capacity, vec_len};
+ghost use Rattle.std.specs.Prelude.{◌≡◌, ◌+◌, ◌<◌, All, IfNone, IfSome, sum_by, vec_capacity, vec_len};
 ghost use Rattle.pw_turns.specs.Owning.{Owns};
 ghost use Rattle.pw_seats.specs.Seats.{AreSeats, parts_in, parts_of};
 
@@ -15,6 +15,9 @@ pub fn taken(_shared: &Shared, seats: &mut Vec<Seat>, number: u32) -> Option<Sea
     ensures seat { IfSome result (Owns _shared.now.table.shared.table_id) }
     ensures parts { parts_in result + sum_by parts_of seats.new.items ≡ sum_by parts_of seats.old.items }
     ensures room { IfSome result (λ s. vec_len seats.new < vec_capacity seats.new) }
+    ensures capacity { vec_capacity seats.new ≡ vec_capacity seats.old }
+    ensures less { IfSome result (λ s. vec_len seats.new + 1 ≡ vec_len seats.old) }
+    ensures none { IfNone result (vec_len seats.new ≡ vec_len seats.old) }
 {
     let at = seats.iter().position(|seat| seat.number() == number)?;
     Some(seats.remove(at))
@@ -27,6 +30,8 @@ pub fn put(_shared: &Shared, seats: &mut Vec<Seat>, seat: Seat)
     requires room { vec_len seats.old < vec_capacity seats.old }
     ensures all { All (Owns _shared.now.table.shared.table_id) seats.new.items }
     ensures parts { sum_by parts_of seats.new.items ≡ parts_of seat + sum_by parts_of seats.old.items }
+    ensures capacity { vec_capacity seats.new ≡ vec_capacity seats.old }
+    ensures more { vec_len seats.new ≡ vec_len seats.old + 1 }
 {
     seats.push_reserved(seat);
 }
