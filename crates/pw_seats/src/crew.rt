@@ -103,6 +103,7 @@ pub fn ask_in_threads<R: Threads + Wait + Sync>(
     let Ok(other) = shared.split(alloc, &mut seat, 1) else {
         return Crew { seat, heard: None };
     };
+    let (next, left) = (cpu.saturating_add(1), members - 1);
     let (one, others) = join(
         rt,
         move || -> Crew
@@ -114,17 +115,7 @@ pub fn ask_in_threads<R: Threads + Wait + Sync>(
             requires { IsSync R.row × Owns shared.now.table.shared.table_id seat }
             ensures owns { Owns shared.entry.now.table.shared.table_id result.seat }
             ensures parts { parts_of result.seat ≡ parts_of seat }
-        {
-            ask_in_threads(
-                rt,
-                alloc,
-                shared,
-                seat,
-                cpu.saturating_add(1),
-                members - 1,
-                rounds,
-            )
-        },
+        { ask_in_threads(rt, alloc, shared, seat, next, left, rounds) },
     );
     joined(shared, others, one)
 }
