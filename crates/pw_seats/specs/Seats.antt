@@ -1,5 +1,5 @@
 -- The seats of a case.
-use Rattle.std.specs.Prelude.{◌≡◌, ◌+◌, ℕ, List, Option, Some, None, All, sum_by}
+use Rattle.std.specs.Prelude.{◌≡◌, ℕ, List, Option, Some, None, All, sum_by}
 use Rattle.atomic_table.specs.Seated.{TableId}
 use Rattle.pw_turns.specs.declared.coordinator.Seat.{Seat}
 use Rattle.pw_turns.specs.Owning.{Owns}

@@ -1,4 +1,3 @@
-use Rattle.std.proofs.Common.{◌≡◌}
 use Rattle.pw_seats.specs.Seats.{AreSeats}
 use Rattle.pw_seats.proofs.case.play_all.Given as goal
 
