@@ -1,9 +1,8 @@
 ghost use Rattle.std.specs.Prelude.{◌<◌, length};
 
 use crate::records::{Note, domain_record, group_record, node_record};
-use crate::request::request_of;
 use acpi_values::Coord;
-use pw_machines::{u32_at, word_at};
+use pw_machines::{request_of, u32_at, word_at};
 use pw_plan::{Child, Domain, DomainKind, Plan};
 use std::alloc::Global;
 

@@ -8,9 +8,7 @@ mod about;
 mod case;
 mod chains;
 mod records;
-mod request;
 mod run;
-mod text;
 mod walk;
 
 use case::came;

@@ -2,10 +2,9 @@ ghost use Rattle.pw_model.specs.States.{IsState};
 
 use crate::about::put_about;
 use crate::records::Note;
-use crate::request::request_of;
-use crate::text::{put_ops, put_outcome};
 use crate::walk::walked;
 use pw_core::State;
+use pw_machines::{put_ops, put_outcome, request_of};
 use pw_ops::Ops;
 use pw_plan::{Plan, Request};
 use std::alloc::Global;

@@ -1,4 +1,4 @@
-use pw_machines::{u32_at, word_at};
+use crate::words::{u32_at, word_at};
 use pw_model::HistoryEntry;
 use pw_plan::Request;
 
@@ -32,16 +32,36 @@ fn scaled(word: &str, cpu: u32, number: u32) -> Option<Request> {
 
 /// The request that an entry of a history states.
 fn stated(cpu: u32, code: u32, argument: u32, tolerance: u32) -> Option<Request> {
-    if code < 1 || code > 6 {
-        return None;
-    }
-    let entry = HistoryEntry {
+    request_in(&HistoryEntry {
         seat: 0,
         cpu,
         code,
         argument,
         tolerance,
         fault: 0,
-    };
+    })
+}
+
+/// The request of an entry, if its code is that of one.
+pub fn request_in(entry: &HistoryEntry) -> Option<Request> {
+    if entry.code < 1 || entry.code > 6 {
+        return None;
+    }
     Some(entry.request())
+}
+
+/// A request as `request_of` reads it.
+pub fn put_request(text: &mut String, request: &Request) -> Option<()> {
+    match *request {
+        Request::Idle {
+            cpu,
+            state,
+            tolerance,
+        } => write!(text, "idle {cpu} {state} {tolerance}").ok(),
+        Request::Wake { cpu } => write!(text, "wake {cpu}").ok(),
+        Request::Perf { cpu, index } => write!(text, "perf {cpu} {index}").ok(),
+        Request::Throttle { cpu, index } => write!(text, "throttle {cpu} {index}").ok(),
+        Request::PerfLimit { cpu, n } => write!(text, "plimit {cpu} {n}").ok(),
+        Request::ThrottleLimit { cpu, n } => write!(text, "tlimit {cpu} {n}").ok(),
+    }
 }

@@ -18,7 +18,8 @@ pub fn put_ops(text: &mut String, ops: &[Op]) -> Option<()> {
     Some(())
 }
 
-fn put_reply(text: &mut String, reply: &Reply) -> Option<()> {
+/// A reply: `entered 2 1`, `running`, `stands 0`, or `refused` and why.
+pub fn put_reply(text: &mut String, reply: &Reply) -> Option<()> {
     match reply {
         Reply::Entered { chain } => {
             text.push_str("entered").ok()?;

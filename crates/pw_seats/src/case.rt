@@ -1,0 +1,129 @@
+ghost use Rattle.std.specs.Prelude.{◌≡◌, ◌≤◌};
+ghost use Rattle.pw_turns.specs.Owning.{Owns};
+ghost use Rattle.pw_seats.specs.Seats.{AreSeats, parts_of};
+
+use crate::play::play;
+use crate::replay::{Heard, all_agree};
+use crate::seats::{Shared, gathered};
+use crate::text::{put_entries, put_open_fault};
+use pw_machines::{plan_of, u32_at};
+use pw_plan::Plan;
+use pw_regs::FailingRegisters;
+use pw_turns::{Closed, Coordinator, Seat};
+use std::alloc::Global;
+use std::sync::Wait;
+use std::thread::Threads;
+
+/// A case has so many seats at a time at most.
+const MOST_SEATS: usize = 8;
+
+/// The most entries that are written out.
+const MOST_ENTRIES: usize = 8;
+
+/// Registers with room for so many operations, as the second word says, which fail at the calls of the
+/// words behind it.
+fn registers_of(alloc: Global, opening: &str) -> Option<FailingRegisters> {
+    let room = u32_at(opening, 1)?;
+    let mut fails = Vec::new(alloc);
+    for word in opening.split_whitespace().skip(2) {
+        fails.push(word.parse::<u32>().ok()?).ok()?;
+    }
+    FailingRegisters::new(alloc, room, fails).ok()
+}
+
+/// What the calls of lines tell, each in a line.
+fn play_all<R: Threads + Wait + Sync>(
+    rt: &R,
+    text: &mut String,
+    alloc: Global,
+    heard: &mut Vec<Heard>,
+    shared: &Shared,
+    seats: &mut Vec<Seat>,
+    lines: &str,
+) -> Option<()>
+    requires { AreSeats shared.now.table.shared.table_id seats.old.items 65536 }
+    ensures { AreSeats shared.now.table.shared.table_id seats.new.items 65536 }
+{
+    for line in lines.lines() {
+        if !line.is_empty() && !line.starts_with("#") {
+            write!(text, "\n  {line} -> ").ok()?;
+            play(rt, text, alloc, heard, shared, seats, line)?;
+        }
+    }
+    Some(())
+}
+
+/// What a closed coordinator leaves.
+fn put_closed(
+    text: &mut String,
+    alloc: Global,
+    closed: &Closed<FailingRegisters>,
+    heard: &[Heard],
+) -> Option<()> {
+    let sealed = closed.sealed();
+    let entries = sealed.entries();
+    let count = entries.len();
+    let ops = closed.regs().log().len();
+    let agree = all_agree(alloc, sealed.plan(), entries, heard)?;
+    write!(text, "\n  close -> {count} entries, all agree {agree}").ok()?;
+    if count > MOST_ENTRIES {
+        return Some(());
+    }
+    write!(text, ", {ops} operations").ok()?;
+    put_entries(text, entries)
+}
+
+/// Makes the calls of the lines, and closes the coordinator.
+fn played<R: Threads + Wait + Sync>(
+    rt: &R,
+    text: &mut String,
+    alloc: Global,
+    shared: Shared,
+    mut seats: Vec<Seat>,
+    lines: &str,
+) -> Option<()>
+    requires { AreSeats shared.table.shared.table_id seats.items 65536 }
+{
+    let mut heard = Vec::new(alloc);
+    let told = play_all(rt, text, alloc, &mut heard, &shared, &mut seats, lines);
+    let seat = gathered(&shared, seats);
+    let closed = shared.close(seat);
+    told?;
+    put_closed(text, alloc, &closed, heard.as_slice())
+}
+
+/// `open CAPACITY ROOM FAILS ..`, and lines of calls.
+fn opened<R: Threads + Wait + Sync>(
+    rt: &R,
+    text: &mut String,
+    alloc: Global,
+    plan: Plan,
+    calls: &str,
+) -> Option<()> {
+    let (opening, lines) = calls.split_once("\n").unwrap_or((calls, ""));
+    let capacity = u32_at(opening, 0)?;
+    if capacity > 65536 {
+        return None;
+    }
+    let regs = registers_of(alloc, opening)?;
+    let mut seats = Vec::with_capacity(alloc, MOST_SEATS).ok()?;
+    write!(text, "  open {opening} -> ").ok()?;
+    match Coordinator::open(alloc, plan, regs, capacity) {
+        Err(why) => put_open_fault(text, &why),
+        Ok((shared, seat)) => {
+            seats.push_reserved(seat);
+            let told = text.push_str("opened").ok();
+            let rest = played(rt, text, alloc, shared, seats, lines);
+            told.and(rest)
+        }
+    }
+}
+
+/// What the calls of a case tell.
+pub fn told<R: Threads + Wait + Sync>(rt: &R, alloc: Global, lines: &str) -> Option<String> {
+    let (machine, calls) = lines.split_once("\nopen ")?;
+    let plan = plan_of(alloc, machine).ok()?;
+    let mut text = String::new(alloc);
+    opened(rt, &mut text, alloc, plan, calls)?;
+    Some(text)
+}
