@@ -1,0 +1,57 @@
+-- A worker's requests, one by one.
+use Rattle.std.proofs.Common.{◌≡◌, ◌≢◌, ◌≤◌, ◌<◌, ◌+◌, ℕ, Bool, true, false, List, [], ◌∷◌, ◌++◌, take, length, get_or, Some, None, refl, ap, sym, ◌∙◌, subst, arith, inl, inr}
+use Rattle.pw_plan.specs.declared.request.Request.{Request}
+use Rattle.pw_plan.specs.declared.request.Request.TheVariants.{Idle, Wake, Perf, Throttle, PerfLimit, ThrottleLimit}
+use Rattle.pw_model.specs.declared.entry.HistoryEntry.{HistoryEntry}
+use Rattle.pw_model.specs.History.{Faultless, request_of}
+use Rattle.pw_journal.specs.Entries.{fault_place}
+use Rattle.pw_journal.proofs.Places.{faultless_none}
+use Rattle.pw_machine.specs.declared.view.Calls.{Calls}
+use Rattle.pw_machine.specs.declared.view.View.{View}
+use Rattle.pw_machine.specs.Books.{grown}
+use Rattle.pw_machine.specs.Machine.{Given}
+use Rattle.pw_turns.specs.Asked.{entry_as}
+use Rattle.pw_turns.specs.Finished.{Finished}
+use Rattle.pw_turns.specs.declared.waited.Done.{Done}
+use Rattle.pw_turns.specs.declared.waited.Done.TheVariants.{Answer, Full, RegisterFault, Stopped}
+use Rattle.pw_interleaved.specs.Workers.{HasAsked, Worked}
+use Rattle.pw_interleaved.proofs.Lines.{asked_next, faults, filled_part, worked_part, worked_whole}
+use Rattle.pw_workers.specs.inner.Workers.{MadeLines}
+
+as_request : (n : ℕ) (q : Request) (fault : ℕ) → request_of (entry_as n q fault) ≡ q
+as_request n (Idle p s t) fault = refl
+as_request n (Wake p) fault = refl
+as_request n (Perf p i) fault = refl
+as_request n (Throttle p i) fault = refl
+as_request n (PerfLimit p i) fault = refl
+as_request n (ThrottleLimit p i) fault = refl
+
+as_seat : (n : ℕ) (q : Request) (fault : ℕ) → (entry_as n q fault).seat ≡ n
+as_seat n (Idle p s t) fault = refl
+as_seat n (Wake p) fault = refl
+as_seat n (Perf p i) fault = refl
+as_seat n (Throttle p i) fault = refl
+as_seat n (PerfLimit p i) fault = refl
+as_seat n (ThrottleLimit p i) fault = refl
+
+-- one more request is made
+module _ (lines : List Request) (k : ℕ) (q : Request) (lt : k < length lines) (is : q ≡ get_or lines k q) (v w : View) (number : w.number ≡ v.number)
+    (asked : HasAsked (take k lines) v.number v.book) where
+  one_more : (fault : ℕ) → w.book ≡ grown v.book (entry_as v.number q fault) → HasAsked (take (k + 1) lines) w.number w.book
+  one_more fault book = subst (λ n. HasAsked (take (k + 1) lines) n w.book) (sym number) (subst (HasAsked (take (k + 1) lines) v.number) (sym book)
+      (asked_next lines k v.number v.book (entry_as v.number q fault) q asked lt (sym is ∙ sym (as_request v.number q fault)) (as_seat v.number q fault)))
+
+  same_lines : w.book ≡ v.book → HasAsked (take k lines) w.number w.book
+  same_lines book = subst (λ n. HasAsked (take k lines) n w.book) (sym number) (subst (HasAsked (take k lines) v.number) (sym book) asked)
+
+module _ (given : Given) (lines : List Request) (k : ℕ) (q : Request) (lt : k < length lines) (is : q ≡ get_or lines k q) (v w : View)
+    (asked : HasAsked (take k lines) v.number v.book) where
+  -- it was answered
+  pub goes_on : (d : Done) → Finished given v q d w → (reply : _) → d ≡ Answer reply → HasAsked (take (k + 1) lines) w.number w.book
+  goes_on d told reply e = let t = subst (λ x. Finished given v q x w) e told in one_more lines k q lt is v w t.0.0 asked 0 t.1.0.book
+
+  pub same_parts : (d : Done) → Finished given v q d w → w.parts ≡ v.parts
+  same_parts (Answer reply) told = told.0.1.0
+  same_parts (Full capacity) told = told.0.1.0
+  same_parts (RegisterFault done) told = told.0.1.0
+  same_parts (Stopped at) told = told.0.1.0
