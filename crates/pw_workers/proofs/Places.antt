@@ -58,7 +58,7 @@ above_apart : (n c : ℕ) (ws : List Gathered) → c < n → AllByRecursion (λ 
 above_apart n c [] lt above = tt
 above_apart n c (w ∷ ws) lt above = let here = above.0 in ((λ is. absurd (omega (arith, lt, here, is))), above_apart n c ws lt above.1)
 
-gathered_more : (ws : List Worker) (w : Worker) → map gathered (ws ++ w ∷ []) ≡ map gathered ws ++ gathered w ∷ []
+pub gathered_more : (ws : List Worker) (w : Worker) → map gathered (ws ++ w ∷ []) ≡ map gathered ws ++ gathered w ∷ []
 gathered_more ws w = map-append gathered ws (w ∷ [])
 
 -- a processor without lines
