@@ -1,9 +1,8 @@
 -- What a run by workers is to its caller.
-use Rattle.std.proofs.Common.{◌≡◌, ◌≤◌, ◌++◌, ◌∙◌, ℕ, Bool, true, false, List, Vec, [], ◌∷◌, map, length, Option, Some, None, refl, ap, sym, subst, arith, append-nil, inl, inr}
+use Rattle.std.proofs.Common.{◌≡◌, ◌≤◌, ◌++◌, ◌+◌, ◌∙◌, ℕ, Bool, true, false, List, Vec, [], ◌∷◌, map, length, Option, Some, None, refl, ap, sym, subst, arith, append-nil, inl, inr}
 use Rattle.std.specs.Prelude.{is_some}
 use Rattle.std.specs.List.{AllByRecursion}
 use Rattle.std.specs.declared.alloc.Global.{Global}
-use Rattle.std.proofs.lemmas.List.{length-map}
 use Rattle.pw_base.specs.Outside.{Rose}
 use Rattle.pw_plan.specs.declared.plan.Plan.{Plan}
 use Rattle.pw_plan.specs.declared.request.Request.{Request}
@@ -32,6 +31,10 @@ pub lists_for : (P : Plan) (lines : List Line) (lists : List (Vec Request Global
     → AreLists (requests_of lines) (length P.cpus) lists → AreListsFor P lists
 lists_for P lines lists has are = record { asked = requests_of lines; has = lines_have P lines has; are = are }
 
+lines_size : (lines : List Line) → length (requests_of lines) ≡ length lines
+lines_size [] = refl
+lines_size (l ∷ ls) = ap (λ n. n + 1) (lines_size ls)
+
 where_fault : (o : Option ℕ) (a b : ℕ) → ((k : ℕ) → o ≡ Some k → Rose a b) → is_some o ≡ true → Rose a b
 where_fault None a b rose e = cc
 where_fault (Some k) a b rose e = rose k refl
@@ -50,7 +53,7 @@ module _ {R : Type 0} (by : Registers R) (P : Plan) (lines : List Line) (regs : 
   runs told g lists entries left is same has are m =
       let m : Makes by told given lists entries left = subst (λ x. Makes by told x lists entries left) same m in
       let asked = requests_of lines in
-      let made : MadeByWorkers asked m.workers m.last.book entries = m.made asked (lines_have P lines has) are (sym (length-map (λ (l : Line). l.request) lines)) in
+      let made : MadeByWorkers asked m.workers m.last.book entries = m.made asked (lines_have P lines has) are (sym (lines_size lines)) in
       let by_seats = workers-asked asked entries m.workers m.last.book made in
       record {
         lawful = asked-run asked (seat_of m.workers) entries by_seats P m.ends.legal;
@@ -69,7 +72,7 @@ module _ {R : Type 0} (by : Registers R) (P : Plan) (lines : List Line) (regs : 
       record {
         same_told = n.ends.same_told ∙ is;
         count = n.ends.least;
-        log = λ tells. n.ends.ops (is ∙ tells) ∙ ap (λ l. by.log regs ++ opening_ops P ++ l) (no_ops P) ∙ ap (λ l. by.log regs ++ l) (append-nil (opening_ops P));
+        log = λ tells. n.ends.ops (is ∙ tells) ∙ ap (λ l. by.log regs ++ (opening_ops P ++ l)) (no_ops P) ∙ ap (λ l. by.log regs ++ l) (append-nil (opening_ops P));
       }
 
   pub stops : (done : ℕ) (left : R) → FailsAfter by P regs done left → Runs P lines (Some done) [] (registers_seen by regs) (registers_seen by left)

@@ -1,6 +1,7 @@
 -- What comes of workers that ended, and of such as never began.
-use Rattle.std.proofs.Common.{◌≡◌, ◌≢◌, ◌≤◌, ◌<◌, ◌+◌, ℕ, suc, Bool, true, false, cond, List, Vec, [], ◌∷◌, ◌++◌, map, filter, length, get_or, refl, ap, sym, ◌∙◌, subst, arith, inl, inr}
+use Rattle.std.proofs.Common.{◌≡◌, ◌≢◌, ◌≤◌, ◌<◌, ◌+◌, ℕ, suc, Bool, true, false, cond, List, Vec, [], ◌∷◌, ◌++◌, map, filter, length, get_or, take, refl, ap, sym, ◌∙◌, subst, arith, inl, inr}
 use Rattle.std.specs.List.{AllByRecursion}
+use Rattle.std.proofs.Math.Seq.{take-append_seam}
 use Rattle.std.specs.declared.alloc.Global.{Global}
 use Rattle.atomic_table.specs.Seated.{TableId}
 use Rattle.pw_plan.specs.declared.plan.Plan.{Plan}
@@ -73,6 +74,14 @@ all_ended id room [] [] size each = tt
 all_ended id room [] (w ∷ ws) size each = absurd (omega (arith, size))
 all_ended id room (v ∷ vs) [] size each = absurd (omega (arith, size))
 all_ended id room (v ∷ vs) (w ∷ ws) size each = (each 0 v (omega arith), all_ended id room vs ws (omega (arith, size)) (λ k d lt. each (suc k) d (omega (arith, lt))))
+
+pub all_ended_behind : (id : TableId) (room : ℕ) (vs ws old : List Worker) → old ≡ vs → length ws ≡ length old
+    → ((k : ℕ) (d : Worker) → k < length old → HasEnded id room (get_or old k d) (get_or ws k d)) → AllEnded id room vs ws
+all_ended_behind id room vs ws old is size each = subst (λ l. AllEnded id room l ws) is (all_ended id room old ws size each)
+
+-- what a loan of all elements leaves
+pub written_back : {X : Type 0} (xs ys : List X) (n : ℕ) → length xs ≡ n → take n (xs ++ ys) ≡ xs
+written_back xs ys n size = ap (λ (k : ℕ). take k (xs ++ ys)) (sym size) ∙ take-append_seam xs ys
 
 other_cpus : (id : TableId) (room c : ℕ) (vs ws : List Worker) → AllEnded id room vs ws → AllByRecursion (λ (x : Gathered). x.cpu ≢ c) (map gathered vs)
     → AllByRecursion (λ (x : Gathered). x.cpu ≢ c) (map gathered ws)

@@ -17,8 +17,9 @@ begins_later : (a b c : List HistoryEntry) → Begins c b → Begins b a → Beg
 begins_later a b c later first = (first.0 ++ later.0, later.1 ∙ ap (λ l. l ++ later.0) first.1 ∙ append_assoc a first.0 later.0)
 
 -- no more seats
-pub gathered_none : (v : View) → IsGathered v [] v
-gathered_none v = record { seen = ([], sym (append-nil v.seen)); saw = tt; book = refl; parts = omega arith }
+pub gathered_end : (v : View) (ws : List Worker) → length ws ≡ 0 → IsGathered v ws v
+gathered_end v [] none = record { seen = ([], sym (append-nil v.seen)); saw = tt; book = refl; parts = omega arith }
+gathered_end v (w ∷ ws) none = absurd (omega (arith, none))
 
 -- the last worker's seat is joined
 pub gathered_last : (v u r : View) (ws : List Worker) (w : Worker) → IsJoin v (view_of w) u → (view_of w).parts ≡ 1 → IsGathered u ws r → IsGathered v (ws ++ w ∷ []) r

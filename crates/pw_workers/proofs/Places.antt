@@ -34,7 +34,7 @@ pub left_all : (all : List (Vec Request Global)) → AreLeft all all
 left_all all = record { few = omega arith; same = λ p d lt. refl }
 
 module _ (left rest all : List (Vec Request Global)) (x : Vec Request Global) (is : left ≡ rest ++ x ∷ []) (l : AreLeft left all) where
-  size : length left ≡ length rest + 1
+  pub size : length left ≡ length rest + 1
   size = ap length is ∙ length-append rest (x ∷ [])
 
   pub left_fewer : AreLeft rest all
@@ -95,3 +95,36 @@ seated_none id lists = record { each = tt; apart = tt }
 
 pub served_all : (lists : List (Vec Request Global)) (ws : List Worker) → AllSeatedFrom 0 lists ws → AllSeated lists ws
 served_all lists ws served = λ p d lt some. served p d (omega arith) lt some
+
+-- A list is taken off, and its processor has no lines, or gets a worker.
+module _ (id : TableId) (all left rest : List (Vec Request Global)) (x : Vec Request Global) (is : left ≡ rest ++ x ∷ []) (l : AreLeft left all) (ws : List Worker)
+    (above : AreAbove (length left) ws) (served : AllSeatedFrom (length left) all ws) where
+  above_behind : AreAbove (length rest + 1) ws
+  above_behind = subst (λ n. AreAbove n ws) (size left rest all x is l) above
+
+  served_behind : AllSeatedFrom (length rest + 1) all ws
+  served_behind = subst (λ n. AllSeatedFrom n all ws) (size left rest all x is l) served
+
+  pub passed_above : AreAbove (length rest) ws
+  passed_above = above_fewer (length rest) ws above_behind
+
+  pub passed_served : length x.items ≡ 0 → AllSeatedFrom (length rest) all ws
+  passed_served none = served_none (length rest) all ws x (left_last left rest all x is l) (empty x.items none) served_behind
+    where
+      empty : (qs : List Request) → length qs ≡ 0 → qs ≡ []
+      empty [] e = refl
+      empty (q ∷ qs) e = absurd (omega (arith, e))
+
+  module _ (w : Worker) (more : List Worker) (are : more ≡ ws ++ w ∷ []) (cpu : w.cpu ≡ length rest) where
+    pub taken_above : AreAbove (length rest) more
+    taken_above = subst (AreAbove (length rest)) (sym are) (above_more id all (length rest) ws w cpu above_behind)
+
+    pub taken_served : AllSeatedFrom (length rest) all more
+    taken_served = subst (AllSeatedFrom (length rest) all) (sym are) (served_more id all (length rest) ws w cpu served_behind)
+
+    pub taken_seated : HasSeat id w → w.requests ≡ x → AreSeated id all ws → AreSeated id all more
+    taken_seated seat requests seated = subst (AreSeated id all) (sym are)
+        (seated_more id all (length rest) ws w cpu (left_inside left rest all x is l) seat (λ d. requests ∙ left_last left rest all x is l d) above_behind seated)
+
+    pub taken_size : length more ≡ length ws + 1
+    taken_size = ap length are ∙ length-append ws (w ∷ [])

@@ -101,15 +101,12 @@ pub fn drive<T: Threads + Wait + Sync, R: Registers + Send, G: Gate + Sync>(
         return Err(regs);
     };
     match Coordinator::open(alloc, plan, regs, lines.len() as u32) {
-        Ok((coordinator, first)) => Ok(Drove::Closed(run(
-            rt,
-            alloc,
-            coordinator,
-            first,
-            lists,
-            workers,
-            gate,
-        )?)),
+        Ok((coordinator, first)) => {
+            match run(rt, alloc, coordinator, first, lists, workers, gate) {
+                Ok(closed) => Ok(Drove::Closed(closed)),
+                Err(regs) => Err(regs),
+            }
+        }
         Err(OpenFault::RegisterFault { done, plan, regs }) => {
             Ok(Drove::Opening { done, plan, regs })
         }

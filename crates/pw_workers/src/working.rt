@@ -77,7 +77,8 @@ pub(crate) fn work_all<T: Threads + Wait + Sync, R: Registers + Send, G: Gate + 
     gate: &G,
 )
     requires { AllByRecursion (IsReady coordinator.now.table.shared.table_id coordinator.now.plan) workers.old }
-    ensures { (k : ℕ) (d : worker) → k < length workers.old
+    ensures size { length workers.new ≡ length workers.old }
+    ensures ended { (k : ℕ) (d : worker) → k < length workers.old
         → HasEnded coordinator.now.table.shared.table_id (given_of R.Registers coordinator.now.table.shared.key).capacity
           (slice_index_or workers.old k d) (slice_index_or workers.new k d) }
 {
