@@ -1,5 +1,5 @@
 -- What a run by workers is to its caller.
-use Rattle.std.proofs.Common.{◌≡◌, ◌≤◌, ◌++◌, ◌+◌, ◌∙◌, ℕ, Bool, true, false, List, Vec, [], ◌∷◌, map, length, Option, Some, None, refl, ap, sym, subst, arith, append-nil, inl, inr}
+use Rattle.std.proofs.Common.{◌≡◌, ◌≤◌, ◌++◌, ◌∙◌, ℕ, suc, Bool, true, false, List, Vec, [], ◌∷◌, map, length, Option, Some, None, refl, ap, sym, subst, append-nil, append_assoc}
 use Rattle.std.specs.Prelude.{is_some}
 use Rattle.std.specs.List.{AllByRecursion}
 use Rattle.std.specs.declared.alloc.Global.{Global}
@@ -33,7 +33,7 @@ lists_for P lines lists has are = record { asked = requests_of lines; has = line
 
 lines_size : (lines : List Line) → length (requests_of lines) ≡ length lines
 lines_size [] = refl
-lines_size (l ∷ ls) = ap (λ n. n + 1) (lines_size ls)
+lines_size (l ∷ ls) = ap suc (lines_size ls)
 
 where_fault : (o : Option ℕ) (a b : ℕ) → ((k : ℕ) → o ≡ Some k → Rose a b) → is_some o ≡ true → Rose a b
 where_fault None a b rose e = cc
@@ -43,9 +43,9 @@ no_ops : (P : Plan) → history_ops P [] ≡ []
 unfolding history_ops
 no_ops P = refl
 
-module _ {R : Type 0} (by : Registers R) (P : Plan) (lines : List Line) (regs : R) where
+module _ {R : Type 0} (by : Registers R) (P : Plan) (lines : List Line) (n : ℕ) (size : n ≡ length lines) (regs : R) where
   abbrev pub given : Given
-  given = record { plan = P; capacity = length lines; ops = by.log regs; count = by.faults regs }
+  given = record { plan = P; capacity = n; ops = by.log regs; count = by.faults regs }
 
   pub runs : (told : Bool) (g : Given) (lists : List (Vec Request Global)) (entries : List HistoryEntry) (left : R) → told ≡ by.told regs → g ≡ given
       → AllByRecursion (λ (l : Line). Has P l.request) lines → AreLists (requests_of lines) (length P.cpus) lists → Makes by told g lists entries left
@@ -53,7 +53,7 @@ module _ {R : Type 0} (by : Registers R) (P : Plan) (lines : List Line) (regs : 
   runs told g lists entries left is same has are m =
       let m : Makes by told given lists entries left = subst (λ x. Makes by told x lists entries left) same m in
       let asked = requests_of lines in
-      let made : MadeByWorkers asked m.workers m.last.book entries = m.made asked (lines_have P lines has) are (sym (lines_size lines)) in
+      let made : MadeByWorkers asked m.workers m.last.book entries = m.made asked (lines_have P lines has) are (size ∙ sym (lines_size lines)) in
       let by_seats = workers-asked asked entries m.workers m.last.book made in
       record {
         lawful = asked-run asked (seat_of m.workers) entries by_seats P m.ends.legal;
@@ -61,7 +61,7 @@ module _ {R : Type 0} (by : Registers R) (P : Plan) (lines : List Line) (regs : 
         operates = record {
           same_told = m.ends.same_told ∙ is;
           count = m.ends.least;
-          log = λ tells. m.ends.ops (is ∙ tells);
+          log = λ tells. m.ends.ops (is ∙ tells) ∙ append_assoc (by.log regs) (opening_ops P) (history_ops P entries);
           fault = where_fault (fault_at entries) (by.faults regs) (by.faults left) m.ends.fault;
         };
       }
@@ -72,7 +72,7 @@ module _ {R : Type 0} (by : Registers R) (P : Plan) (lines : List Line) (regs : 
       record {
         same_told = n.ends.same_told ∙ is;
         count = n.ends.least;
-        log = λ tells. n.ends.ops (is ∙ tells) ∙ ap (λ l. by.log regs ++ (opening_ops P ++ l)) (no_ops P) ∙ ap (λ l. by.log regs ++ l) (append-nil (opening_ops P));
+        log = λ tells. n.ends.ops (is ∙ tells) ∙ ap (λ l. by.log regs ++ opening_ops P ++ l) (no_ops P) ∙ append-nil (by.log regs ++ opening_ops P);
       }
 
   pub stops : (done : ℕ) (left : R) → FailsAfter by P regs done left → Runs P lines (Some done) [] (registers_seen by regs) (registers_seen by left)
