@@ -50,11 +50,14 @@ requests_own id lists asked n w seated are =
 
 pub all_ready : (id : TableId) (P : Plan) (lists : List (Vec Request Global)) (ws : List Worker) → AreListsFor P lists → AllByRecursion (SeatedFor id lists) ws → AllByRecursion (IsReady id P) ws
 all_ready id P lists [] are seated = tt
-all_ready id P lists (w ∷ ws) are seated = (record {
+all_ready id P lists (w ∷ ws) are seated = (
+  record {
     owns = seated.0.seat.owns;
     fresh = seated.0.seat.fresh;
     has = subst (AllByRecursion (Has P)) (sym (requests_own id lists are.asked (length P.cpus) w seated.0 are.are)) (each_own P w.cpu are.asked are.has);
-  }, all_ready id P lists ws are seated.1)
+  },
+  all_ready id P lists ws are seated.1,
+)
 
 pub all_members : (id : TableId) (lists : List (Vec Request Global)) (ws : List Worker) → AllByRecursion (SeatedFor id lists) ws → AllByRecursion (IsMember id) ws
 all_members id lists [] seated = tt
@@ -95,8 +98,9 @@ apart_still id room [] [] ended apart = tt
 apart_still id room [] (w ∷ ws) ended apart = absurd ended
 apart_still id room (v ∷ vs) [] ended apart = absurd ended
 apart_still id room (v ∷ vs) (w ∷ ws) ended apart = (
-    subst (λ c. AllByRecursion (λ (x : Gathered). x.cpu ≢ c) (map gathered ws)) (sym ended.0.cpu) (other_cpus id room v.cpu vs ws ended.1 apart.0),
-    apart_still id room vs ws ended.1 apart.1)
+  subst (λ c. AllByRecursion (λ (x : Gathered). x.cpu ≢ c) (map gathered ws)) (sym ended.0.cpu) (other_cpus id room v.cpu vs ws ended.1 apart.0),
+  apart_still id room vs ws ended.1 apart.1,
+)
 
 has_still : (id : TableId) (room p : ℕ) (vs ws : List Worker) → AllEnded id room vs ws → HasWorker (map gathered vs) p → HasWorker (map gathered ws) p
 has_still id room p [] ws ended has = absurd has
@@ -121,9 +125,10 @@ each_ended id lists asked n [] [] ended seated are = tt
 each_ended id lists asked n [] (w ∷ ws) ended seated are = absurd ended
 each_ended id lists asked n (v ∷ vs) [] ended seated are = absurd ended
 each_ended id lists asked n (v ∷ vs) (w ∷ ws) ended seated are = (
-    made_lines v.requests.items (own w.cpu asked) (length asked) (length asked) (view_of w)
-        (requests_own id lists asked n v seated.0 are ∙ ap (λ c. own c asked) (sym ended.0.cpu)) refl ended.0.made,
-    each_ended id lists asked n vs ws ended.1 seated.1 are)
+  made_lines v.requests.items (own w.cpu asked) (length asked) (length asked) (view_of w)
+      (requests_own id lists asked n v seated.0 are ∙ ap (λ c. own c asked) (sym ended.0.cpu)) refl ended.0.made,
+  each_ended id lists asked n vs ws ended.1 seated.1 are,
+)
 
 each_saw : (es seen : List HistoryEntry) (ws : List Worker) → es ≡ seen → AllByRecursion (λ w. Begins seen (view_of w).seen) ws → AllByRecursion (λ (w : Gathered). Begins es w.seen) (map gathered ws)
 each_saw es seen [] is saw = tt
@@ -173,14 +178,14 @@ module _ {R : Type 0} (by : Registers R) (told : Bool) (given : Given) where
 
   silent_none : (book : List Calls) (es : List HistoryEntry) → Silent book → Knows book es → ((n : ℕ) → 0 < length (entries_of n es) → count_in n book ≡ 1) → es ≡ []
   silent_none book es silent knows seats = none_seated (seat_of []) es (workers-asked [] es [] book record {
-      ended = tt;
-      apart = tt;
-      all = λ p some. absurd (some refl);
-      saw = tt;
-      joined = record { first = book; silent = silent; joined = inl refl };
-      knows = knows;
-      numbers = counted_once book es seats;
-    }).seated
+    ended = tt;
+    apart = tt;
+    all = λ p some. absurd (some refl);
+    saw = tt;
+    joined = record { first = book; silent = silent; joined = inl refl };
+    knows = knows;
+    numbers = counted_once book es seats;
+  }).seated
 
   pub leaves_none : (id : TableId) (lists : List (Vec Request Global)) (ws : List Worker) (v : View) (entries : List HistoryEntry) (regs : R) → v.book ≡ calls_of 0 [] ∷ []
       → AreSeated id lists ws → EndsWith by told given v ws entries regs → LeavesNone by told given regs
@@ -188,6 +193,6 @@ module _ {R : Type 0} (by : Registers R) (told : Bool) (given : Given) where
     last = e.last;
     ends = subst (λ es. Ends by told given e.last es regs)
         (silent_none e.last.book entries
-            (subst Silent (sym e.gathered.book) (silent_down id lists v.book ws (subst Silent (sym silent) (refl, tt)) seated.each)) e.ends.lists e.ends.seats)
+        (subst Silent (sym e.gathered.book) (silent_down id lists v.book ws (subst Silent (sym silent) (refl, tt)) seated.each)) e.ends.lists e.ends.seats)
         e.ends;
   }

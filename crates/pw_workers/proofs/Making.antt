@@ -1,9 +1,10 @@
 -- A worker's requests, one by one.
 use Rattle.std.proofs.Common.{◌≡◌, ◌≢◌, ◌≤◌, ◌<◌, ◌+◌, ℕ, Bool, true, false, List, [], ◌∷◌, ◌++◌, take, length, get_or, Some, None, refl, ap, sym, ◌∙◌, subst, arith, inl, inr}
+use Rattle.std.proofs.lemmas.Bool.{false≢true, true≢false}
+use Rattle.std.proofs.lemmas.Option.{none-some}
 use Rattle.pw_plan.specs.declared.request.Request.{Request}
 use Rattle.pw_plan.specs.declared.request.Request.TheVariants.{Idle, Wake, Perf, Throttle, PerfLimit, ThrottleLimit}
 use Rattle.pw_model.specs.declared.entry.HistoryEntry.{HistoryEntry}
-use Rattle.pw_model.specs.declared.reply.Reply.{Reply}
 use Rattle.pw_model.specs.History.{Faultless, request_of}
 use Rattle.pw_journal.specs.Entries.{fault_place}
 use Rattle.pw_journal.proofs.Places.{faultless_none}
@@ -17,10 +18,7 @@ use Rattle.pw_turns.specs.declared.waited.Done.{Done}
 use Rattle.pw_turns.specs.declared.waited.Done.TheVariants.{Answer, Full, RegisterFault, Stopped}
 use Rattle.pw_interleaved.specs.Workers.{HasAsked, Worked}
 use Rattle.pw_interleaved.proofs.Lines.{asked_next, faults, filled_part, worked_part, worked_whole}
-use Rattle.pw_workers.specs.inner.Workers.{MadeLines}
-
-pub true_false : true ≡ false → ⊥
-true_false e = cc
+use Rattle.pw_workers.specs.inner.Workers.{MadeLines, is_answer}
 
 as_request : (n : ℕ) (q : Request) (fault : ℕ) → request_of (entry_as n q fault) ≡ q
 as_request n (Idle p s t) fault = refl
@@ -51,8 +49,11 @@ module _ (lines : List Request) (k : ℕ) (q : Request) (lt : k < length lines) 
 module _ (given : Given) (lines : List Request) (k : ℕ) (q : Request) (lt : k < length lines) (z : Request) (is : q ≡ get_or lines k z) (v w : View)
     (asked : HasAsked (take k lines) v.number v.book) where
   -- it was answered
-  pub goes_on : (d : Done) → Finished given v q d w → (reply : Reply) → d ≡ Answer reply → HasAsked (take (k + 1) lines) w.number w.book
-  goes_on d told reply e = let t = subst (λ x. Finished given v q x w) e told in one_more lines k q lt z is v w t.0.0 asked 0 t.1.book
+  pub goes_on : (d : Done) → Finished given v q d w → is_answer d ≡ true → HasAsked (take (k + 1) lines) w.number w.book
+  goes_on (Answer reply) told e = one_more lines k q lt z is v w told.0.0 asked 0 told.1.book
+  goes_on (Full capacity) told e = absurd (false≢true e)
+  goes_on (RegisterFault done) told e = absurd (false≢true e)
+  goes_on (Stopped at) told e = absurd (false≢true e)
 
   pub same_parts : (d : Done) → Finished given v q d w → w.parts ≡ v.parts
   same_parts (Answer reply) told = told.0.1
@@ -64,10 +65,7 @@ module _ (given : Given) (lines : List Request) (k : ℕ) (q : Request) (lt : k 
   room e = omega (arith, e)
 
   faulty : (at : ℕ) → fault_place w.seen ≡ Some at → Faultless w.seen → ⊥
-  faulty at e none = none_some (sym (faultless_none w.seen none) ∙ e)
-    where
-      none_some : None ≡ Some at → ⊥
-      none_some e = cc
+  faulty at e none = none-some at (sym (faultless_none w.seen none) ∙ e)
 
   stopped : (fault : ℕ) → w.number ≡ v.number → (before : List HistoryEntry) → w.seen ≡ before ++ entry_as v.number q (fault + 1) ∷ [] → w.book ≡ grown v.book (entry_as v.number q (fault + 1))
       → MadeLines lines given.capacity w
@@ -83,10 +81,10 @@ module _ (given : Given) (lines : List Request) (k : ℕ) (q : Request) (lt : k 
       as_fault n (ThrottleLimit p i) f e = omega (arith, e)
 
   -- it was not answered
-  pub ends_here : (d : Done) → Finished given v q d w → ((reply : Reply) → d ≡ Answer reply → ⊥) → MadeLines lines given.capacity w
-  ends_here (Answer reply) told other = absurd (other reply refl)
-  ends_here (Full capacity) told other =
+  pub ends_here : (d : Done) → Finished given v q d w → is_answer d ≡ false → MadeLines lines given.capacity w
+  ends_here (Answer reply) told e = absurd (true≢false e)
+  ends_here (Full capacity) told e =
       inr (filled_part lines given.capacity k w.number w.book w.seen (same_lines lines k q lt z is v w told.0.0 asked told.1.book) (room (told.3 ∙ told.2)))
-  ends_here (RegisterFault done) told other = let x = told.1 in stopped done told.0.0 (v.seen ++ x.between) x.seen x.book
-  ends_here (Stopped at) told other =
+  ends_here (RegisterFault done) told e = let x = told.1 in stopped done told.0.0 (v.seen ++ x.between) x.seen x.book
+  ends_here (Stopped at) told e =
       inl (worked_part lines k w.number w.book w.seen (same_lines lines k q lt z is v w told.0.0 asked told.1.book) (faulty at told.2))

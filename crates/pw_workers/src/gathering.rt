@@ -11,11 +11,7 @@ use pw_regs::Registers;
 use pw_turns::{Closed, Coordinator, Seat};
 
 /// Joins the workers' seats into the first one, from the last to the first.
-fn gather<R: Registers>(
-    coordinator: &Coordinator<R>,
-    first: Seat,
-    mut workers: Vec<Worker>,
-) -> Seat
+fn gather<R: Registers>(coordinator: &Coordinator<R>, first: Seat, mut workers: Vec<Worker>) -> Seat
     requires owns { Owns coordinator.now.table.shared.table_id first }
     requires workers { AllByRecursion (IsMember coordinator.now.table.shared.table_id) workers.items }
     ensures owns { Owns coordinator.now.table.shared.table_id result }

@@ -7,7 +7,7 @@ ghost use Rattle.pw_rule.specs.Rule.{given_of};
 ghost use Rattle.pw_turns.specs.Owning.{Owns};
 ghost use Rattle.pw_turns.specs.Views.{view_in};
 ghost use Rattle.pw_workers.specs.declared.working.Worker.{Worker as worker};
-ghost use Rattle.pw_workers.specs.inner.Workers.{HasEnded, IsReady, MadeLines};
+ghost use Rattle.pw_workers.specs.inner.Workers.{HasEnded, IsReady, MadeLines, is_answer};
 
 use pw_base::Gate;
 use pw_plan::Request;
@@ -22,6 +22,13 @@ pub(crate) struct Worker {
     pub(crate) cpu: u32,
     pub(crate) requests: Vec<Request>,
     pub(crate) seat: Seat,
+}
+
+/// Whether a request has a reply, so that its worker goes on.
+fn was_answered(done: Done) -> bool
+    ensures { result ≡ is_answer done }
+{
+    matches!(done, Done::Answer(_))
 }
 
 /// Makes the requests in their order, up to a fault.
@@ -40,10 +47,8 @@ fn make_all<W: Wait, R: Registers, G: Gate>(
     ensures made { MadeLines requests.now (given_of R.Registers coordinator.now.table.shared.key).capacity (view_in seat.new.badge.views) }
 {
     for request in requests {
-        if !matches!(
-            coordinator.request(rt, seat, *request, gate),
-            Done::Answer(_)
-        ) {
+        let done = coordinator.request(rt, seat, *request, gate);
+        if !was_answered(done) {
             return;
         }
     }
@@ -80,10 +85,13 @@ pub(crate) fn work_all<T: Threads + Wait + Sync, R: Registers + Send, G: Gate + 
     ensures size { length workers.new ≡ length workers.old }
     ensures ended { (k : ℕ) (d : worker) → k < length workers.old
         → HasEnded coordinator.now.table.shared.table_id (given_of R.Registers coordinator.now.table.shared.key).capacity
-          (slice_index_or workers.old k d) (slice_index_or workers.new k d) }
+        (slice_index_or workers.old k d) (slice_index_or workers.new k d) }
 {
     let count = workers.len().max(1);
-    for_each_mut(rt, workers, count, &|_, worker| {
-        work(rt, coordinator, worker, gate)
-    });
+    for_each_mut(
+        rt,
+        workers,
+        count,
+        &|_, worker| { work(rt, coordinator, worker, gate) },
+    );
 }

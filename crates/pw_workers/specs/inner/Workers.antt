@@ -1,5 +1,5 @@
 -- A worker before and after it makes its requests.
-use Rattle.std.specs.Prelude.{◌≡◌, ◌⊎◌, ◌∷◌, ℕ, List, []}
+use Rattle.std.specs.Prelude.{◌≡◌, ◌⊎◌, ◌∷◌, ℕ, Bool, true, false, List, []}
 use Rattle.std.specs.List.{AllByRecursion}
 use Rattle.atomic_table.specs.Seated.{TableId}
 use Rattle.pw_plan.specs.declared.plan.Plan.{Plan}
@@ -9,9 +9,18 @@ use Rattle.pw_machine.specs.declared.view.View.{View}
 use Rattle.pw_machine.specs.Books.{calls_of}
 use Rattle.pw_turns.specs.Owning.{Owns}
 use Rattle.pw_turns.specs.Views.{view_in}
+use Rattle.pw_turns.specs.declared.waited.Done.{Done}
+use Rattle.pw_turns.specs.declared.waited.Done.TheVariants.{Answer, Full, RegisterFault, Stopped}
 use Rattle.pw_interleaved.specs.Workers.{Filled, Worked}
 use Rattle.pw_interleaved.specs.Workers.{Worker as Gathered}
 use Rattle.pw_workers.specs.declared.working.Worker.{Worker}
+
+-- the request has a reply
+abbrev pub is_answer : Done → Bool
+is_answer (Answer reply) = true
+is_answer (Full capacity) = false
+is_answer (RegisterFault done) = false
+is_answer (Stopped at) = false
 
 -- what the worker's seat knows
 abbrev pub view_of : Worker → View

@@ -10,7 +10,7 @@ run-requires-clause-lists g c κs within =
     let lines = c.args.script.now.lines in
     let lists = c.in-Ok.lists.items in
     subst (λ P. AreListsFor P lists) (sym c.in-Ok-open.ensures.plan)
-        (lists_for c.args.plan lines lists c.requires.has (subst (λ ls. AreLists (requests_of ls) (length c.args.plan.cpus) lists) c.as_slice-lines.ensures c.in-Ok.ensures.lists))
+    (lists_for c.args.plan lines lists c.requires.has (subst (λ ls. AreLists (requests_of ls) (length c.args.plan.cpus) lists) c.as_slice-lines.ensures c.in-Ok.ensures.lists))
 
 pub returns-in-Ok-run-clause-drove : goal.returns-in-Ok-run-clause-drove
 returns-in-Ok-run-clause-drove g c =
@@ -23,7 +23,7 @@ returns-in-Ok-run-clause-drove g c =
     let are = subst (λ ls. AreLists (requests_of ls) (length P.cpus) lists) c.as_slice-lines.ensures c.in-Ok.ensures.lists in (
       c.in-Ok-run.ensures.plan ∙ c.in-Ok-open.ensures.plan,
       runs by P lines _ (search rules) c.args.regs (told_of by key) (given_of by key) lists closed.sealed.entries closed.regs c.in-Ok-open.ensures.told c.in-Ok-open.ensures.given
-      c.requires.has are c.in-Ok-run.ensures.made,
+          c.requires.has are c.in-Ok-run.ensures.made,
     )
 
 pub returns-in-Ok-open-clause-given_back : goal.returns-in-Ok-open-clause-given_back

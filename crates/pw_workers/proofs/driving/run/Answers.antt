@@ -15,15 +15,15 @@ returns-then-is_err-clause-given_back g c =
     let key = c.args.coordinator.table.shared.key in
     let by = g.R.Registers in
     subst (LeavesNone by (told_of by key) (given_of by key)) (sym (ap (λ p. p.1) c.into_parts-regs.ensures))
-        (leaves_none by (told_of by key) (given_of by key) c.args.coordinator.table.shared.table_id c.args.lists.items c.seat_all.new.workers.items
-        (view_in c.seat_all.new.first.badge.views) c.end.result.sealed.entries c.end.result.regs (c.seat_all.ensures.book ∙ c.requires.silent) c.seat_all.ensures.seated c.end.ensures.ends)
+    (leaves_none by (told_of by key) (given_of by key) c.args.coordinator.table.shared.table_id c.args.lists.items c.seat_all.new.workers.items
+    (view_in c.seat_all.new.first.badge.views) c.end.result.sealed.entries c.end.result.regs (c.seat_all.ensures.book ∙ c.requires.silent) c.seat_all.ensures.seated c.end.ensures.ends)
 
 pub work_all-requires-after_bounds : goal.work_all-requires-after_bounds
 work_all-requires-after_bounds g c κs within =
     let id = c.args.coordinator.table.shared.table_id in
     let P = c.args.coordinator.plan in
     subst (AllByRecursion (IsReady id P)) (sym c.as_mut_slice.ensures.value)
-        (all_ready id P c.args.lists.items c.seat_all.new.workers.items c.requires.lists c.seat_all.ensures.seated.each)
+    (all_ready id P c.args.lists.items c.seat_all.new.workers.items c.requires.lists c.seat_all.ensures.seated.each)
 
 pub end-requires-2-clause-workers : goal.end-requires-2-clause-workers
 end-requires-2-clause-workers g c =
@@ -35,8 +35,8 @@ end-requires-2-clause-workers g c =
     let room = (given_of g.R.Registers key).capacity in
     let size = c.work_all.ensures.size ∙ ap length there in
     subst (AllByRecursion (IsMember id)) (sym (written_back ws (drop (length ws) vs) c.seat_all.new.workers.len (size ∙ sym (ap length there) ∙ c.as_mut_slice.ensures.len)))
-        (ended_members id room c.args.lists.items vs ws (all_ended_behind id room vs ws c.as_mut_slice.result.now there c.work_all.ensures.size c.work_all.ensures.ended)
-        c.seat_all.ensures.seated.each)
+    (ended_members id room c.args.lists.items vs ws (all_ended_behind id room vs ws c.as_mut_slice.result.now there c.work_all.ensures.size c.work_all.ensures.ended)
+    c.seat_all.ensures.seated.each)
 
 pub returns-clause-made : goal.returns-clause-made
 returns-clause-made g c =
