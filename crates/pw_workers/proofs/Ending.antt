@@ -1,5 +1,6 @@
 -- What comes of workers that ended, and of such as never began.
-use Rattle.std.proofs.Common.{◌≡◌, ◌≢◌, ◌≤◌, ◌<◌, ◌+◌, ℕ, suc, Bool, true, false, cond, List, Vec, [], ◌∷◌, ◌++◌, map, filter, length, get_or, take, refl, ap, sym, ◌∙◌, subst, arith, inl, inr}
+use Rattle.std.proofs.Common.{◌≡◌, ◌≢◌, ◌<◌, ◌+◌, ℕ, suc, Bool, true, false, cond, List, Vec, [], ◌∷◌, ◌++◌, map, length, get_or, take}
+use Rattle.std.proofs.Common.{refl, ap, sym, ◌∙◌, subst, arith, inl, inr}
 use Rattle.std.specs.List.{AllByRecursion}
 use Rattle.std.proofs.Math.Seq.{take-append_seam}
 use Rattle.std.specs.declared.alloc.Global.{Global}
@@ -16,16 +17,16 @@ use Rattle.pw_machine.specs.Machine.{Given}
 use Rattle.pw_notice.specs.Limits.{is_of, own}
 use Rattle.pw_regs.specs.declared.registers.Registers.{Ghosts as Registers}
 use Rattle.pw_turns.specs.Ends.{Ends}
-use Rattle.pw_interleaved.specs.Seats.{AskedBySeats, IsSeat}
-use Rattle.pw_interleaved.specs.Workers.{AreApart, Ended, HasWorker, MadeByWorkers, joined_down, seat_of}
+use Rattle.pw_interleaved.specs.Seats.{IsSeat}
+use Rattle.pw_interleaved.specs.Workers.{AreApart, Ended, HasWorker, joined_down, seat_of}
 use Rattle.pw_interleaved.specs.Workers.{Worker as Gathered}
 use Rattle.pw_interleaved.proofs.Gathering.{counted_once, has_all}
 use Rattle.pw_interleaved.proofs.Workers.{workers-asked}
 use Rattle.pw_workers.specs.declared.working.Worker.{Worker}
 use Rattle.pw_workers.specs.inner.Lists.{AreLists, AreListsFor}
 use Rattle.pw_workers.specs.inner.Workers.{HasEnded, IsReady, MadeLines, gathered, view_of}
-use Rattle.pw_workers.specs.inner.Seated.{AllSeated, AreSeated, HasSeat, SeatedFor}
-use Rattle.pw_workers.specs.inner.Gathered.{EndsWith, IsGathered, IsMember}
+use Rattle.pw_workers.specs.inner.Seated.{AllSeated, AreSeated, SeatedFor}
+use Rattle.pw_workers.specs.inner.Gathered.{EndsWith, IsMember}
 use Rattle.pw_workers.specs.inner.Runs.{LeavesNone, Makes}
 
 -- # Before they begin
@@ -43,7 +44,8 @@ some_list [] p lt = absurd (omega (arith, lt))
 some_list (x ∷ xs) p lt = x
 
 -- its requests are its processor's
-requests_own : (id : TableId) (lists : List (Vec Request Global)) (asked : List Request) (n : ℕ) (w : Worker) → SeatedFor id lists w → AreLists asked n lists → w.requests.items ≡ own w.cpu asked
+requests_own : (id : TableId) (lists : List (Vec Request Global)) (asked : List Request) (n : ℕ) (w : Worker) → SeatedFor id lists w → AreLists asked n lists
+    → w.requests.items ≡ own w.cpu asked
 requests_own id lists asked n w seated are =
     let d = some_list lists w.cpu seated.cpu in
     ap (λ (x : Vec Request Global). x.items) (seated.requests d) ∙ are.each w.cpu d (let lt = seated.cpu in let size = are.sized in omega (arith, lt, size))
@@ -130,7 +132,8 @@ each_ended id lists asked n (v ∷ vs) (w ∷ ws) ended seated are = (
   each_ended id lists asked n vs ws ended.1 seated.1 are,
 )
 
-each_saw : (es seen : List HistoryEntry) (ws : List Worker) → es ≡ seen → AllByRecursion (λ w. Begins seen (view_of w).seen) ws → AllByRecursion (λ (w : Gathered). Begins es w.seen) (map gathered ws)
+each_saw : (es seen : List HistoryEntry) (ws : List Worker) → es ≡ seen → AllByRecursion (λ w. Begins seen (view_of w).seen) ws
+    → AllByRecursion (λ (w : Gathered). Begins es w.seen) (map gathered ws)
 each_saw es seen [] is saw = tt
 each_saw es seen (w ∷ ws) is saw = (subst (λ l. Begins l (view_of w).seen) (sym is) saw.0, each_saw es seen ws is saw.1)
 
@@ -167,7 +170,8 @@ module _ {R : Type 0} (by : Registers R) (told : Bool) (given : Given) where
   abbrev Silent : List Calls → Type 0
   Silent book = AllByRecursion (λ (c : Calls). c.entries ≡ []) book
 
-  silent_down : (id : TableId) (lists : List (Vec Request Global)) (book : List Calls) (ws : List Worker) → Silent book → AllByRecursion (SeatedFor id lists) ws → Silent (joined_down book (map gathered ws))
+  silent_down : (id : TableId) (lists : List (Vec Request Global)) (book : List Calls) (ws : List Worker) → Silent book → AllByRecursion (SeatedFor id lists) ws
+      → Silent (joined_down book (map gathered ws))
   silent_down id lists book [] silent seated = silent
   silent_down id lists book (w ∷ ws) silent seated = each_append (λ (c : Calls). c.entries ≡ []) (joined_down book (map gathered ws)) (view_of w).book
       (silent_down id lists book ws silent seated.1) (subst Silent (sym seated.0.seat.fresh) (refl, tt))

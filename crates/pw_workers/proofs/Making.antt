@@ -1,5 +1,6 @@
 -- A worker's requests, one by one.
-use Rattle.std.proofs.Common.{◌≡◌, ◌≢◌, ◌≤◌, ◌<◌, ◌+◌, ℕ, Bool, true, false, List, [], ◌∷◌, ◌++◌, take, length, get_or, Some, None, refl, ap, sym, ◌∙◌, subst, arith, inl, inr}
+use Rattle.std.proofs.Common.{◌≡◌, ◌≢◌, ◌≤◌, ◌<◌, ◌+◌, ℕ, true, false, List, [], ◌∷◌, ◌++◌, take, length, get_or, Some}
+use Rattle.std.proofs.Common.{refl, sym, ◌∙◌, subst, arith, inl, inr}
 use Rattle.std.proofs.lemmas.Bool.{false≢true, true≢false}
 use Rattle.std.proofs.lemmas.Option.{none-some}
 use Rattle.pw_plan.specs.declared.request.Request.{Request}
@@ -8,7 +9,6 @@ use Rattle.pw_model.specs.declared.entry.HistoryEntry.{HistoryEntry}
 use Rattle.pw_model.specs.History.{Faultless, request_of}
 use Rattle.pw_journal.specs.Entries.{fault_place}
 use Rattle.pw_journal.proofs.Places.{faultless_none}
-use Rattle.pw_machine.specs.declared.view.Calls.{Calls}
 use Rattle.pw_machine.specs.declared.view.View.{View}
 use Rattle.pw_machine.specs.Books.{grown}
 use Rattle.pw_machine.specs.Machine.{Given}
@@ -16,8 +16,8 @@ use Rattle.pw_turns.specs.Asked.{entry_as}
 use Rattle.pw_turns.specs.Finished.{Finished}
 use Rattle.pw_turns.specs.declared.waited.Done.{Done}
 use Rattle.pw_turns.specs.declared.waited.Done.TheVariants.{Answer, Full, RegisterFault, Stopped}
-use Rattle.pw_interleaved.specs.Workers.{HasAsked, Worked}
-use Rattle.pw_interleaved.proofs.Lines.{asked_next, faults, filled_part, worked_part, worked_whole}
+use Rattle.pw_interleaved.specs.Workers.{HasAsked}
+use Rattle.pw_interleaved.proofs.Lines.{asked_next, faults, filled_part, worked_part}
 use Rattle.pw_workers.specs.inner.Workers.{MadeLines, is_answer}
 
 as_request : (n : ℕ) (q : Request) (fault : ℕ) → request_of (entry_as n q fault) ≡ q
@@ -67,7 +67,8 @@ module _ (given : Given) (lines : List Request) (k : ℕ) (q : Request) (lt : k 
   faulty : (at : ℕ) → fault_place w.seen ≡ Some at → Faultless w.seen → ⊥
   faulty at e none = none-some at (sym (faultless_none w.seen none) ∙ e)
 
-  stopped : (fault : ℕ) → w.number ≡ v.number → (before : List HistoryEntry) → w.seen ≡ before ++ entry_as v.number q (fault + 1) ∷ [] → w.book ≡ grown v.book (entry_as v.number q (fault + 1))
+  stopped : (fault : ℕ) → w.number ≡ v.number → (before : List HistoryEntry) → w.seen ≡ before ++ entry_as v.number q (fault + 1) ∷ []
+      → w.book ≡ grown v.book (entry_as v.number q (fault + 1))
       → MadeLines lines given.capacity w
   stopped fault number before seen book = inl (worked_part lines (k + 1) w.number w.book w.seen (one_more lines k q lt z is v w number asked (fault + 1) book)
       (λ none. faults before (entry_as v.number q (fault + 1)) (as_fault v.number q fault) (subst Faultless seen none)))

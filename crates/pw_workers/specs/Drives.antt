@@ -9,7 +9,6 @@ use Rattle.pw_regs.specs.Seen.{Operated, RegistersSeen, registers_seen}
 use Rattle.pw_script.specs.declared.script.Line.{Line}
 use Rattle.pw_script.specs.Lawful.{Lawful}
 use Rattle.pw_script.specs.Reading.{requests_of}
-use Rattle.pw_turns.specs.declared.close.Closed.{Closed as ClosedCoordinator}
 use Rattle.pw_interleaved.specs.Seats.{SeatsTell}
 use Rattle.pw_drive.specs.Driven.{run_ops, stopped_at}
 use Rattle.pw_workers.specs.declared.driving.Drove.{Drove}

@@ -1,4 +1,4 @@
-use Rattle.std.proofs.Common.{◌≡◌, ◌∙◌, arith, inr, length, rules, subst, sym}
+use Rattle.std.proofs.Common.{◌∙◌, inr, length, rules, subst, sym}
 use Rattle.pw_rule.specs.Rule.{given_of, told_of}
 use Rattle.pw_script.specs.Reading.{requests_of}
 use Rattle.pw_workers.specs.inner.Lists.{AreLists, AreListsFor}

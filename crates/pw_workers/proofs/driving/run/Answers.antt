@@ -1,4 +1,4 @@
-use Rattle.std.proofs.Common.{◌≡◌, ◌∙◌, ◌++◌, List, ap, drop, length, subst, sym, take}
+use Rattle.std.proofs.Common.{◌∙◌, List, ap, drop, length, subst, sym}
 use Rattle.std.specs.List.{AllByRecursion}
 use Rattle.pw_drive.proofs.Lining.{where_ok}
 use Rattle.pw_rule.specs.Rule.{given_of, told_of}
@@ -7,7 +7,7 @@ use Rattle.pw_workers.specs.declared.working.Worker.{Worker}
 use Rattle.pw_workers.specs.inner.Gathered.{EndsWith, IsMember}
 use Rattle.pw_workers.specs.inner.Runs.{LeavesNone}
 use Rattle.pw_workers.specs.inner.Workers.{IsReady}
-use Rattle.pw_workers.proofs.Ending.{all_ended_behind, all_members, all_ready, ended_members, leaves_none, makes, written_back}
+use Rattle.pw_workers.proofs.Ending.{all_ended_behind, all_ready, ended_members, leaves_none, makes, written_back}
 use Rattle.pw_workers.proofs.driving.run.Goals as goal
 
 pub returns-then-is_err-clause-given_back : goal.returns-then-is_err-clause-given_back

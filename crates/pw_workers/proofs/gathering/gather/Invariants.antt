@@ -1,4 +1,4 @@
-use Rattle.std.proofs.Common.{◌≡◌, length}
+use Rattle.std.proofs.Common.{length}
 use Rattle.std.specs.List.{AllByRecursion}
 use Rattle.pw_machine.specs.declared.view.View.{View}
 use Rattle.pw_turns.specs.Owning.{Owns}

@@ -1,5 +1,4 @@
-use Rattle.std.proofs.Common.{◌≡◌, ◌+◌, ◌∙◌, arith, length, rules, sym}
-use Rattle.pw_turns.specs.Views.{view_in}
+use Rattle.std.proofs.Common.{◌≡◌, ◌∙◌, arith, length, rules}
 use Rattle.pw_workers.proofs.Places.{left_fewer, passed_above, passed_served, size, taken_above, taken_seated, taken_served, taken_size}
 use Rattle.pw_workers.proofs.seating.seat_all.Goals as goal
 
