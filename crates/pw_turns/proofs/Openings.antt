@@ -1,5 +1,5 @@
 -- The views of the first seat while it frees the turns.
-use Rattle.std.proofs.Common.{◌≡◌, ℕ, zero, suc, ◌+◌, ◌-◌, ◌<◌, List, [], ◌∷◌, ◌++◌, true, length, take, Some, cond, eq-eqb, refl, sym, ap, ◌∙◌, subst, arith}
+use Rattle.std.proofs.Common.{◌≡◌, ℕ, zero, suc, ◌+◌, ◌-◌, ◌<◌, ◌≤◌, List, [], ◌∷◌, ◌++◌, true, length, take, Some, cond, eq-eqb, refl, sym, ap, ◌∙◌, subst, arith}
 use mathlib.Core.Option.{none}
 use Rattle.atomic_table.specs.Table.{Allows, step}
 use Rattle.acpi_values.specs.declared.operation.Op.{Op}
@@ -53,12 +53,13 @@ held_next P t (suc n) some =
 
 -- one of them failed
 pub fails_after : {R : Type 0} (by : Registers R) (P : Plan) (ops : List Op) → ops ≡ opening_ops P → (before left : R) (done : ℕ) → done < length ops
-    → by.told left ≡ by.told before → (by.told before ≡ true → by.log left ≡ by.log before ++ take done ops) → Rose (by.faults before) (by.faults left)
+    → by.told left ≡ by.told before → (by.told before ≡ true → by.log left ≡ by.log before ++ take done ops) → by.faults before ≤ by.faults left → Rose (by.faults before) (by.faults left)
     → by.room before < length ops → FailsAfter by P before done left
-fails_after by P ops is before left done within told part rose full = record {
+fails_after by P ops is before left done within told part least rose full = record {
   within = omega (arith, within, ap length is);
   same_told = told;
   ops = λ tells. part tells ∙ ap (λ (l : List Op). by.log before ++ take done l) is;
+  least = least;
   failed = rose;
   promised = omega (arith, full, ap length is, opening_ops-length P);
 }

@@ -28,6 +28,7 @@ module _ {R : Type 0} (by : Registers R) where
     pub within : done < length (opening_ops plan)
     pub same_told : by.told left ≡ by.told regs
     pub ops : by.told regs ≡ true → by.log left ≡ by.log regs ++ take done (opening_ops plan)
+    pub least : by.faults regs ≤ by.faults left
     pub failed : Rose (by.faults regs) (by.faults left)
     -- they had not promised room for all of them
     pub promised : by.room regs < opening_bound plan

@@ -19,7 +19,7 @@ returns-in-Err-operate-clause-fault g c =
       subst (FailsAfter by c.args.plan c.args.regs c.in-Err-operate.done) (sym c.finish-regs-in-Err-operate.ensures.regs)
           (subst (λ r. FailsAfter by c.args.plan r c.in-Err-operate.done c.operate.new.self.regs) before
           (fails_after by c.args.plan c.list.result.now list c.in-Ok-open.journal.regs c.operate.new.self.regs c.in-Err-operate.done
-          e.within e.keeps.same_told e.part e.failed e.promised)),
+          e.within e.keeps.same_told e.part e.keeps.count e.failed e.promised)),
     )
 
 pub returns-clause-view : goal.returns-clause-view

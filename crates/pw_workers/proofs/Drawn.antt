@@ -1,0 +1,83 @@
+-- What a run by workers is to its caller.
+use Rattle.std.proofs.Common.{◌≡◌, ◌++◌, ◌∙◌, ℕ, suc, Bool, true, List, Vec, [], ◌∷◌, length, Option, Some, None, refl, ap, sym, subst, append-nil, append_assoc}
+use Rattle.std.specs.Prelude.{is_some}
+use Rattle.std.specs.List.{AllByRecursion}
+use Rattle.std.specs.declared.alloc.Global.{Global}
+use Rattle.pw_base.specs.Outside.{Rose}
+use Rattle.pw_plan.specs.declared.plan.Plan.{Plan}
+use Rattle.pw_plan.specs.declared.request.Request.{Request}
+use Rattle.pw_plan.specs.Requests.{Has}
+use Rattle.pw_model.specs.declared.entry.HistoryEntry.{HistoryEntry}
+use Rattle.pw_model.specs.History.{fault_at, history_ops}
+use Rattle.pw_model.specs.Operations.{opening_ops}
+use Rattle.pw_machine.specs.Machine.{Given}
+use Rattle.pw_regs.specs.declared.registers.Registers.{Ghosts as Registers}
+use Rattle.pw_regs.specs.Seen.{registers_seen}
+use Rattle.pw_script.specs.declared.script.Line.{Line}
+use Rattle.pw_script.specs.Reading.{requests_of}
+use Rattle.pw_turns.specs.Opens.{FailsAfter}
+use Rattle.pw_interleaved.specs.Workers.{MadeByWorkers, seat_of}
+use Rattle.pw_interleaved.proofs.Seats.{asked-run, seats-tell}
+use Rattle.pw_interleaved.proofs.Workers.{workers-asked}
+use Rattle.pw_workers.specs.Drives.{Opens, Runs}
+use Rattle.pw_workers.specs.inner.Lists.{AreLists, AreListsFor}
+use Rattle.pw_workers.specs.inner.Runs.{LeavesNone, Makes}
+
+lines_have : (P : Plan) (lines : List Line) → AllByRecursion (λ (l : Line). Has P l.request) lines → AllByRecursion (Has P) (requests_of lines)
+lines_have P [] has = tt
+lines_have P (l ∷ ls) has = (has.0, lines_have P ls has.1)
+
+pub lists_for : (P : Plan) (lines : List Line) (lists : List (Vec Request Global)) → AllByRecursion (λ (l : Line). Has P l.request) lines
+    → AreLists (requests_of lines) (length P.cpus) lists → AreListsFor P lists
+lists_for P lines lists has are = record { asked = requests_of lines; has = lines_have P lines has; are = are }
+
+lines_size : (lines : List Line) → length (requests_of lines) ≡ length lines
+lines_size [] = refl
+lines_size (l ∷ ls) = ap suc (lines_size ls)
+
+where_fault : (o : Option ℕ) (a b : ℕ) → ((k : ℕ) → o ≡ Some k → Rose a b) → is_some o ≡ true → Rose a b
+where_fault None a b rose e = cc
+where_fault (Some k) a b rose e = rose k refl
+
+no_ops : (P : Plan) → history_ops P [] ≡ []
+unfolding history_ops
+no_ops P = refl
+
+module _ {R : Type 0} (by : Registers R) (P : Plan) (lines : List Line) (n : ℕ) (size : n ≡ length lines) (regs : R) where
+  abbrev pub given : Given
+  given = record { plan = P; capacity = n; ops = by.log regs; count = by.faults regs }
+
+  pub runs : (told : Bool) (g : Given) (lists : List (Vec Request Global)) (entries : List HistoryEntry) (left : R) → told ≡ by.told regs → g ≡ given
+      → AllByRecursion (λ (l : Line). Has P l.request) lines → AreLists (requests_of lines) (length P.cpus) lists → Makes by told g lists entries left
+      → Runs P lines None entries (registers_seen by regs) (registers_seen by left)
+  runs told g lists entries left is same has are m =
+      let m : Makes by told given lists entries left = subst (λ x. Makes by told x lists entries left) same m in
+      let asked = requests_of lines in
+      let made : MadeByWorkers asked m.workers m.last.book entries = m.made asked (lines_have P lines has) are (size ∙ sym (lines_size lines)) in
+      let by_seats = workers-asked asked entries m.workers m.last.book made in
+      record {
+        lawful = asked-run asked (seat_of m.workers) entries by_seats P m.ends.legal;
+        seats = seats-tell asked (seat_of m.workers) entries by_seats;
+        operates = record {
+          same_told = m.ends.same_told ∙ is;
+          count = m.ends.least;
+          log = λ tells. m.ends.ops (is ∙ tells) ∙ append_assoc (by.log regs) (opening_ops P) (history_ops P entries);
+          fault = where_fault (fault_at entries) (by.faults regs) (by.faults left) m.ends.fault;
+        };
+      }
+
+  pub opens : (told : Bool) (g : Given) (left : R) → told ≡ by.told regs → g ≡ given → LeavesNone by told g left → Opens P (registers_seen by regs) (registers_seen by left)
+  opens told g left is same n =
+      let n : LeavesNone by told given left = subst (λ x. LeavesNone by told x left) same n in
+      record {
+        same_told = n.ends.same_told ∙ is;
+        count = n.ends.least;
+        log = λ tells. n.ends.ops (is ∙ tells) ∙ ap (λ l. by.log regs ++ opening_ops P ++ l) (no_ops P) ∙ append-nil (by.log regs ++ opening_ops P);
+      }
+
+  pub stops : (done : ℕ) (left : R) → FailsAfter by P regs done left → Runs P lines (Some done) [] (registers_seen by regs) (registers_seen by left)
+  stops done left f = record {
+    lawful = (f.within, refl);
+    seats = tt;
+    operates = record { same_told = f.same_told; count = f.least; log = f.ops; fault = λ e. f.failed };
+  }

@@ -1,0 +1,28 @@
+-- What comes of workers that were seated.
+use Rattle.std.specs.Prelude.{◌≡◌, Bool, List, Vec, [], length}
+use Rattle.std.specs.List.{AllByRecursion}
+use Rattle.std.specs.declared.alloc.Global.{Global}
+use Rattle.pw_plan.specs.declared.request.Request.{Request}
+use Rattle.pw_plan.specs.Requests.{Has}
+use Rattle.pw_model.specs.declared.entry.HistoryEntry.{HistoryEntry}
+use Rattle.pw_machine.specs.declared.view.View.{View}
+use Rattle.pw_machine.specs.Machine.{Given}
+use Rattle.pw_regs.specs.declared.registers.Registers.{Ghosts as Registers}
+use Rattle.pw_turns.specs.Ends.{Ends}
+use Rattle.pw_interleaved.specs.Workers.{MadeByWorkers}
+use Rattle.pw_interleaved.specs.Workers.{Worker as Gathered}
+use Rattle.pw_workers.specs.inner.Lists.{AreLists}
+
+module _ {R : Type 0} (by : Registers R) (told : Bool) (given : Given) where
+  -- The history was made by workers with these lists, whatever they are the lists of, where it had room for all.
+  pub record Makes (lists : List (Vec Request Global)) (entries : List HistoryEntry) (regs : R) : Type 0 where
+    pub last : View
+    pub ends : Ends by told given last entries regs
+    pub workers : List Gathered
+    pub made : (asked : List Request) → AllByRecursion (Has given.plan) asked → AreLists asked (length given.plan.cpus) lists
+        → given.capacity ≡ length asked → MadeByWorkers asked workers last.book entries
+
+  -- no request was made
+  pub record LeavesNone (regs : R) : Type 0 where
+    pub last : View
+    pub ends : Ends by told given last [] regs
