@@ -3,6 +3,7 @@ use Rattle.std.proofs.Common.{◌≡◌, ◌++◌, ◌∙◌, ℕ, suc, Bool, tr
 use Rattle.std.specs.Prelude.{is_some}
 use Rattle.std.specs.List.{AllByRecursion}
 use Rattle.std.specs.declared.alloc.Global.{Global}
+use Rattle.pw_rule.specs.Promises.{Promise}
 use Rattle.pw_base.specs.Outside.{Rose}
 use Rattle.pw_plan.specs.declared.plan.Plan.{Plan}
 use Rattle.pw_plan.specs.declared.request.Request.{Request}
@@ -47,11 +48,11 @@ module _ {R : Type 0} (by : Registers R) (P : Plan) (lines : List Line) (n : ℕ
   abbrev pub given : Given
   given = record { plan = P; capacity = n; ops = by.log regs; count = by.faults regs }
 
-  pub runs : (told : Bool) (g : Given) (lists : List (Vec Request Global)) (entries : List HistoryEntry) (left : R) → told ≡ by.told regs → g ≡ given
-      → AllByRecursion (λ (l : Line). Has P l.request) lines → AreLists (requests_of lines) (length P.cpus) lists → Makes by told g lists entries left
+  pub runs : (promise : Promise) (g : Given) (lists : List (Vec Request Global)) (entries : List HistoryEntry) (left : R) → promise.told ≡ by.told regs → g ≡ given
+      → AllByRecursion (λ (l : Line). Has P l.request) lines → AreLists (requests_of lines) (length P.cpus) lists → Makes by promise g lists entries left
       → Runs P lines None entries (registers_seen by regs) (registers_seen by left)
-  runs told g lists entries left is same has are m =
-      let m : Makes by told given lists entries left = subst (λ x. Makes by told x lists entries left) same m in
+  runs promise g lists entries left is same has are m =
+      let m : Makes by promise given lists entries left = subst (λ x. Makes by promise x lists entries left) same m in
       let asked = requests_of lines in
       let made : MadeByWorkers asked m.workers m.last.book entries = m.made asked (lines_have P lines has) are (size ∙ sym (lines_size lines)) in
       let by_seats = workers-asked asked entries m.workers m.last.book made in
@@ -66,9 +67,9 @@ module _ {R : Type 0} (by : Registers R) (P : Plan) (lines : List Line) (n : ℕ
         };
       }
 
-  pub opens : (told : Bool) (g : Given) (left : R) → told ≡ by.told regs → g ≡ given → LeavesNone by told g left → Opens P (registers_seen by regs) (registers_seen by left)
-  opens told g left is same n =
-      let n : LeavesNone by told given left = subst (λ x. LeavesNone by told x left) same n in
+  pub opens : (promise : Promise) (g : Given) (left : R) → promise.told ≡ by.told regs → g ≡ given → LeavesNone by promise g left → Opens P (registers_seen by regs) (registers_seen by left)
+  opens promise g left is same n =
+      let n : LeavesNone by promise given left = subst (λ x. LeavesNone by promise x left) same n in
       record {
         same_told = n.ends.same_told ∙ is;
         count = n.ends.least;

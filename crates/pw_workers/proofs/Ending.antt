@@ -16,6 +16,7 @@ use Rattle.pw_machine.specs.Books.{Begins, Knows, calls_of, count_in, entries_of
 use Rattle.pw_machine.specs.Machine.{Given}
 use Rattle.pw_notice.specs.Limits.{is_of, own}
 use Rattle.pw_regs.specs.declared.registers.Registers.{Ghosts as Registers}
+use Rattle.pw_rule.specs.Promises.{Promise}
 use Rattle.pw_turns.specs.Ends.{Ends}
 use Rattle.pw_interleaved.specs.Seats.{IsSeat}
 use Rattle.pw_interleaved.specs.Workers.{AreApart, Ended, HasWorker, joined_down, seat_of}
@@ -137,9 +138,9 @@ each_saw : (es seen : List HistoryEntry) (ws : List Worker) → es ≡ seen → 
 each_saw es seen [] is saw = tt
 each_saw es seen (w ∷ ws) is saw = (subst (λ l. Begins l (view_of w).seen) (sym is) saw.0, each_saw es seen ws is saw.1)
 
-module _ {R : Type 0} (by : Registers R) (told : Bool) (given : Given) where
+module _ {R : Type 0} (by : Registers R) (promise : Promise) (given : Given) where
   pub makes : (id : TableId) (lists : List (Vec Request Global)) (vs ws : List Worker) (v : View) (entries : List HistoryEntry) (regs : R) → v.book ≡ calls_of 0 [] ∷ []
-      → AreSeated id lists vs → AllSeated lists vs → AllEnded id given.capacity vs ws → EndsWith by told given v ws entries regs → Makes by told given lists entries regs
+      → AreSeated id lists vs → AllSeated lists vs → AllEnded id given.capacity vs ws → EndsWith by promise given v ws entries regs → Makes by promise given lists entries regs
   makes id lists vs ws v entries regs silent seated all ended e = record {
     last = e.last;
     ends = e.ends;
@@ -192,10 +193,10 @@ module _ {R : Type 0} (by : Registers R) (told : Bool) (given : Given) where
   }).seated
 
   pub leaves_none : (id : TableId) (lists : List (Vec Request Global)) (ws : List Worker) (v : View) (entries : List HistoryEntry) (regs : R) → v.book ≡ calls_of 0 [] ∷ []
-      → AreSeated id lists ws → EndsWith by told given v ws entries regs → LeavesNone by told given regs
+      → AreSeated id lists ws → EndsWith by promise given v ws entries regs → LeavesNone by promise given regs
   leaves_none id lists ws v entries regs silent seated e = record {
     last = e.last;
-    ends = subst (λ es. Ends by told given e.last es regs)
+    ends = subst (λ es. Ends by promise given e.last es regs)
         (silent_none e.last.book entries
         (subst Silent (sym e.gathered.book) (silent_down id lists v.book ws (subst Silent (sym silent) (refl, tt)) seated.each)) e.ends.lists e.ends.seats)
         e.ends;

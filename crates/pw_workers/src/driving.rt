@@ -3,7 +3,7 @@ ghost use Rattle.std.specs.Prelude.{◌≡◌, ◌≤◌, ◌∷◌, [], length,
 ghost use Rattle.std.specs.List.{AllByRecursion};
 ghost use Rattle.pw_plan.specs.Requests.{Has};
 ghost use Rattle.pw_machine.specs.Books.{calls_of};
-ghost use Rattle.pw_rule.specs.Rule.{given_of, told_of};
+ghost use Rattle.pw_rule.specs.Rule.{given_of, promise_of};
 ghost use Rattle.pw_script.specs.declared.script.Line.{Line as asked};
 ghost use Rattle.pw_script.specs.Reading.{requests_of};
 ghost use Rattle.pw_turns.specs.Owning.{Owns};
@@ -68,9 +68,9 @@ fn run<T: Threads + Wait + Sync, R: Registers + Send, G: Gate + Sync>(
     requires room { length lists.items ≤ vec_capacity workers }
     ensures plan { IfOk result (λ c. c.sealed.plan ≡ coordinator.plan) }
     ensures made { IfOk result (λ c. let key = coordinator.table.shared.key in
-        Makes R.Registers (told_of R.Registers key) (given_of R.Registers key) lists.items c.sealed.entries c.regs) }
+        Makes R.Registers (promise_of R.Registers key) (given_of R.Registers key) lists.items c.sealed.entries c.regs) }
     ensures given_back { IfErr result (λ back. let key = coordinator.table.shared.key in
-        LeavesNone R.Registers (told_of R.Registers key) (given_of R.Registers key) back) }
+        LeavesNone R.Registers (promise_of R.Registers key) (given_of R.Registers key) back) }
 {
     if seat_all(alloc, &coordinator, &mut first, lists, &mut workers).is_err() {
         let (_, regs) = end(coordinator, first, workers).into_parts();

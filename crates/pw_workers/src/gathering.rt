@@ -1,7 +1,7 @@
 //! All seats become one, and the coordinator ends.
 ghost use Rattle.std.specs.Prelude.{◌≡◌, ◌+◌, length};
 ghost use Rattle.std.specs.List.{AllByRecursion};
-ghost use Rattle.pw_rule.specs.Rule.{given_of, told_of};
+ghost use Rattle.pw_rule.specs.Rule.{given_of, promise_of};
 ghost use Rattle.pw_turns.specs.Owning.{Owns};
 ghost use Rattle.pw_turns.specs.Views.{view_in};
 ghost use Rattle.pw_workers.specs.inner.Gathered.{EndsWith, IsGathered, IsMember};
@@ -35,7 +35,7 @@ pub(crate) fn end<R: Registers>(
     requires parts { (view_in first.badge.views).parts + length workers.items ≡ 65536 }
     ensures plan { result.sealed.plan ≡ coordinator.plan }
     ensures ends { let key = coordinator.table.shared.key in
-        EndsWith R.Registers (told_of R.Registers key) (given_of R.Registers key) (view_in first.badge.views) workers.items
+        EndsWith R.Registers (promise_of R.Registers key) (given_of R.Registers key) (view_in first.badge.views) workers.items
         result.sealed.entries result.regs }
 {
     let seat = gather(&coordinator, first, workers);

@@ -8,6 +8,7 @@ use Rattle.pw_machine.specs.Books.{Begins}
 use Rattle.pw_machine.specs.Machine.{Given}
 use Rattle.pw_regs.specs.declared.registers.Registers.{Ghosts as Registers}
 use Rattle.pw_turns.specs.Owning.{Owns}
+use Rattle.pw_rule.specs.Promises.{Promise}
 use Rattle.pw_turns.specs.Ends.{Ends}
 use Rattle.pw_interleaved.specs.Workers.{joined_down}
 use Rattle.pw_workers.specs.declared.working.Worker.{Worker}
@@ -26,8 +27,8 @@ pub record IsGathered (v : View) (ws : List Worker) (r : View) : Type 0 where
   pub parts : r.parts ≡ v.parts + length ws
 
 -- with it the coordinator ended
-pub record EndsWith {R : Type 0} (by : Registers R) (told : Bool) (given : Given) (v : View) (ws : List Worker)
+pub record EndsWith {R : Type 0} (by : Registers R) (promise : Promise) (given : Given) (v : View) (ws : List Worker)
     (entries : List HistoryEntry) (regs : R) : Type 0 where
   pub last : View
   pub gathered : IsGathered v ws last
-  pub ends : Ends by told given last entries regs
+  pub ends : Ends by promise given last entries regs

@@ -8,16 +8,17 @@ use Rattle.pw_model.specs.declared.entry.HistoryEntry.{HistoryEntry}
 use Rattle.pw_machine.specs.declared.view.View.{View}
 use Rattle.pw_machine.specs.Machine.{Given}
 use Rattle.pw_regs.specs.declared.registers.Registers.{Ghosts as Registers}
+use Rattle.pw_rule.specs.Promises.{Promise}
 use Rattle.pw_turns.specs.Ends.{Ends}
 use Rattle.pw_interleaved.specs.Workers.{MadeByWorkers}
 use Rattle.pw_interleaved.specs.Workers.{Worker as Gathered}
 use Rattle.pw_workers.specs.inner.Lists.{AreLists}
 
-module _ {R : Type 0} (by : Registers R) (told : Bool) (given : Given) where
+module _ {R : Type 0} (by : Registers R) (promise : Promise) (given : Given) where
   -- The history was made by workers with these lists, whatever they are the lists of, where it had room for all.
   pub record Makes (lists : List (Vec Request Global)) (entries : List HistoryEntry) (regs : R) : Type 0 where
     pub last : View
-    pub ends : Ends by told given last entries regs
+    pub ends : Ends by promise given last entries regs
     pub workers : List Gathered
     pub made : (asked : List Request) → AllByRecursion (Has given.plan) asked → AreLists asked (length given.plan.cpus) lists
         → given.capacity ≡ length asked → MadeByWorkers asked workers last.book entries
@@ -25,4 +26,4 @@ module _ {R : Type 0} (by : Registers R) (told : Bool) (given : Given) where
   -- no request was made
   pub record LeavesNone (regs : R) : Type 0 where
     pub last : View
-    pub ends : Ends by told given last [] regs
+    pub ends : Ends by promise given last [] regs

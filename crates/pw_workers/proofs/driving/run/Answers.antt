@@ -1,7 +1,7 @@
 use Rattle.std.proofs.Common.{◌∙◌, List, ap, drop, length, subst, sym}
 use Rattle.std.specs.List.{AllByRecursion}
 use Rattle.pw_drive.proofs.Lining.{where_ok}
-use Rattle.pw_rule.specs.Rule.{given_of, told_of}
+use Rattle.pw_rule.specs.Rule.{given_of, promise_of}
 use Rattle.pw_turns.specs.Views.{view_in}
 use Rattle.pw_workers.specs.declared.working.Worker.{Worker}
 use Rattle.pw_workers.specs.inner.Gathered.{EndsWith, IsMember}
@@ -14,8 +14,8 @@ pub returns-then-is_err-clause-given_back : goal.returns-then-is_err-clause-give
 returns-then-is_err-clause-given_back g c =
     let key = c.args.coordinator.table.shared.key in
     let by = g.R.Registers in
-    subst (LeavesNone by (told_of by key) (given_of by key)) (sym (ap (λ p. p.1) c.into_parts-regs.ensures))
-    (leaves_none by (told_of by key) (given_of by key) c.args.coordinator.table.shared.table_id c.args.lists.items c.seat_all.new.workers.items
+    subst (LeavesNone by (promise_of by key) (given_of by key)) (sym (ap (λ p. p.1) c.into_parts-regs.ensures))
+    (leaves_none by (promise_of by key) (given_of by key) c.args.coordinator.table.shared.table_id c.args.lists.items c.seat_all.new.workers.items
     (view_in c.seat_all.new.first.badge.views) c.end.result.sealed.entries c.end.result.regs (c.seat_all.ensures.book ∙ c.requires.silent) c.seat_all.ensures.seated c.end.ensures.ends)
 
 pub work_all-requires-after_bounds : goal.work_all-requires-after_bounds
@@ -51,7 +51,7 @@ returns-clause-made g c =
     let v = view_in c.seat_all.new.first.badge.views in
     let back = written_back ws (drop (length ws) vs) c.seat_all.new.workers.len (size ∙ sym (ap length there) ∙ c.as_mut_slice.ensures.len) in
     let goes = sym c.is_err.ensures.value ∙ c.if-is_err.false in
-    makes by (told_of by key) (given_of by key) id c.args.lists.items vs ws v c.end-2.result.sealed.entries c.end-2.result.regs (c.seat_all.ensures.book ∙ c.requires.silent)
+    makes by (promise_of by key) (given_of by key) id c.args.lists.items vs ws v c.end-2.result.sealed.entries c.end-2.result.regs (c.seat_all.ensures.book ∙ c.requires.silent)
     c.seat_all.ensures.seated (where_ok c.seat_all.result goes c.seat_all.ensures.all)
     (all_ended_behind id room vs ws c.as_mut_slice.result.now there c.work_all.ensures.size c.work_all.ensures.ended)
-    (subst (λ (l : List Worker). EndsWith by (told_of by key) (given_of by key) v l c.end-2.result.sealed.entries c.end-2.result.regs) back c.end-2.ensures.ends)
+    (subst (λ (l : List Worker). EndsWith by (promise_of by key) (given_of by key) v l c.end-2.result.sealed.entries c.end-2.result.regs) back c.end-2.ensures.ends)
