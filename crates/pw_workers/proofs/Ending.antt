@@ -1,5 +1,5 @@
 -- What comes of workers that ended, and of such as never began.
-use Rattle.std.proofs.Common.{◌≡◌, ◌≢◌, ◌<◌, ◌+◌, ℕ, suc, Bool, true, false, cond, List, Vec, [], ◌∷◌, ◌++◌, map, length, get_or, take}
+use Rattle.std.proofs.Common.{◌≡◌, ◌≢◌, ◌<◌, ℕ, suc, Bool, true, false, cond, List, Vec, [], ◌∷◌, ◌++◌, map, length, get_or, take}
 use Rattle.std.proofs.Common.{refl, ap, sym, ◌∙◌, subst, arith, inl, inr}
 use Rattle.std.specs.List.{AllByRecursion}
 use Rattle.std.proofs.Math.Seq.{take-append_seam}
