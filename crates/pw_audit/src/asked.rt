@@ -61,10 +61,10 @@ impl Asked {
             left_of asked p ≡ own p (requests_of lines.now)) }
     {
         let mut asked = Asked::none(alloc, cpus)?;
-        let mut left = lines;
-        while let [rest @ .., line] = left {
-            asked.put(line.request)?;
-            left = rest;
+        let mut at = lines.len();
+        while at > 0 {
+            at -= 1;
+            asked.put(lines[at].request)?;
         }
         Ok(asked)
     }
