@@ -1,2 +1,3 @@
 pub mod Leading
 pub mod Queueing
+pub mod Starts
