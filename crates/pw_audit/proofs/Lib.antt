@@ -1,3 +1,4 @@
 pub mod Leading
 pub mod Queueing
 pub mod Starts
+pub mod Passing
