@@ -9,15 +9,15 @@ use Rattle.pw_plan.specs.declared.plan.Plan.{Plan}
 use Rattle.pw_script.specs.inner.Paths.{paths_of}
 use Rattle.pw_audit.specs.inner.Looking.{LeadsTo, cpu_by}
 
-pub leads_on : {S : Type 0} (paths : List (List ℕ)) (n : ℕ) (key : Vec ℕ Global) (old new : HashMap (Vec ℕ Global) ℕ S)
-    → 0 < n → n ≤ length paths → key.items ≡ get_or paths (n - 1) [] → LeadsTo n (drop n paths) old
+pub leads_on : {S : Type 0} (paths : List (List ℕ)) (n : ℕ) (d : List ℕ) (key : Vec ℕ Global) (old new : HashMap (Vec ℕ Global) ℕ S)
+    → 0 < n → n ≤ length paths → key.items ≡ get_or paths (n - 1) d → LeadsTo n (drop n paths) old
     → ((q : Vec ℕ Global) → get_by (λ k. bytes_eq q.items k.items) new ≡ cond (bytes_eq key.items q.items) (Some (n - 1)) (get_by (λ k. bytes_eq q.items k.items) old))
     → LeadsTo (n - 1) (drop (n - 1) paths) new
-leads_on paths n key old new some within named leads puts = λ q.
+leads_on paths n d key old new some within named leads puts = λ q.
     let lt : n - 1 < length paths = omega arith in
     let next : suc (n - 1) ≡ n = omega arith in
-    let split : drop (n - 1) paths ≡ get_or paths (n - 1) [] ∷ drop (suc (n - 1)) paths = drop-cons paths (n - 1) [] lt in
-    let test : bytes_eq key.items q.items ≡ bytes_eq (get_or paths (n - 1) []) q.items = ap (λ (k : List ℕ). bytes_eq k q.items) named in
+    let split : drop (n - 1) paths ≡ get_or paths (n - 1) d ∷ drop (suc (n - 1)) paths = drop-cons paths (n - 1) d lt in
+    let test : bytes_eq key.items q.items ≡ bytes_eq (get_or paths (n - 1) d) q.items = ap (λ (k : List ℕ). bytes_eq k q.items) named in
     let later : get_by (λ k. bytes_eq q.items k.items) old ≡ cpu_by (suc (n - 1)) (drop (suc (n - 1)) paths) q.items = rw next (leads q) in
     puts q ∙ rw (test, later, split) refl
 

@@ -2,3 +2,4 @@ pub mod Leading
 pub mod Queueing
 pub mod Starts
 pub mod Passing
+pub mod Firsts
