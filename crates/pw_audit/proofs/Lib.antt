@@ -3,3 +3,4 @@ pub mod Queueing
 pub mod Starts
 pub mod Passing
 pub mod Firsts
+pub mod Heads
