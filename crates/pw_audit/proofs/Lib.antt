@@ -4,3 +4,4 @@ pub mod Starts
 pub mod Passing
 pub mod Firsts
 pub mod Heads
+pub mod Outcomes
