@@ -1,9 +1,10 @@
 -- The first line of a text.
-use Rattle.std.proofs.Common.{◌≡◌, ◌<◌, ◌∙◌, ℕ, List, [], ◌∷◌, ◌++◌, get_or, codes, decimal, refl, ap, sym, arith, append_assoc, Option, Some, None}
+use Rattle.std.proofs.Common.{◌≡◌, ◌<◌, ◌≤◌, ◌∙◌, ℕ, length, length-take, List, [], ◌∷◌, ◌++◌, get_or, codes, decimal, refl, ap, sym, arith, append_assoc, Option, Some, None}
 use Rattle.std.proofs.lemmas.List.{append_cancel_left}
 use Rattle.pw_text.specs.Lines.{with_feed}
 use Rattle.pw_script.specs.Lawful.{Begins}
-use Rattle.pw_script.specs.inner.Openings.{opening_line}
+use Rattle.acpi_values.specs.declared.operation.Op.{Op}
+use Rattle.pw_script.specs.inner.Openings.{opened, opening_line}
 use Rattle.pw_audit.specs.inner.Stopping.{WithinOpening}
 
 abbrev lead : List ℕ
@@ -27,3 +28,7 @@ no_number count text behind e none (Some k) w b =
 
 pub number_read : (text behind rest : List ℕ) (k : ℕ) → text ≡ lead ++ behind → behind ≡ with_feed (decimal k) ++ rest → text ≡ with_feed (opening_line (Some k)) ++ rest
 number_read text behind rest k e f = e ∙ ap (λ (l : List ℕ). lead ++ l) f ∙ sym (regroup lead (decimal k) rest)
+
+pub opened_few : (f : Option ℕ) (ops : List Op) → length (opened f ops) ≤ length ops
+opened_few None ops = omega arith
+opened_few (Some k) ops = let n = length-take k ops in omega arith

@@ -5,3 +5,4 @@ pub mod Passing
 pub mod Firsts
 pub mod Heads
 pub mod Outcomes
+pub mod Entries

@@ -1,5 +1,5 @@
 //! The line of an entry up to its arrow.
-ghost use Rattle.std.specs.Prelude.{◌≡◌, ◌++◌, length, IfOk, MatchOption, OnOk};
+ghost use Rattle.std.specs.Prelude.{◌≡◌, ◌++◌, length, IfOk, IfSome, MatchOption, OnOk};
 ghost use Rattle.pw_plan.specs.declared.request.Request.{Request as asking};
 ghost use Rattle.pw_plan.specs.Requests.{Has, cpu_of};
 ghost use Rattle.pw_script.specs.Lawful.{Begins};
@@ -47,10 +47,12 @@ pub(crate) fn read_head<'a>(
     requires index { LeadsTo 0 (paths_of names.now) index.now }
     requires size { length asked.old ≡ length names.now.cpus }
     requires own { EachOwn asked.old }
-    ensures { IfOk result (λ o. MatchOption o ((q : asking) → Has names.now q → IsNext asked.old q
+    ensures read { IfOk result (λ o. MatchOption o ((q : asking) → Has names.now q → IsNext asked.old q
         → Begins (head_text names.now number q) left.now → ⊥)
         (λ r. Has names.now r.0 × Takes asked.old (cpu_of r.0) r.0 asked.new
         × (left.now ≡ head_text names.now number r.0 ++ r.1.now))) }
+    ensures only { IfOk result (λ o. IfSome o (λ r. (q : asking) → Has names.now q → IsNext asked.old q
+        → Begins (head_text names.now number q) left.now → q ≡ r.0)) }
 {
     let (_number, behind) = word(left);
     let (path, _rest) = word(behind);

@@ -57,7 +57,7 @@ pub(crate) fn read_opening<'a>(
     text: &'a [u8],
 ) -> Result<(Option<u32>, u32, &'a [u8]), AuditFault>
     requires ops { ops.now ≡ opening_ops names.now }
-    requires few { length ops.now < 2 ^ 32 }
+    requires few { length ops.now + 1 < 2 ^ 32 }
     requires short { length text.now + 1 < 2 ^ 32 }
     ensures within { IfOk result (λ r. WithinOpening (length (opening_ops names.now)) r.0) }
     ensures text { IfOk result (λ r. text.now ≡ text_of (opening_lines names.now r.0) ++ r.2.now) }
