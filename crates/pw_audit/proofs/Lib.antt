@@ -6,3 +6,5 @@ pub mod Firsts
 pub mod Heads
 pub mod Outcomes
 pub mod Entries
+pub mod Showing
+pub mod Following
