@@ -8,3 +8,4 @@ pub mod Outcomes
 pub mod Entries
 pub mod Showing
 pub mod Following
+pub mod Refusing
