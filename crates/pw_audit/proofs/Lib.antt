@@ -9,3 +9,4 @@ pub mod Entries
 pub mod Showing
 pub mod Following
 pub mod Refusing
+pub mod Entering

@@ -56,7 +56,7 @@ how_many front first ls k lt =
 module _ (P : Plan) (tell : HasSegments P) (L : List Request) (are : CanBeAsked P L) where
   -- # Lines behind a first one
 
-  stops_refuse : (front : List (List ℕ)) (first : List ℕ) (ls : List (List ℕ)) (text rest : List ℕ) (n : ℕ) (fault : AuditFault)
+  pub stops_refuse : (front : List (List ℕ)) (first : List ℕ) (ls : List (List ℕ)) (text rest : List ℕ) (n : ℕ) (fault : AuditFault)
       → text ≡ text_of front ++ (with_feed first ++ rest) → n ≡ length front + 1 → StopsIn ls n rest fault
       → ((k : ℕ) → k < length ls → Shown P L (front ++ first ∷ take k ls))
       → ((k : ℕ) (l : List ℕ) → k < length ls → BeginsWhole P L (map with_feed (front ++ first ∷ take k ls) ++ with_feed l ∷ []) → l ≡ get_or ls k [])
