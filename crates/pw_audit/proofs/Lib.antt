@@ -10,3 +10,4 @@ pub mod Showing
 pub mod Following
 pub mod Refusing
 pub mod Entering
+pub mod Knowing
