@@ -11,3 +11,4 @@ pub mod Following
 pub mod Refusing
 pub mod Entering
 pub mod Knowing
+pub mod Walking

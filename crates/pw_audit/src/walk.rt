@@ -67,9 +67,10 @@ fn read_entries(
     text: &[u8],
 ) -> Result<Vec<HistoryEntry>, AuditFault>
     requires segments { HasSegments names.now }
+    requires narrow { AllByRecursion IsNarrowRequest (requests_of lines.now) }
     requires room { 256 ≤ ops.old.capacity }
     requires opened { before ≡ length (opening_lines names.now None) }
-    requires short { before + length text.now < 2 ^ 31 }
+    requires short { length (text_of (opening_lines names.now None)) + length text.now < 2 ^ 31 }
     ensures lawful { IfOk result (λ entries. Lawful names.now (known names.now (requests_of lines.now)) None entries.items) }
     ensures text { IfOk result (λ entries. text_of (opening_lines names.now None) ++ text.now
         ≡ history_text names.now None entries.items) }
