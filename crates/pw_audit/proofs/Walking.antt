@@ -1,6 +1,7 @@
 -- The walk over the entries of a text.
-use Rattle.std.proofs.Common.{◌≡◌, ◌≢◌, ◌<◌, ◌≤◌, ◌+◌, ◌∙◌, ℕ, List, [], ◌∷◌, ◌++◌, length, Option, Some, None, refl, ap, sym, subst, inl, inr, arith, append_assoc, append-nil}
+use Rattle.std.proofs.Common.{◌≡◌, ◌≢◌, ◌<◌, ◌≤◌, ◌==◌, ◌+◌, ◌∙◌, ℕ, true, false, eqb-true, List, [], ◌∷◌, ◌++◌, length, Option, Some, None, refl, ap, sym, subst, inl, inr, arith, append_assoc, append-nil}
 use Rattle.std.specs.List.{AllByRecursion}
+use Rattle.std.proofs.lemmas.Bool.{eqb-false}
 use Rattle.std.proofs.lemmas.List.{length-append}
 use Rattle.pw_plan.specs.declared.plan.Plan.{Plan}
 use Rattle.pw_plan.specs.declared.request.Request.{Request}
@@ -9,6 +10,7 @@ use Rattle.pw_model.specs.declared.entry.HistoryEntry.{HistoryEntry}
 use Rattle.pw_model.specs.declared.state.State.{State}
 use Rattle.pw_model.specs.States.{IsState, opening}
 use Rattle.pw_model.specs.History.{Faultless, after_entry, replay, request_of}
+use Rattle.pw_notice.specs.Limits.{own}
 use Rattle.pw_text.specs.Lines.{text_of}
 use Rattle.pw_script.specs.Asking.{CanBeAsked}
 use Rattle.pw_script.specs.HistoryText.{entry_lines, history_lines, history_text, opening_lines}
@@ -19,10 +21,11 @@ use Rattle.pw_texts.specs.Wholes.{IsWhole, pieces_of}
 use Rattle.pw_audit.specs.declared.answer.AuditFault.{AuditFault}
 use Rattle.pw_audit.specs.Audited.{IsUnfinished, IsWrong}
 use Rattle.pw_audit.specs.inner.Queues.{EachOwn, Leaves, Takes, left_of}
-use Rattle.pw_audit.specs.inner.Stopping.{MayCome, Refuses, StopsAtEntry}
+use Rattle.pw_audit.specs.inner.Stopping.{MayCome, Refuses, StopsAtEntry, known}
 use Rattle.pw_audit.proofs.Entries.{lines_few}
 use Rattle.pw_audit.proofs.Entering.{at_entry, behind_fault, faulty_run, lines_left_over, run_of}
 use Rattle.pw_audit.proofs.Following.{faultless_step, faulty, goes_on, history_step, leaves_own, leaves_step, opening_whole, replay_step, start_none, text_is}
+use Rattle.pw_audit.proofs.Knowing.{own_known}
 use Rattle.pw_audit.proofs.Passing.{text_of-append}
 
 -- where the walk over a text stands: behind these entries, in this state, with this left of the script and of the text, behind so many lines
@@ -141,6 +144,13 @@ module _ (P : Plan) (L : List Request) (text : List ℕ) (H : List HistoryEntry)
           ap length (step_text ∙ ap (λ (l : List ℕ). l ++ rest) (text_is P None (H ++ e ∷ []))) ∙ length-append (text_of (history_lines P None (H ++ e ∷ []))) rest in
           omega arith
 
+      pub step_shorter : length rest < length left
+      step_shorter =
+          let ls = entry_lines P S n e in
+          let few = lines_few ls in
+          let size : length left ≡ length (text_of ls) + length rest = ap length s.is ∙ length-append (text_of ls) rest in
+          omega arith
+
   no_bytes : (xs : List ℕ) → length xs ≡ 0 → xs ≡ []
   no_bytes [] e = refl
   no_bytes (x ∷ xs) e = absurd (omega arith)
@@ -157,3 +167,12 @@ module _ (P : Plan) (L : List Request) (text : List ℕ) (H : List HistoryEntry)
     end_unfinished tell are some =
         let h = lines_left_over P tell L are H queues text w.start w.faultless w.leaves some end_text in
         (w.lines ∙ h.0, h.1)
+
+pub leaves_init : (P : Plan) (qs : List Request) (queues : List (List Request)) → length queues ≡ length P.cpus → ((p : ℕ) → p < length P.cpus → left_of queues p ≡ own p qs) → Leaves P (known P qs) [] queues
+leaves_init P qs queues size each = record { size = size; each = λ p lt. own_known P p qs lt ∙ sym (each p lt) }
+
+pub some_left : (n : ℕ) → (n == 0) ≡ false → 0 < n
+some_left n e = let ne = eqb-false n 0 e in omega arith
+
+pub none_left : (n : ℕ) → (n == 0) ≡ true → n ≡ 0
+none_left n e = eqb-true n 0 e
