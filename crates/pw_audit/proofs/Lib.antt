@@ -12,3 +12,5 @@ pub mod Refusing
 pub mod Entering
 pub mod Knowing
 pub mod Walking
+pub mod Telling
+pub mod Verdicts
