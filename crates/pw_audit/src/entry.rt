@@ -11,8 +11,8 @@ ghost use Rattle.pw_audit.specs.inner.Looking.{LeadsTo};
 ghost use Rattle.pw_audit.specs.inner.Queues.{EachOwn, Takes};
 ghost use Rattle.pw_audit.specs.inner.Stopping.{MayCome, StopsAtEntry, entry_with};
 
-use crate::asked::Asked;
 use crate::answer::AuditFault;
+use crate::asked::Asked;
 use crate::head::read_head;
 use crate::matching::pass_ops;
 use crate::names::Names;

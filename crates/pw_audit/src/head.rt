@@ -18,12 +18,7 @@ use pw_plan::Request;
 use std::collections::HashMap;
 
 /// Puts the number of an entry, and what was asked.
-fn push_head(
-    line: &mut Vec<u8>,
-    names: &Names,
-    number: u64,
-    request: Request,
-) -> Result<(), Memory>
+fn push_head(line: &mut Vec<u8>, names: &Names, number: u64, request: Request) -> Result<(), Memory>
     ensures { OnOk result (line.new.items ≡ line.old.items ++ head_text names.now number request) }
 {
     push_decimal(line, number)?;

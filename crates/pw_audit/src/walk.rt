@@ -14,8 +14,8 @@ ghost use Rattle.pw_audit.specs.Audited.{IsShort, Shows};
 ghost use Rattle.pw_audit.specs.inner.Looking.{LeadsTo};
 ghost use Rattle.pw_audit.specs.inner.Stopping.{Refuses, known};
 
-use crate::asked::Asked;
 use crate::answer::{Audit, AuditFault};
+use crate::asked::Asked;
 use crate::entry::read_entry;
 use crate::names::{Names, index_of};
 use crate::opening::read_opening;

@@ -394,4 +394,3 @@ returns-clause-seats c =
     let left = c.loop-left.left.now in
     let w : Walked P L text H S queues passed left = c.loop-left.invariant.walked in
     w.seats
-
