@@ -52,9 +52,9 @@ fn read_reply<'a>(
     Ok(strip(left, line.as_slice()))
 }
 
-#[tactic(auto, using(pw_script::proofs::Printed::bound_small))]
 /// Which fault, 0 for none, a text says of a request in this state, at the end of a line, and what stands
 /// behind it. Leaves the operations of the request, and the state after it.
+#[tactic(auto, using(pw_script::proofs::Printed::bound_small))]
 pub(crate) fn read_outcome<'a>(
     line: &mut Vec<u8>,
     plan: &Plan,
