@@ -1,11 +1,10 @@
 -- What is told at an entry, and behind the last one, is right.
-use Rattle.std.proofs.Common.{◌≡◌, ◌≢◌, ◌<◌, ◌≤◌, ◌+◌, ◌-◌, ◌∙◌, ℕ, suc, List, [], ◌∷◌, ◌++◌, map, take, length, get_or, Option, Some, None, refl, ap, sym, subst, inl, inr, arith, append_assoc, append-nil, length-take}
+use Rattle.std.proofs.Common.{◌≡◌, ◌<◌, ◌+◌, ◌∙◌, ℕ, List, [], ◌∷◌, ◌++◌, map, take, length, Some, None, refl, ap, sym, subst, inl, inr, arith, append_assoc, append-nil, length-take}
 use Rattle.std.specs.List.{AllByRecursion}
 use Rattle.std.proofs.lemmas.Bool.{cases_lt}
 use Rattle.std.proofs.lemmas.List.{append_cancel_left, get_or_past, length-append, length-map}
 use Rattle.pw_plan.specs.declared.plan.Plan.{Plan}
 use Rattle.pw_plan.specs.declared.request.Request.{Request}
-use Rattle.pw_plan.proofs.Lists.{each_append}
 use Rattle.pw_model.specs.declared.entry.HistoryEntry.{HistoryEntry}
 use Rattle.pw_model.specs.declared.state.State.{State}
 use Rattle.pw_model.specs.States.{opening}
@@ -15,24 +14,21 @@ use Rattle.pw_notice.specs.Limits.{own, requests}
 use Rattle.pw_text.specs.Lines.{text_of, with_feed}
 use Rattle.pw_script.specs.Asking.{CanBeAsked}
 use Rattle.pw_script.specs.HistoryText.{entry_lines, history_lines, history_text, lines_from, op_line, opening_lines}
-use Rattle.pw_script.specs.Lawful.{Begins, IsRunOf, Lawful}
+use Rattle.pw_script.specs.Lawful.{Begins, IsRunOf}
 use Rattle.pw_texts.specs.Telling.{HasSegments, IsNarrow, unseated}
 use Rattle.pw_texts.specs.Completing.{IsStart}
-use Rattle.pw_texts.specs.Wholes.{BeginsWhole, GoesOnWith, IsWhole, entry_line, lines_within, next_line, next_op_lines, pieces_of}
+use Rattle.pw_texts.specs.Wholes.{BeginsWhole, IsWhole, entry_line, lines_within, next_line, next_op_lines, pieces_of}
 use Rattle.pw_texts.proofs.Determined.{head_of, opening-same, tail_of}
 use Rattle.pw_texts.proofs.Ends.{fault-ends, opening-ends, whole-run}
-use Rattle.pw_texts.proofs.Firsts.{each_first, each_rest}
 use Rattle.pw_texts.proofs.Narrow.{lawful-formed, lawful-narrow, lawful-opening, opening-narrow, start-narrow}
 use Rattle.pw_texts.proofs.Nexts.{next-line, next-op}
 use Rattle.pw_texts.proofs.Readers.{entry-same}
 use Rattle.pw_audit.specs.declared.answer.AuditFault.{AuditFault}
-use Rattle.pw_audit.specs.declared.answer.AuditFault.TheVariants.{Wrong, Unfinished, Memory}
 use Rattle.pw_audit.specs.Audited.{IsUnfinished, IsWrong}
 use Rattle.pw_audit.specs.inner.Queues.{Leaves, left_of}
-use Rattle.pw_audit.specs.inner.Stopping.{NoEntry, Refuses, StopsAtEntry, StopsBehind, WithinOpening}
-use Rattle.pw_audit.proofs.Showing.{Shown, ends_here, whole_lines, wrong_here}
-use Rattle.pw_audit.proofs.Following.{goes_on, history_step, may_from, shown_history, shown_lines, shown_within, text_is}
-use Rattle.pw_audit.proofs.Passing.{text_of-append}
+use Rattle.pw_audit.specs.inner.Stopping.{NoEntry, Refuses, StopsAtEntry}
+use Rattle.pw_audit.proofs.Showing.{ends_here, whole_lines, wrong_here}
+use Rattle.pw_audit.proofs.Following.{goes_on, may_from, shown_history, shown_lines, shown_within, text_is}
 use Rattle.pw_audit.proofs.Refusing.{stops_refuse}
 
 nothing : {x : List ℕ} {xs : List (List ℕ)} → x ∷ xs ≡ [] → ⊥
@@ -69,7 +65,8 @@ module _ (P : Plan) (tell : HasSegments P) where
       let last = entry_line P (replay_from P T es) (n + length (x ∷ es)) e ∷ take k (map (op_line P) (entry_ops P (replay_from P T es) e)) in
       let first : entry_line P S n x ≡ entry_line P S n f = ap (λ (ls : List (List ℕ)). head_of ls) same in
       let alike : unseated x ≡ unseated f = entry-same P tell S n x f is_es.0 is_fs.0 narrow_es.0 narrow_fs.0 first in
-      let tails : (map (op_line P) (entry_ops P S x) ++ lines_from P T (n + 1) es) ++ last ≡ map (op_line P) (entry_ops P S f) ++ lines_from P (after_entry P S f) (n + 1) fs = ap (λ (ls : List (List ℕ)). tail_of ls) same in
+      let tails : (map (op_line P) (entry_ops P S x) ++ lines_from P T (n + 1) es) ++ last ≡ map (op_line P) (entry_ops P S f) ++ lines_from P (after_entry P S f) (n + 1) fs =
+      ap (λ (ls : List (List ℕ)). tail_of ls) same in
       let both : map (op_line P) (entry_ops P S f) ++ lines_from P (after_entry P S f) (n + 1) fs ≡ map (op_line P) (entry_ops P S x) ++ lines_from P T (n + 1) fs =
       ap (λ (y : HistoryEntry). map (op_line P) (entry_ops P S y) ++ lines_from P (after_entry P S y) (n + 1) fs) (sym alike) in
       let rest : lines_from P T (n + 1) es ++ last ≡ lines_from P T (n + 1) fs =
@@ -80,13 +77,15 @@ module _ (P : Plan) (tell : HasSegments P) where
       (ap (λ (m : ℕ). lines_from P T (n + 1) es ++ entry_line P (replay_from P T es) m e ∷ take k (map (op_line P) (entry_ops P (replay_from P T es) e))) (sym number) ∙ rest)
 
   module _ (L : List Request) (are : CanBeAsked P L) where
-    within_lacks : (H : List HistoryEntry) (e : HistoryEntry) (k : ℕ) (text : List ℕ) → IsStart P L (H ++ e ∷ []) → k < length (next_op_lines P H e) → text ≡ text_of (lines_within P H e k) → IsWhole P L text → ⊥
+    within_lacks : (H : List HistoryEntry) (e : HistoryEntry) (k : ℕ) (text : List ℕ) → IsStart P L (H ++ e ∷ []) → k < length (next_op_lines P H e)
+        → text ≡ text_of (lines_within P H e k) → IsWhole P L text → ⊥
     unfolding history_lines replay
     within_lacks H e k text start lt is whole =
         let lines = whole_lines P tell L are (lines_within P H e k) (shown_within P L H e start k) text is whole in
         let last = next_line P H e ∷ take k (next_op_lines P H e) in
         let size = length-map (entry_ops P (replay P H) e) (op_line P) in
-        let r = opening-same P tell None whole.opening (lines_from P (opening P) 1 H ++ last) (lines_from P (opening P) 1 whole.entries) tt (lawful-opening P L whole.opening whole.entries whole.lawful)
+        let r =
+        opening-same P tell None whole.opening (lines_from P (opening P) 1 H ++ last) (lines_from P (opening P) 1 whole.entries) tt (lawful-opening P L whole.opening whole.entries whole.lawful)
         (sym (append_assoc (opening_lines P None) (lines_from P (opening P) 1 H) last) ∙ lines) in
         lines_cut H whole.entries (opening P) 1 e k start.legal.well_formed.entries (lawful-formed P L whole.opening whole.entries whole.lawful)
         (start-narrow P L (H ++ e ∷ []) are.narrow start) (lawful-narrow P L are.narrow whole.opening whole.entries whole.lawful) (omega (arith, lt, size)) r.1
@@ -137,7 +136,8 @@ module _ (P : Plan) (tell : HasSegments P) where
         wrong_here P tell L are (opening_lines P (Some k)) (shown_lines P L (Some k) lt) (text_of (opening_lines P (Some k)) ++ left) left refl some
         (λ l b w. opening-ends P tell L are k l (opening-narrow P k lt) w)
 
-    pub lines_left_over : (H : List HistoryEntry) (queues : List (List Request)) (text : List ℕ) → IsStart P L H → Faultless H → Leaves P L H queues → (((p : ℕ) → left_of queues p ≡ []) → ⊥) → text ≡ history_text P None H
+    pub lines_left_over : (H : List HistoryEntry) (queues : List (List Request)) (text : List ℕ) → IsStart P L H → Faultless H → Leaves P L H queues → (((p : ℕ) → left_of queues p ≡ [])
+        → ⊥) → text ≡ history_text P None H
         → (length (history_lines P None H) ≡ length (pieces_of text)) × IsUnfinished P L text
     lines_left_over H queues text start none leaves some is =
         ends_here P tell L are (history_lines P None H) (shown_history P L H start) text (is ∙ text_is P None H) (λ whole. some (all_made (subst (IsWhole P L) is whole)))

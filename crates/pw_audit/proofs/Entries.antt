@@ -1,5 +1,5 @@
 -- The line of an entry, and the entries that may have it.
-use Rattle.std.proofs.Common.{◌≡◌, ◌≢◌, ◌<◌, ◌≤◌, ◌==◌, ◌+◌, ◌-◌, ◌∙◌, ℕ, Bool, true, false, cond, List, [], ◌∷◌, ◌++◌, map, take, length, refl, ap, sym, subst, arith, append_assoc, append-nil, inl, inr}
+use Rattle.std.proofs.Common.{◌≡◌, ◌≤◌, ◌==◌, ◌+◌, ◌-◌, ◌∙◌, ℕ, cond, List, [], ◌∷◌, ◌++◌, map, take, length, refl, ap, sym, subst, arith, append_assoc, append-nil}
 use Rattle.std.proofs.lemmas.List.{append_cancel_left, length-append, length-map}
 use Rattle.acpi_values.specs.declared.operation.Op.{Op}
 use Rattle.pw_plan.specs.declared.plan.Plan.{Plan}
@@ -8,7 +8,7 @@ use Rattle.pw_plan.specs.declared.request.Request.TheVariants.{Idle, Wake, Perf,
 use Rattle.pw_plan.specs.Requests.{Has, cpu_of}
 use Rattle.pw_model.specs.declared.entry.HistoryEntry.{HistoryEntry}
 use Rattle.pw_model.specs.declared.state.State.{State}
-use Rattle.pw_model.specs.History.{FaultFits, IsEntry, entry_of, entry_ops, request_of}
+use Rattle.pw_model.specs.History.{FaultFits, IsEntry, entry_ops, request_of}
 use Rattle.pw_model.specs.Operations.{ops_of}
 use Rattle.pw_model.proofs.Joining.{entry_is}
 use Rattle.pw_model.proofs.Staying.{request_cpu, request_has}
@@ -81,11 +81,13 @@ module _ (P : Plan) (S : State) (n : ℕ) (queues : List (List Request)) (left :
         let same : request_of e ≡ q = only (request_of e) (request_has P e may.entry.states) may.next (heads e b) in
         let outcome = with_feed (behind (outcome_at P S q e.fault)) in
         let whole : left ≡ head_text P n q ++ (outcome ++ b.rest) =
-        b.is ∙ ap (λ (l : List ℕ). l ++ b.rest) (any_line P S n e ∙ ap (λ (r : Request). head_text P n r ++ with_feed (behind (outcome_at P S r e.fault))) same) ∙ append_assoc (head_text P n q) outcome b.rest in
+        b.is ∙ ap (λ (l : List ℕ). l ++ b.rest) (any_line P S n e ∙ ap (λ (r : Request). head_text P n r ++ with_feed (behind (outcome_at P S r e.fault))) same)
+        ∙ append_assoc (head_text P n q) outcome b.rest in
         none e.fault (subst (λ (r : Request). FitsAt P S r e.fault) same may.fits)
         (record { rest = b.rest; is = append_cancel_left (head_text P n q) later (outcome ++ b.rest) (sym head ∙ whole) })
 
-    module _ (f : ℕ) (rest : List ℕ) (has : Has P q) (new : List (List Request)) (takes : Takes queues (cpu_of q) q new) (fits : FitsAt P S q f) (outcome : later ≡ with_feed (behind (outcome_at P S q f)) ++ rest) where
+    module _ (f : ℕ) (rest : List ℕ) (has : Has P q) (new : List (List Request)) (takes : Takes queues (cpu_of q) q new) (fits : FitsAt P S q f) (outcome : later ≡ with_feed (behind
+        (outcome_at P S q f)) ++ rest) where
       next_is : IsNext queues (request_of (entry_with q f))
       next_is = subst (IsNext queues) (sym (with_request q f)) (record { later = left_of new (cpu_of q); is = takes.first })
 

@@ -1,45 +1,30 @@
 -- What follows the lines of a start.
-use Rattle.std.proofs.Common.{◌≡◌, ◌≢◌, ◌<◌, ◌≤◌, ◌+◌, ◌-◌, ◌==◌, ◌∙◌, ℕ, suc, Bool, true, false, cond, List, [], ◌∷◌, ◌++◌, map, take, drop, length, get_or, codes, decimal, Option, Some, None, refl, ap, sym, subst, inl, inr, arith, append_assoc, append-nil, length-take, take-append-drop, add-one, eqb-true}
+use Rattle.std.proofs.Common.{◌≡◌, ◌≢◌, ◌<◌, ◌+◌, ◌==◌, ◌∙◌, ℕ, Bool, true, false, cond, List, [], ◌∷◌, ◌++◌, map, take, drop, length, Option, Some, None, refl, ap, sym, subst, inl, inr, arith, append_assoc, append-nil, take-append-drop, eqb-true}
 use Rattle.std.specs.List.{AllByRecursion}
 use Rattle.std.proofs.lemmas.Bool.{cases_eq, cases_lt, eqb-false}
-use Rattle.std.proofs.lemmas.List.{append_cancel_left, get_or_past, length-append, length-map}
-use Rattle.acpi_values.specs.declared.operation.Op.{Op}
+use Rattle.std.proofs.lemmas.List.{append_cancel_left, get_or_past}
 use Rattle.pw_plan.specs.declared.plan.Plan.{Plan}
 use Rattle.pw_plan.specs.declared.request.Request.{Request}
 use Rattle.pw_plan.specs.Requests.{cpu_of}
 use Rattle.pw_plan.proofs.Lists.{each_append}
 use Rattle.pw_model.specs.declared.entry.HistoryEntry.{HistoryEntry}
-use Rattle.pw_model.specs.declared.state.State.{State}
 use Rattle.pw_model.specs.States.{opening}
-use Rattle.pw_model.specs.History.{FaultFits, Faultless, IsEntry, after_entry, entry_ops, replay, replay_from, request_of}
+use Rattle.pw_model.specs.History.{Faultless, after_entry, replay, request_of}
 use Rattle.pw_model.specs.Operations.{opening_ops}
 use Rattle.pw_model.proofs.Joining.{legal-empty, legal-follows, legal-more, replay-append}
 use Rattle.pw_model.proofs.Staying.{request_cpu}
 use Rattle.pw_notice.specs.Limits.{own, requests}
-use Rattle.pw_text.specs.Lines.{spaced, text_of, with_feed}
-use Rattle.pw_script.specs.Asking.{CanBeAsked}
-use Rattle.pw_script.specs.HistoryText.{entry_lines, fault_words, history_lines, history_text, lines_from, op_line, opening_lines}
-use Rattle.pw_script.specs.Lawful.{Begins, Lawful}
+use Rattle.pw_text.specs.Lines.{text_of}
+use Rattle.pw_script.specs.HistoryText.{entry_lines, history_lines, history_text, lines_from, op_line, opening_lines}
+use Rattle.pw_script.specs.Lawful.{Begins}
 use Rattle.pw_script.specs.inner.Openings.{opened, opening_line}
-use Rattle.pw_texts.specs.Telling.{HasSegments, IsNarrow, IsNarrowFault, unseated}
 use Rattle.pw_texts.specs.Completing.{IsStart}
-use Rattle.pw_texts.specs.Wholes.{BeginsWhole, GoesOnWith, IsFirstLine, IsWhole, Starts, entry_line, lines_within, next_line, next_op_lines}
+use Rattle.pw_texts.specs.Wholes.{Starts, lines_within, next_line, next_op_lines}
 use Rattle.pw_texts.proofs.Beginnings.{history_lines-append}
-use Rattle.pw_texts.proofs.Cuts.{ended-same}
-use Rattle.pw_texts.proofs.Determined.{head-opening, head_of, heads-tell, lines-over, opening-same, tail_of}
-use Rattle.pw_texts.proofs.Ends.{fault-ends, first-line, opening-ends, opening-op}
-use Rattle.pw_texts.proofs.Firsts.{each_first, each_rest, own-append}
-use Rattle.pw_texts.proofs.Narrow.{lawful-formed, lawful-narrow, lawful-opening, opening-narrow, start-narrow}
-use Rattle.pw_texts.proofs.Nexts.{next-line, next-op}
-use Rattle.pw_texts.proofs.Readers.{entry-same}
-use Rattle.pw_audit.specs.declared.answer.AuditFault.{AuditFault}
-use Rattle.pw_audit.specs.declared.answer.AuditFault.TheVariants.{TooLong, Wrong, Unfinished, Memory}
-use Rattle.pw_audit.specs.Audited.{IsWrong}
-use Rattle.pw_audit.specs.inner.Queues.{EachOwn, IsNext, Leaves, Takes, left_of}
-use Rattle.pw_audit.specs.inner.Stopping.{BreaksIn, EndsIn, MayCome, NoEntry, NoOpening, Refuses, StopsBehind, StopsIn, StopsInOpening, WithinOpening}
-use Rattle.pw_audit.proofs.Entries.{lines_few}
-use Rattle.pw_audit.proofs.Passing.{text_of-append}
-use Rattle.pw_audit.proofs.Showing.{Shown, ends_here, wrong_here}
+use Rattle.pw_texts.proofs.Firsts.{each_rest, own-append}
+use Rattle.pw_audit.specs.inner.Queues.{EachOwn, Leaves, Takes, left_of}
+use Rattle.pw_audit.specs.inner.Stopping.{MayCome, WithinOpening}
+use Rattle.pw_audit.proofs.Showing.{Shown}
 
 nothing : {x : List ℕ} {xs : List (List ℕ)} → x ∷ xs ≡ [] → ⊥
 nothing e = cc
@@ -174,7 +159,8 @@ module _ (P : Plan) where
                 leaves.each p lt ∙ ap (λ (l : List Request). own p (requests H) ++ l) (ap (left_of queues) (sym same) ∙ takes.first ∙ ap (λ (k : ℕ). request_of e ∷ left_of new k) same)
                 ∙ sym (append_assoc (own p (requests H)) (request_of e ∷ []) (left_of new p)) ∙ ap (λ (l : List Request). l ++ left_of new p) (sym (own_same e p same))
             | inr ne ↦
-                leaves.each p lt ∙ ap (λ (l : List Request). own p (requests H) ++ l) (sym (takes.others p (λ same. ne (sym same)))) ∙ ap (λ (l : List Request). l ++ left_of new p) (sym (own_other e p ne))
+                leaves.each p lt ∙ ap (λ (l : List Request). own p (requests H) ++ l) (sym (takes.others p (λ same. ne (sym same))))
+                ∙ ap (λ (l : List Request). l ++ left_of new p) (sym (own_other e p ne))
           ]
 
       pub faultless_step : (e : HistoryEntry) → e.fault ≡ 0 → Faultless (H ++ e ∷ [])

@@ -1,5 +1,5 @@
 -- What a script asks of processors that the plan hasn't makes no difference.
-use Rattle.std.proofs.Common.{◌≡◌, ◌<◌, ◌≤◌, ◌==◌, ◌∙◌, ℕ, Bool, true, false, cond, List, [], ◌∷◌, ◌++◌, map, take, length, Option, Some, None, refl, ap, sym, subst, arith, ltb-true, eqb-true, ne_eqb}
+use Rattle.std.proofs.Common.{◌≡◌, ◌<◌, ◌==◌, ◌∙◌, ℕ, Bool, true, false, cond, List, [], ◌∷◌, length, Option, Some, None, refl, ap, sym, arith, ltb-true, eqb-true}
 use Rattle.std.specs.Prelude.{nat_lt}
 use Rattle.std.specs.List.{AllByRecursion}
 use Rattle.std.proofs.lemmas.Bool.{lt-ltb}
@@ -7,14 +7,14 @@ use Rattle.pw_plan.specs.declared.plan.Plan.{Plan}
 use Rattle.pw_plan.specs.declared.request.Request.{Request}
 use Rattle.pw_plan.specs.Requests.{Has, cpu_of}
 use Rattle.pw_model.specs.declared.entry.HistoryEntry.{HistoryEntry}
-use Rattle.pw_notice.specs.Limits.{own, requests}
+use Rattle.pw_notice.specs.Limits.{own}
 use Rattle.pw_script.specs.Asking.{CanBeAsked, IsNarrowRequest}
-use Rattle.pw_script.specs.Lawful.{Begins, IsRunOf, Lawful}
+use Rattle.pw_script.specs.Lawful.{Lawful}
 use Rattle.pw_texts.specs.Wholes.{BeginsWhole, IsWhole}
 use Rattle.pw_audit.specs.declared.answer.Audit.{Audit}
 use Rattle.pw_audit.specs.declared.answer.AuditFault.{AuditFault}
 use Rattle.pw_audit.specs.declared.answer.AuditFault.TheVariants.{TooLong, Wrong, Unfinished, Memory}
-use Rattle.pw_audit.specs.Audited.{IsUnfinished, IsWrong, Shows}
+use Rattle.pw_audit.specs.Audited.{Shows}
 use Rattle.pw_audit.specs.inner.Stopping.{Refuses, known}
 
 module _ (P : Plan) where

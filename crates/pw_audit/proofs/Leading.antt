@@ -1,7 +1,7 @@
 -- A map that leads to the processors from n on leads to those from n - 1 on, once it has that one.
 use Rattle.std.proofs.Common.{◌≡◌, ◌<◌, ◌≤◌, ◌+◌, ◌-◌, ◌∙◌, ℕ, suc, Bool, true, false, List, [], ◌∷◌, length, drop, get_or, cond, refl, ap, arith, zero-add, drop-cons, Vec, Global, Some}
 use Rattle.std.specs.HashMap.{HashMap, get_by}
-use Rattle.std.specs.Prelude.{bytes_eq, map, IfSome, Option, None}
+use Rattle.std.specs.Prelude.{bytes_eq, IfSome, Option, None}
 use Rattle.std.proofs.lemmas.List.{length-map}
 use Rattle.pw_text.specs.Text.{place_text}
 use Rattle.pw_plan.specs.declared.parts.CpuParts.{CpuParts}

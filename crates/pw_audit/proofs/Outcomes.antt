@@ -1,5 +1,5 @@
 -- The end of the line of an entry, behind its arrow.
-use Rattle.std.proofs.Common.{◌≡◌, ◌≢◌, ◌<◌, ◌≤◌, ◌==◌, ◌+◌, ◌-◌, ◌∙◌, ℕ, Bool, true, false, cond, List, [], ◌∷◌, ◌++◌, map, take, length, get_or, codes, decimal, refl, ap, sym, arith, append_assoc, inl, inr, eqb-true}
+use Rattle.std.proofs.Common.{◌≡◌, ◌≢◌, ◌<◌, ◌==◌, ◌-◌, ◌∙◌, ℕ, Bool, true, false, cond, List, ◌∷◌, ◌++◌, length, get_or, codes, decimal, refl, ap, sym, arith, append_assoc, inl, inr}
 use Rattle.std.proofs.lemmas.Bool.{eqb-false}
 use Rattle.std.proofs.lemmas.List.{append_cancel_left}
 use Rattle.pw_plan.specs.declared.plan.Plan.{Plan}

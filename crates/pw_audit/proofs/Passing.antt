@@ -3,10 +3,9 @@ use Rattle.std.proofs.Common.{◌≡◌, ◌<◌, ◌≤◌, ◌+◌, ◌∙◌,
 use Rattle.std.proofs.lemmas.Grind.{flat_map-append}
 use Rattle.std.proofs.lemmas.List.{get_or-map, length-append, length-map, map-append, take-map, take_more}
 use Rattle.pw_text.specs.Lines.{text_of, with_feed}
-use Rattle.pw_script.specs.Lawful.{Begins}
 use Rattle.pw_audit.specs.declared.answer.AuditFault.{AuditFault}
 use Rattle.pw_audit.specs.declared.answer.AuditFault.TheVariants.{TooLong, Wrong, Unfinished, Memory}
-use Rattle.pw_audit.specs.inner.Stopping.{BreaksIn, EndsIn, MissesLine, StopsIn}
+use Rattle.pw_audit.specs.inner.Stopping.{MissesLine, StopsIn}
 
 pub text_of-append : (xs ys : List (List ℕ)) → text_of (xs ++ ys) ≡ text_of xs ++ text_of ys
 text_of-append xs ys = flat_map-append with_feed xs ys

@@ -1,39 +1,29 @@
 -- What is told of texts that aren't whole is right.
-use Rattle.std.proofs.Common.{◌≡◌, ◌≢◌, ◌<◌, ◌≤◌, ◌+◌, ◌-◌, ◌∙◌, ℕ, suc, List, [], ◌∷◌, ◌++◌, map, take, drop, length, get_or, Option, Some, None, refl, ap, sym, subst, inl, inr, arith, append_assoc, append-nil, length-take, add-one}
-use Rattle.std.specs.List.{AllByRecursion}
-use Rattle.std.proofs.lemmas.List.{append_cancel_left, length-append, length-map}
-use Rattle.acpi_values.specs.declared.operation.Op.{Op}
+use Rattle.std.proofs.Common.{◌≡◌, ◌<◌, ◌≤◌, ◌+◌, ◌∙◌, ℕ, suc, List, [], ◌∷◌, ◌++◌, map, take, length, get_or, Option, Some, None, refl, ap, sym, subst, inl, inr, arith, append_assoc, append-nil, length-take}
+use Rattle.std.proofs.lemmas.List.{length-append}
 use Rattle.pw_plan.specs.declared.plan.Plan.{Plan}
 use Rattle.pw_plan.specs.declared.request.Request.{Request}
 use Rattle.pw_model.specs.declared.entry.HistoryEntry.{HistoryEntry}
-use Rattle.pw_model.specs.declared.state.State.{State}
 use Rattle.pw_model.specs.States.{opening}
-use Rattle.pw_model.specs.History.{Faultless, IsEntry, after_entry, entry_ops, replay, replay_from}
 use Rattle.pw_model.specs.Operations.{opening_ops}
-use Rattle.pw_notice.specs.Limits.{own, requests}
 use Rattle.pw_text.specs.Lines.{text_of, with_feed}
 use Rattle.pw_script.specs.Asking.{CanBeAsked}
-use Rattle.pw_script.specs.HistoryText.{entry_lines, history_lines, history_text, lines_from, op_line, opening_lines}
-use Rattle.pw_script.specs.Lawful.{Begins, Lawful}
+use Rattle.pw_script.specs.HistoryText.{history_lines, lines_from, op_line, opening_lines}
+use Rattle.pw_script.specs.Lawful.{Begins}
 use Rattle.pw_script.specs.inner.Openings.{opened, opening_line}
-use Rattle.pw_texts.specs.Telling.{HasSegments, IsNarrow, IsNarrowFault, unseated}
-use Rattle.pw_texts.specs.Completing.{IsStart}
-use Rattle.pw_texts.specs.Wholes.{BeginsWhole, IsFirstLine, IsWhole, entry_line, lines_within, next_line, next_op_lines, pieces_of}
-use Rattle.pw_texts.proofs.Determined.{head-opening, head_of, heads-tell, opening-same, tail_of}
-use Rattle.pw_texts.proofs.Ends.{fault-ends, first-line, opening-ends, opening-op, whole-run}
-use Rattle.pw_texts.proofs.Firsts.{each_first, each_rest}
-use Rattle.pw_texts.proofs.Narrow.{lawful-formed, lawful-narrow, lawful-opening, opening-narrow, start-narrow}
-use Rattle.pw_texts.proofs.Nexts.{next-line, next-op}
-use Rattle.pw_texts.proofs.Readers.{entry-same}
+use Rattle.pw_texts.specs.Telling.{HasSegments, IsNarrowFault}
+use Rattle.pw_texts.specs.Wholes.{BeginsWhole, IsFirstLine, IsWhole}
+use Rattle.pw_texts.proofs.Determined.{head-opening, head_of, heads-tell}
+use Rattle.pw_texts.proofs.Ends.{first-line, opening-op}
+use Rattle.pw_texts.proofs.Narrow.{lawful-opening, opening-narrow}
 use Rattle.pw_audit.specs.declared.answer.AuditFault.{AuditFault}
 use Rattle.pw_audit.specs.declared.answer.AuditFault.TheVariants.{TooLong, Wrong, Unfinished, Memory}
-use Rattle.pw_audit.specs.Audited.{IsUnfinished, IsWrong}
-use Rattle.pw_audit.specs.inner.Queues.{Leaves, left_of}
-use Rattle.pw_audit.specs.inner.Stopping.{NoEntry, NoOpening, Refuses, StopsAtEntry, StopsAtOpening, StopsBehind, StopsIn, StopsInOpening, WithinOpening}
+use Rattle.pw_audit.specs.Audited.{IsWrong}
+use Rattle.pw_audit.specs.inner.Stopping.{NoOpening, Refuses, StopsAtOpening, StopsIn, WithinOpening}
 use Rattle.pw_audit.proofs.Entries.{lines_few}
 use Rattle.pw_audit.proofs.Passing.{text_of-append}
 use Rattle.pw_audit.proofs.Showing.{Shown, ends_here, whole_lines, wrong_here}
-use Rattle.pw_audit.proofs.Following.{goes_on, history_step, may_from, opening_is, shown_history, shown_lines, shown_none, shown_opening, shown_within, text_is}
+use Rattle.pw_audit.proofs.Following.{opening_is, shown_none, shown_opening, text_is}
 
 nothing : {x : List ℕ} {xs : List (List ℕ)} → x ∷ xs ≡ [] → ⊥
 nothing e = cc
@@ -42,7 +32,8 @@ nothing e = cc
 within : (front : List (List ℕ)) (first : List ℕ) (some : List (List ℕ)) (text rest later : List ℕ) → text ≡ text_of front ++ (with_feed first ++ rest) → rest ≡ text_of some ++ later
     → text ≡ text_of (front ++ first ∷ some) ++ later
 within front first some text rest later is more =
-    is ∙ ap (λ (l : List ℕ). text_of front ++ (with_feed first ++ l)) more ∙ regroup (text_of front) (with_feed first) (text_of some) later ∙ ap (λ (l : List ℕ). l ++ later) (sym (text_of-append front (first ∷ some)))
+    is ∙ ap (λ (l : List ℕ). text_of front ++ (with_feed first ++ l)) more ∙ regroup (text_of front) (with_feed first) (text_of some) later
+    ∙ ap (λ (l : List ℕ). l ++ later) (sym (text_of-append front (first ∷ some)))
   where
     regroup : (a b c d : List ℕ) → a ++ (b ++ (c ++ d)) ≡ (a ++ (b ++ c)) ++ d
     regroup a b c d = simp append_assoc
@@ -123,7 +114,8 @@ module _ (P : Plan) (tell : HasSegments P) (L : List Request) (are : CanBeAsked 
         let other = whole.opening in
         let later = lines_from P (opening P) 1 whole.entries in
         let heads : head_of (opening_lines P o) ≡ head_of (opening_lines P other) =
-        ap (λ (ls : List (List ℕ)). head_of ls) (opening_is P o ∙ sym (ap (λ (l : List (List ℕ)). opening_line o ∷ ops) lines)) ∙ ap (λ (ls : List (List ℕ)). head_of ls) lines ∙ head-opening P tell other later in
+        ap (λ (ls : List (List ℕ)). head_of ls) (opening_is P o ∙ sym (ap (λ (l : List (List ℕ)). opening_line o ∷ ops) lines)) ∙ ap (λ (ls : List (List ℕ)). head_of ls) lines
+        ∙ head-opening P tell other later in
         let same : o ≡ other = heads-tell P tell o other (narrow_within o w) (lawful-opening P L other whole.entries whole.lawful) heads in
         let size : length (opening_lines P o) ≡ suc (length ops) = ap (λ (ls : List (List ℕ)). length ls) (opening_is P o) in
         let short = length-take k ops in

@@ -1,8 +1,6 @@
 -- Texts that begin with the lines of a start.
-use Rattle.std.proofs.Common.{◌≡◌, ◌<◌, ◌≤◌, ◌+◌, ◌==◌, ◌∙◌, ℕ, suc, Bool, true, false, cond, List, [], ◌∷◌, ◌++◌, map, take, drop, length, Option, refl, ap, sym, subst, inl, inr, arith, append_assoc, append-nil, eqb-true, ne_eqb, take-append-drop}
-use Rattle.std.specs.List.{AllByRecursion}
+use Rattle.std.proofs.Common.{◌≡◌, ◌<◌, ◌+◌, ◌==◌, ◌∙◌, ℕ, suc, Bool, true, false, List, [], ◌∷◌, ◌++◌, map, take, length, Option, refl, ap, sym, subst, arith, append_assoc, append-nil, eqb-true, ne_eqb}
 use Rattle.std.proofs.Math.Seq.{take-append_seam}
-use Rattle.std.proofs.lemmas.Bool.{cases_lt}
 use Rattle.std.proofs.lemmas.List.{length-append, length-map, map-append, take-append-le}
 use Rattle.pw_plan.specs.declared.plan.Plan.{Plan}
 use Rattle.pw_plan.specs.declared.request.Request.{Request}
@@ -12,7 +10,7 @@ use Rattle.pw_script.specs.Asking.{CanBeAsked}
 use Rattle.pw_script.specs.HistoryText.{history_lines, history_text}
 use Rattle.pw_script.specs.Lawful.{Begins}
 use Rattle.pw_texts.specs.Telling.{HasSegments}
-use Rattle.pw_texts.specs.Wholes.{BeginsStart, BeginsWhole, HasFeed, IsWhole, Starts, onto_first, pieces_of}
+use Rattle.pw_texts.specs.Wholes.{BeginsWhole, HasFeed, IsWhole, Starts, onto_first, pieces_of}
 use Rattle.pw_texts.proofs.Beginnings.{begins-whole}
 use Rattle.pw_texts.proofs.Cuts.{AllOver, Over, ended-same}
 use Rattle.pw_texts.proofs.Determined.{lines-over}

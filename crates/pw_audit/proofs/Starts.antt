@@ -1,5 +1,5 @@
 -- Texts that begin with others.
-use Rattle.std.proofs.Common.{◌≡◌, ◌≢◌, ◌<◌, ◌≤◌, ◌+◌, ◌-◌, ◌==◌, ◌∙◌, ℕ, zero, suc, Bool, true, false, List, [], ◌∷◌, ◌++◌, map, take, drop, length, get_or, refl, ap, sym, subst, arith, Option, Some, None, append_assoc, append-nil, inl, inr, take-append-drop}
+use Rattle.std.proofs.Common.{◌≡◌, ◌≢◌, ◌<◌, ◌+◌, ◌∙◌, ℕ, zero, suc, true, false, List, [], ◌∷◌, ◌++◌, take, drop, length, get_or, refl, ap, sym, arith, Option, Some, None, inl, inr, take-append-drop}
 use denote.Ref.{Bor}
 use Rattle.std.specs.Prelude.{MatchOption, bytes_eq}
 use Rattle.std.proofs.Math.Seq.{get_or-append_seam, take-append_seam}
@@ -15,7 +15,8 @@ differ : false ≡ true → ⊥
 differ e = cc
 
 pub strips : (r : Option (Bor (List ℕ))) (text left : List ℕ)
-    → MatchOption r (bytes_eq (take (length text) left) text ≡ false) (λ x. (bytes_eq (take (length text) left) text ≡ true) × (x.now ≡ drop (length text) left) × (length x.now + length text ≡ length left))
+    → MatchOption r (bytes_eq (take (length text) left) text ≡ false)
+    (λ x. (bytes_eq (take (length text) left) text ≡ true) × (x.now ≡ drop (length text) left) × (length x.now + length text ≡ length left))
     → MatchOption r (Begins text left → ⊥) (λ rest. left ≡ text ++ rest.now)
 strips None text left e = λ b.
     let front : take (length text) left ≡ text = ap (take (length text)) b.is ∙ take-append_seam text b.rest in

@@ -8,7 +8,6 @@ use Rattle.pw_model.specs.Operations.{opening_ops}
 use Rattle.pw_text.specs.Lines.{text_of}
 use Rattle.pw_script.specs.HistoryText.{history_text, opening_lines}
 use Rattle.pw_script.specs.Lawful.{Lawful}
-use Rattle.pw_audit.specs.declared.answer.Audit.{Audit}
 use Rattle.pw_audit.specs.Audited.{Shows}
 use Rattle.pw_audit.specs.inner.Stopping.{known}
 use Rattle.pw_audit.proofs.Following.{opening_whole, text_is}

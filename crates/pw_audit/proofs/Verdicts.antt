@@ -1,5 +1,5 @@
 -- The causes of an audit's answers exclude each other.
-use Rattle.std.proofs.Common.{◌≡◌, ◌≢◌, ◌<◌, ◌≤◌, ◌∙◌, ℕ, true, false, List, take, length, Result, Ok, Err, refl, ap, sym, subst, inl, inr, arith, length-take}
+use Rattle.std.proofs.Common.{◌≡◌, ◌≢◌, ◌<◌, ◌∙◌, ℕ, true, false, List, take, length, Result, Ok, Err, refl, ap, sym, subst, inl, inr, arith, length-take}
 use Rattle.std.specs.Prelude.{◌↔◌, IsOk, IfErr, IfOk}
 use Rattle.std.proofs.lemmas.Bool.{cases_order}
 use Rattle.std.proofs.lemmas.List.{take_min}

@@ -1,5 +1,5 @@
 -- The walk over the entries of a text.
-use Rattle.std.proofs.Common.{◌≡◌, ◌≢◌, ◌<◌, ◌≤◌, ◌==◌, ◌+◌, ◌∙◌, ℕ, true, false, eqb-true, List, [], ◌∷◌, ◌++◌, length, Option, Some, None, refl, ap, sym, subst, inl, inr, arith, append_assoc, append-nil}
+use Rattle.std.proofs.Common.{◌≡◌, ◌≢◌, ◌<◌, ◌≤◌, ◌==◌, ◌+◌, ◌∙◌, ℕ, true, false, eqb-true, List, [], ◌∷◌, ◌++◌, length, None, refl, ap, sym, subst, arith, append_assoc, append-nil}
 use Rattle.std.specs.List.{AllByRecursion}
 use Rattle.std.proofs.lemmas.Bool.{eqb-false}
 use Rattle.std.proofs.lemmas.List.{length-append}
@@ -17,7 +17,7 @@ use Rattle.pw_script.specs.HistoryText.{entry_lines, history_lines, history_text
 use Rattle.pw_script.specs.Lawful.{IsRunOf}
 use Rattle.pw_texts.specs.Telling.{HasSegments}
 use Rattle.pw_texts.specs.Completing.{IsStart}
-use Rattle.pw_texts.specs.Wholes.{IsWhole, pieces_of}
+use Rattle.pw_texts.specs.Wholes.{pieces_of}
 use Rattle.pw_audit.specs.declared.answer.AuditFault.{AuditFault}
 use Rattle.pw_audit.specs.Audited.{IsUnfinished, IsWrong}
 use Rattle.pw_audit.specs.inner.Queues.{EachOwn, Leaves, Takes, left_of}
@@ -40,7 +40,8 @@ pub record Walked (P : Plan) (L : List Request) (text : List ℕ) (H : List Hist
   pub is : text ≡ history_text P None H ++ left
 
 -- the next entry of a text, and what comes of it
-pub record Steps (P : Plan) (S : State) (n : ℕ) (queues : List (List Request)) (passed : ℕ) (left : List ℕ) (e : HistoryEntry) (T : State) (new : List (List Request)) (next : ℕ) (rest : List ℕ) : Type 0 where
+pub record Steps (P : Plan) (S : State) (n : ℕ) (queues : List (List Request)) (passed : ℕ) (left : List ℕ) (e : HistoryEntry) (T : State) (new : List (List Request)) (next : ℕ)
+    (rest : List ℕ) : Type 0 where
   pub may : MayCome P S queues e
   pub seat : e.seat ≡ 0
   pub is : left ≡ text_of (entry_lines P S n e) ++ rest
@@ -49,7 +50,8 @@ pub record Steps (P : Plan) (S : State) (n : ℕ) (queues : List (List Request))
   pub after : T ≡ after_entry P S e
   pub fits : IsState P T
 
-pub walked_init : (P : Plan) (L : List Request) (S : State) (queues : List (List Request)) (passed : ℕ) (left : List ℕ) → S ≡ opening P → IsState P S → Leaves P L [] queues → passed ≡ length (opening_lines P None)
+pub walked_init : (P : Plan) (L : List Request) (S : State) (queues : List (List Request)) (passed : ℕ) (left : List ℕ) → S ≡ opening P → IsState P S → Leaves P L [] queues
+    → passed ≡ length (opening_lines P None)
     → Walked P L (text_of (opening_lines P None) ++ left) [] S queues passed left
 unfolding replay
 walked_init P L S queues passed left state fits leaves lines = record {
@@ -63,7 +65,8 @@ walked_init P L S queues passed left state fits leaves lines = record {
   is = ap (λ (l : List ℕ). l ++ left) (sym (text_is P None [] ∙ ap text_of (opening_whole P None)));
 }
 
-module _ (P : Plan) (L : List Request) (text : List ℕ) (H : List HistoryEntry) (S : State) (queues : List (List Request)) (passed : ℕ) (left : List ℕ) (w : Walked P L text H S queues passed left) where
+module _ (P : Plan) (L : List Request) (text : List ℕ) (H : List HistoryEntry) (S : State) (queues : List (List Request)) (passed : ℕ) (left : List ℕ)
+    (w : Walked P L text H S queues passed left) where
   pub walked_own : EachOwn queues
   walked_own = leaves_own P L H queues w.leaves
 
@@ -168,7 +171,8 @@ module _ (P : Plan) (L : List Request) (text : List ℕ) (H : List HistoryEntry)
         let h = lines_left_over P tell L are H queues text w.start w.faultless w.leaves some end_text in
         (w.lines ∙ h.0, h.1)
 
-pub leaves_init : (P : Plan) (qs : List Request) (queues : List (List Request)) → length queues ≡ length P.cpus → ((p : ℕ) → p < length P.cpus → left_of queues p ≡ own p qs) → Leaves P (known P qs) [] queues
+pub leaves_init : (P : Plan) (qs : List Request) (queues : List (List Request)) → length queues ≡ length P.cpus → ((p : ℕ) → p < length P.cpus → left_of queues p ≡ own p qs)
+    → Leaves P (known P qs) [] queues
 leaves_init P qs queues size each = record { size = size; each = λ p lt. own_known P p qs lt ∙ sym (each p lt) }
 
 pub some_left : (n : ℕ) → (n == 0) ≡ false → 0 < n

@@ -1,6 +1,5 @@
 -- Where the lines of a text stop to be those that should come.
-use Rattle.std.specs.Prelude.{◌≡◌, ◌≢◌, ◌==◌, ◌<◌, ◌≤◌, ◌⊎◌, ◌+◌, ◌-◌, ◌++◌, ℕ, List, [], ◌∷◌, map, take, length, slice_index_or, Option, Some, None, if◌then◌else◌, nat_lt, filter}
-use Rattle.std.specs.List.{AllByRecursion}
+use Rattle.std.specs.Prelude.{◌≡◌, ◌==◌, ◌<◌, ◌≤◌, ◌⊎◌, ◌+◌, ◌-◌, ◌++◌, ℕ, List, [], map, take, length, slice_index_or, Option, Some, None, if◌then◌else◌, nat_lt, filter}
 use Rattle.pw_plan.specs.declared.plan.Plan.{Plan}
 use Rattle.pw_plan.specs.declared.request.Request.{Request}
 use Rattle.pw_plan.specs.Requests.{cpu_of}
@@ -13,7 +12,7 @@ use Rattle.pw_text.specs.Lines.{text_of, with_feed}
 use Rattle.pw_script.specs.HistoryText.{fault_words, op_line, reply_words}
 use Rattle.pw_script.specs.Lawful.{Begins}
 use Rattle.pw_script.specs.inner.Openings.{opened, opening_line}
-use Rattle.pw_texts.specs.Wholes.{IsWhole, entry_line, pieces_of}
+use Rattle.pw_texts.specs.Wholes.{entry_line, pieces_of}
 use Rattle.pw_audit.specs.declared.answer.AuditFault.{AuditFault}
 use Rattle.pw_audit.specs.declared.answer.AuditFault.TheVariants.{TooLong, Wrong, Unfinished, Memory}
 use Rattle.pw_audit.specs.Audited.{IsUnfinished, IsWrong}
@@ -73,7 +72,8 @@ abbrev pub NoEntry : Plan → State → ℕ → List (List Request) → List ℕ
 NoEntry P S n queues left = (e : HistoryEntry) → MayCome P S queues e → Begins (with_feed (entry_line P S n e)) left → ⊥
 
 -- the text begins with the line of such an entry, and stops in its operations; there are `before` lines before it
-pub record StopsBehind (P : Plan) (S : State) (n : ℕ) (queues : List (List Request)) (before : ℕ) (left : List ℕ) (fault : AuditFault) : Type 0 where
+pub record StopsBehind (P : Plan) (S : State) (n : ℕ) (queues : List (List Request)) (before : ℕ) (left : List ℕ) (fault : AuditFault)
+    : Type 0 where
   pub entry : HistoryEntry
   pub may : MayCome P S queues entry
   pub rest : List ℕ

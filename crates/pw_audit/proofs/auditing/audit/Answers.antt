@@ -1,4 +1,4 @@
-use Rattle.std.proofs.Common.{List, Result, ap, subst}
+use Rattle.std.proofs.Common.{List, subst}
 use Rattle.pw_script.specs.declared.script.Line.{Line as line}
 use Rattle.pw_script.specs.Reading.{requests_of}
 use Rattle.pw_audit.proofs.Verdicts.{Told, told_long, told_of, told_shown, told_unfinished, told_whole, told_wrong}

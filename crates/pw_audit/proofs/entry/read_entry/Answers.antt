@@ -1,4 +1,4 @@
-use Rattle.std.proofs.Common.{◌≡◌, ◌∙◌, ◌+◌, ◌≤◌, ◌++◌, ℕ, List, map, length, ap, sym, subst, inl, inr, refl, arith}
+use Rattle.std.proofs.Common.{◌≡◌, ◌∙◌, ◌+◌, ◌++◌, List, map, length, ap, sym, subst, inl, inr, refl, arith}
 use Rattle.std.proofs.lemmas.List.{length-map}
 use Rattle.std.proofs.lemmas.Result.{err_from_is_err_and}
 use Rattle.acpi_values.specs.declared.operation.Op.{Op}
@@ -50,7 +50,8 @@ overflow_cast-result c =
     let only = rw c.in-Some.is at c.in_ok-request.ensures.only in
     let end = rw c.plan.ensures at (rw c.in-Some-2.is at c.in_ok-fault.ensures.read) in
     let first = line_read P S c.args.number c.args.asked.now c.args.left.now q c.in-Some.behind.now head.2 only f c.in-Some-2.rest.now head.0 c.read_head.new.asked head.1 end.0 end.1 in
-    let few = counted c.args.left.now (entry_line P S c.args.number (entry_with q f)) c.in-Some-2.rest.now c.in_ok-next.next.now (map (op_line P) c.done_before-done.result.now) first c.in_ok-next.ensures.ok in
+    let few =
+    counted c.args.left.now (entry_line P S c.args.number (entry_with q f)) c.in-Some-2.rest.now c.in_ok-next.next.now (map (op_line P) c.done_before-done.result.now) first c.in_ok-next.ensures.ok in
     let size = length-map c.done_before-done.result.now (op_line P) in
     let short = c.requires.short in
     omega (arith, few, size, short)
@@ -65,7 +66,8 @@ overflow_add-result-2 c =
     let only = rw c.in-Some.is at c.in_ok-request.ensures.only in
     let end = rw c.plan.ensures at (rw c.in-Some-2.is at c.in_ok-fault.ensures.read) in
     let first = line_read P S c.args.number c.args.asked.now c.args.left.now q c.in-Some.behind.now head.2 only f c.in-Some-2.rest.now head.0 c.read_head.new.asked head.1 end.0 end.1 in
-    let few = counted c.args.left.now (entry_line P S c.args.number (entry_with q f)) c.in-Some-2.rest.now c.in_ok-next.next.now (map (op_line P) c.done_before-done.result.now) first c.in_ok-next.ensures.ok in
+    let few =
+    counted c.args.left.now (entry_line P S c.args.number (entry_with q f)) c.in-Some-2.rest.now c.in_ok-next.next.now (map (op_line P) c.done_before-done.result.now) first c.in_ok-next.ensures.ok in
     let size = length-map c.done_before-done.result.now (op_line P) in
     let short = c.requires.short in
     omega (arith, few, size, short)

@@ -1,11 +1,10 @@
-use Rattle.std.proofs.Common.{◌≡◌, ◌∙◌, ◌∷◌, ◌++◌, ℕ, List, [], Some, None, Option, ap, sym, refl}
+use Rattle.std.proofs.Common.{◌≡◌, ◌∙◌, ◌∷◌, ◌++◌, ℕ, List, [], Some, None, ap, sym}
 use Rattle.pw_plan.specs.declared.request.Request.{Request}
 use Rattle.pw_plan.specs.Requests.{cpu_of}
-use Rattle.pw_script.specs.Lawful.{Begins}
 use Rattle.pw_script.specs.inner.Behind.{head_text}
 use Rattle.pw_script.specs.inner.Paths.{paths_of}
 use Rattle.pw_audit.specs.inner.Looking.{cpu_by}
-use Rattle.pw_audit.specs.inner.Queues.{IsNext, left_of}
+use Rattle.pw_audit.specs.inner.Queues.{left_of}
 use Rattle.pw_audit.proofs.Heads.{found}
 use Rattle.pw_audit.proofs.head.read_head.Goals as goal
 

@@ -1,6 +1,5 @@
-use Rattle.std.proofs.Common.{◌≡◌, ◌<◌, ◌+◌, ◌++◌, ◌∙◌, ℕ, List, [], length, get_or, ap, subst, arith}
+use Rattle.std.proofs.Common.{◌∙◌, ℕ, subst}
 use Rattle.std.proofs.lemmas.Result.{err_from_is_err_and}
-use Rattle.pw_text.specs.Lines.{with_feed}
 use Rattle.pw_script.specs.HistoryText.{op_line}
 use Rattle.pw_audit.specs.inner.Stopping.{MissesLine}
 use Rattle.pw_audit.proofs.Passing.{stops_at}

@@ -1,4 +1,4 @@
-use Rattle.std.proofs.Common.{◌≡◌, ◌≤◌, ◌∙◌, ◌-◌, ◌<◌, List, ℕ, ap, length, arith}
+use Rattle.std.proofs.Common.{◌≡◌, ◌∙◌, ap, arith}
 use Rattle.pw_plan.specs.declared.plan.Plan.{Plan}
 use Rattle.pw_script.specs.inner.Paths.{paths_of}
 use Rattle.pw_audit.proofs.Leading.{leads_on}

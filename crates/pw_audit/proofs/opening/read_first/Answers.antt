@@ -1,4 +1,4 @@
-use Rattle.pw_audit.proofs.Firsts.{no_first, no_number, number_read}
+use Rattle.pw_audit.proofs.Firsts.{no_first}
 use Rattle.pw_audit.proofs.opening.read_first.Goals as goal
 
 pub returns-in-None-strip : goal.returns-in-None-strip

@@ -1,4 +1,4 @@
-use Rattle.std.proofs.Common.{◌≤◌, ◌+◌, List, length, ap, arith}
+use Rattle.std.proofs.Common.{List, length, ap, arith}
 use Rattle.acpi_values.specs.declared.operation.Op.{Op}
 use Rattle.pw_audit.proofs.Firsts.{opened_few}
 use Rattle.pw_audit.proofs.opening.read_opening.Goals as goal

@@ -1,4 +1,4 @@
-use Rattle.std.proofs.Common.{◌≡◌, ◌∙◌, ◌<◌, ◌≤◌, ◌++◌, ℕ, List, length, ap, subst, arith}
+use Rattle.std.proofs.Common.{◌≡◌, ◌∙◌, ◌++◌, List, length, ap, arith}
 use Rattle.acpi_values.specs.declared.operation.Op.{Op}
 use Rattle.pw_base.specs.Room.{Bounded}
 use Rattle.pw_model.specs.Operations.{ops_of}

@@ -5,7 +5,8 @@ use Rattle.pw_script.specs.Reading.{requests_of}
 use Rattle.pw_script.specs.declared.script.Line.{Line as line}
 use Rattle.pw_audit.proofs.walk.lines_known.Goals as goal
 
-lines_more : (ls : List line) (d : line) → 1 ≤ length ls → IsNarrowRequest (get_or ls 0 d).request → AllByRecursion IsNarrowRequest (requests_of (drop 1 ls)) → AllByRecursion IsNarrowRequest (requests_of ls)
+lines_more : (ls : List line) (d : line) → 1 ≤ length ls → IsNarrowRequest (get_or ls 0 d).request → AllByRecursion IsNarrowRequest (requests_of (drop 1 ls))
+    → AllByRecursion IsNarrowRequest (requests_of ls)
 lines_more [] d le h a = absurd (omega arith)
 lines_more (l ∷ ls) d le h a = (h, a)
 

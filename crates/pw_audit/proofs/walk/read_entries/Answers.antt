@@ -1,4 +1,4 @@
-use Rattle.std.proofs.Common.{◌≡◌, ◌≢◌, ◌<◌, ◌≤◌, ◌+◌, ◌∙◌, ◌++◌, ◌∷◌, ℕ, true, false, List, [], None, length, refl, append-nil, ap, sym, subst, arith}
+use Rattle.std.proofs.Common.{◌≡◌, ◌<◌, ◌≤◌, ◌+◌, ◌∙◌, ◌++◌, ◌∷◌, ℕ, true, false, List, [], None, length, refl, append-nil, ap, sym, subst, arith}
 use Rattle.std.specs.List.{AllByRecursion}
 use Rattle.std.proofs.lemmas.List.{length-append}
 use Rattle.std.proofs.lemmas.Result.{err_from_is_err_and}
@@ -11,7 +11,7 @@ use Rattle.pw_script.specs.HistoryText.{history_text, opening_lines}
 use Rattle.pw_script.specs.Lawful.{IsRunOf}
 use Rattle.pw_script.specs.Reading.{requests_of}
 use Rattle.pw_audit.specs.inner.Queues.{left_of}
-use Rattle.pw_audit.specs.inner.Stopping.{Refuses, known}
+use Rattle.pw_audit.specs.inner.Stopping.{known}
 use Rattle.pw_audit.proofs.Knowing.{known_asked}
 use Rattle.pw_audit.proofs.Walking.{Steps, Walked, end_text, end_unfinished, end_whole, fault_whole, fault_wrong, leaves_init, none_left, some_left, step_seats, step_short, step_shorter, step_text, walked_init, walked_own, walked_refuses, walked_short, walked_size, walked_step}
 use Rattle.pw_audit.proofs.walk.read_entries.Goals as goal
@@ -191,7 +191,8 @@ returns-then-entry-ne0-clause-lawful c =
       after = c.in_ok-entry.ensures.after;
       fits = c.in_ok-entry.ensures.fits;
     } in
-    subst (λ (es : List HistoryEntry). IsRunOf P L es) (sym c.in_ok-push.ensures.items) (fault_whole P L text H S queues passed left w n number e T new next rest s c.requires.segments c.if-entry-ne0.true)
+    subst (λ (es : List HistoryEntry). IsRunOf P L es) (sym c.in_ok-push.ensures.items)
+    (fault_whole P L text H S queues passed left w n number e T new next rest s c.requires.segments c.if-entry-ne0.true)
 
 pub returns-then-entry-ne0-clause-text : goal.returns-then-entry-ne0-clause-text
 returns-then-entry-ne0-clause-text c =
@@ -290,7 +291,8 @@ loop-left-preserved c =
       fits = c.in_ok-entry.ensures.fits;
     } in
     record {
-      walked = subst (λ (es : List HistoryEntry). Walked P L text es T new next rest) (sym c.in_ok-push.ensures.items) (walked_step P L text H S queues passed left w n number e T new next rest s c.if-entry-ne0.false);
+      walked = subst (λ (es : List HistoryEntry). Walked P L text es T new next rest)
+          (sym c.in_ok-push.ensures.items) (walked_step P L text H S queues passed left w n number e T new next rest s c.if-entry-ne0.false);
       room = subst (λ (k : ℕ). 256 ≤ k) (sym c.in_ok-entry.ensures.room) c.loop-left.invariant.room;
     }
 

@@ -1,5 +1,4 @@
-use Rattle.std.proofs.Common.{◌≡◌, ◌≤◌, ◌<◌, ◌+◌, ◌∙◌, ◌++◌, ℕ, List, [], ◌∷◌, Option, Some, None, true, false, length, ap, sym, subst, refl, arith, append-nil}
-use Rattle.std.specs.List.{AllByRecursion}
+use Rattle.std.proofs.Common.{◌≡◌, ◌<◌, ◌+◌, ◌∙◌, ◌++◌, ℕ, List, Option, Some, None, length, ap, sym, subst, arith}
 use Rattle.std.proofs.lemmas.List.{length-append}
 use Rattle.std.proofs.lemmas.Result.{err_from_is_err_and}
 use Rattle.acpi_values.specs.declared.operation.Op.{Op}
@@ -17,16 +16,15 @@ use Rattle.pw_audit.specs.inner.Stopping.{Refuses, StopsAtOpening, WithinOpening
 use Rattle.pw_audit.proofs.Entries.{lines_few}
 use Rattle.pw_audit.proofs.Entering.{behind_opening}
 use Rattle.pw_audit.proofs.Firsts.{opening_few}
-use Rattle.pw_audit.proofs.Following.{opening_whole, text_is}
-use Rattle.pw_audit.proofs.Knowing.{known_asked, refuses_to, shows_to}
+use Rattle.pw_audit.proofs.Knowing.{known_asked, refuses_to}
 use Rattle.pw_audit.proofs.Refusing.{at_opening}
 use Rattle.pw_audit.proofs.Telling.{shows_entries, shows_opening}
 use Rattle.pw_audit.proofs.Walking.{none_left, some_left}
 use Rattle.pw_audit.proofs.walk.read_text.Goals as goal
 
-no_bytes : (xs : List ℕ) → length xs ≡ 0 → xs ≡ []
-no_bytes [] e = refl
-no_bytes (x ∷ xs) e = absurd (omega arith)
+-- what is said of the plan with its names, and of the opening that was read, holds of the plan, and of what the opening is
+said : (T : Plan → Option ℕ → Type 0) {n p : Plan} {o f : Option ℕ} → n ≡ p → o ≡ f → T n o → T p f
+said T {n} {p} {o} {f} plan opening h = subst (λ (q : Plan). T q f) plan (subst (λ (g : Option ℕ). T n g) opening h)
 
 pub read_opening-requires-clause-few : goal.read_opening-requires-clause-few
 read_opening-requires-clause-few c =
@@ -63,9 +61,9 @@ returns-then-not-is_empty-clause-refuses c =
     let left = c.in_ok-opening.left.now in
     let k = c.in-Some.field-0 in
     let some : 0 < length left = some_left (length left) (sym c.is_empty.ensures ∙ c.if-not-is_empty.true) in
-    let within = subst (λ (o : Option ℕ). WithinOpening (length (opening_ops P)) o) c.in-Some.is (subst (λ (p : Plan). WithinOpening (length (opening_ops p)) c.in_ok-opening.opening) c.in_ok-names.ensures c.in_ok-opening.ensures.within) in
-    let is = subst (λ (o : Option ℕ). text ≡ text_of (opening_lines P o) ++ left) c.in-Some.is (subst (λ (p : Plan). text ≡ text_of (opening_lines p c.in_ok-opening.opening) ++ left) c.in_ok-names.ensures c.in_ok-opening.ensures.text) in
-    let lines = subst (λ (o : Option ℕ). c.in_ok-opening.before ≡ length (opening_lines P o)) c.in-Some.is (subst (λ (p : Plan). c.in_ok-opening.before ≡ length (opening_lines p c.in_ok-opening.opening)) c.in_ok-names.ensures c.in_ok-opening.ensures.lines) in
+    let within = said (λ p o. WithinOpening (length (opening_ops p)) o) c.in_ok-names.ensures c.in-Some.is c.in_ok-opening.ensures.within in
+    let is = said (λ p o. text ≡ text_of (opening_lines p o) ++ left) c.in_ok-names.ensures c.in-Some.is c.in_ok-opening.ensures.text in
+    let lines = said (λ p o. c.in_ok-opening.before ≡ length (opening_lines p o)) c.in_ok-names.ensures c.in-Some.is c.in_ok-opening.ensures.lines in
     let wrong = behind_opening P c.plans_have_segments.ensures (known P qs) (known_asked P qs c.lines_known.ensures) k left within some in
     refuses_to P qs text (Wrong (c.in_ok-opening.before + 1))
     (subst (λ (t : List ℕ). Refuses P (known P qs) t (Wrong (c.in_ok-opening.before + 1))) (sym is)
@@ -79,8 +77,8 @@ returns-in-Some-clause-shown c =
     let left = c.in_ok-opening.left.now in
     let k = c.in-Some.field-0 in
     let none : length left ≡ 0 = none_left (length left) (sym c.is_empty.ensures ∙ c.if-not-is_empty.false) in
-    let within = subst (λ (o : Option ℕ). WithinOpening (length (opening_ops P)) o) c.in-Some.is (subst (λ (p : Plan). WithinOpening (length (opening_ops p)) c.in_ok-opening.opening) c.in_ok-names.ensures c.in_ok-opening.ensures.within) in
-    let is = subst (λ (o : Option ℕ). text ≡ text_of (opening_lines P o) ++ left) c.in-Some.is (subst (λ (p : Plan). text ≡ text_of (opening_lines p c.in_ok-opening.opening) ++ left) c.in_ok-names.ensures c.in_ok-opening.ensures.text) in
+    let within = said (λ p o. WithinOpening (length (opening_ops p)) o) c.in_ok-names.ensures c.in-Some.is c.in_ok-opening.ensures.within in
+    let is = said (λ p o. text ≡ text_of (opening_lines p o) ++ left) c.in_ok-names.ensures c.in-Some.is c.in_ok-opening.ensures.text in
     shows_opening P qs text left c.in_ok-opening.opening k c.from_vec.result c.in-Some.is within is none (c.from_vec.ensures ∙ c.new-in-Some.ensures.items)
 
 pub returns-in_err-entries-clause-refuses : goal.returns-in_err-entries-clause-refuses
@@ -91,7 +89,7 @@ returns-in_err-entries-clause-refuses c =
     let text = c.args.text.now in
     let left = c.in_ok-opening.left.now in
     let fault = c.in_err-entries.field-0.0 in
-    let is = subst (λ (o : Option ℕ). text ≡ text_of (opening_lines P o) ++ left) c.in_default.is (subst (λ (p : Plan). text ≡ text_of (opening_lines p c.in_ok-opening.opening) ++ left) c.in_ok-names.ensures c.in_ok-opening.ensures.text) in
+    let is = said (λ p o. text ≡ text_of (opening_lines p o) ++ left) c.in_ok-names.ensures c.in_default.is c.in_ok-opening.ensures.text in
     let refuses = subst (λ (p : Plan). Refuses p (known p qs) (text_of (opening_lines p None) ++ left) fault) c.in_ok-names.ensures c.in_err-entries.ensures.refuses in
     rw (p.1, p.2) (refuses_to P qs text fault (subst (λ (t : List ℕ). Refuses P (known P qs) t fault) (sym is) refuses))
 
@@ -102,7 +100,7 @@ returns-clause-shown c =
     let text = c.args.text.now in
     let left = c.in_ok-opening.left.now in
     let es = c.in_ok-entries.entries.items in
-    let is = subst (λ (o : Option ℕ). text ≡ text_of (opening_lines P o) ++ left) c.in_default.is (subst (λ (p : Plan). text ≡ text_of (opening_lines p c.in_ok-opening.opening) ++ left) c.in_ok-names.ensures c.in_ok-opening.ensures.text) in
+    let is = said (λ p o. text ≡ text_of (opening_lines p o) ++ left) c.in_ok-names.ensures c.in_default.is c.in_ok-opening.ensures.text in
     let lawful = subst (λ (p : Plan). Lawful p (known p qs) None es) c.in_ok-names.ensures c.in_ok-entries.ensures.lawful in
     let whole = subst (λ (p : Plan). text_of (opening_lines p None) ++ left ≡ history_text p None es) c.in_ok-names.ensures c.in_ok-entries.ensures.text in
     subst (λ (entries : List HistoryEntry). Shows P qs text (record { opening = c.in_ok-opening.opening; entries = entries })) (sym c.from_vec-2.ensures)

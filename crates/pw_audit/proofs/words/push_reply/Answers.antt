@@ -1,6 +1,5 @@
-use Rattle.std.proofs.Common.{codes, decimal, ◌∷◌, ◌∙◌, ◌++◌, List, ℕ, ap, map, take}
+use Rattle.std.proofs.Common.{◌∙◌, ◌++◌, List, ℕ, ap, take}
 use Rattle.std.proofs.lemmas.Result.{on_ok_weaker}
-use Rattle.pw_script.specs.inner.Behind.{behind}
 use Rattle.pw_script.proofs.Spacing.{behind_chain}
 use Rattle.pw_audit.proofs.words.push_reply.Goals as goal
 

@@ -1,4 +1,4 @@
-use Rattle.std.proofs.Common.{◌≡◌, ◌∙◌, ◌+◌, ◌-◌, ◌++◌, ◌<◌, ℕ, List, [], length, take, get_or, append-nil, ap, arith, sym}
+use Rattle.std.proofs.Common.{◌≡◌, ◌∙◌, ◌+◌, ◌-◌, ◌++◌, ◌<◌, ℕ, List, length, take, append-nil, ap, arith}
 use Rattle.std.proofs.lemmas.List.{take_all}
 use Rattle.pw_plan.specs.declared.request.Request.{Request}
 use Rattle.pw_notice.specs.Limits.{own}

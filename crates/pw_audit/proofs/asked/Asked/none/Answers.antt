@@ -1,4 +1,4 @@
-use Rattle.std.proofs.Common.{◌≡◌, ◌∙◌, ℕ, [], ap, length, arith, List}
+use Rattle.std.proofs.Common.{◌≡◌, ◌∙◌, [], ap, length, arith, List}
 use Rattle.std.proofs.lemmas.List.{length-replicate}
 use Rattle.pw_plan.specs.declared.request.Request.{Request}
 use Rattle.pw_audit.specs.inner.Queues.{left_of}

@@ -1,4 +1,4 @@
-use Rattle.std.proofs.Common.{◌≡◌, ℕ, List, [], map, replicate, Vec, Global}
+use Rattle.std.proofs.Common.{◌≡◌, [], map, replicate, Vec, Global}
 use Rattle.std.specs.Prelude.{reverse}
 use Rattle.pw_plan.specs.declared.request.Request.{Request}
 use Rattle.pw_audit.proofs.asked.Asked.none.Given as goal

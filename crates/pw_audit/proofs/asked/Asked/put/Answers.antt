@@ -1,10 +1,8 @@
-use Rattle.std.proofs.Common.{◌≡◌, ◌<◌, ◌==◌, ◌∙◌, ◌∷◌, ◌++◌, ℕ, [], cond, ap, length, arith, sym, subst, List}
-use Rattle.std.proofs.lemmas.List.{length-map}
-use Rattle.std.proofs.Math.ListN.{set}
+use Rattle.std.proofs.Common.{◌≡◌, ◌<◌, ◌==◌, ◌∙◌, ◌∷◌, ℕ, cond, ap, length, arith, List}
 use Rattle.pw_plan.specs.declared.request.Request.{Request}
 use Rattle.pw_plan.specs.Requests.{cpu_of}
 use Rattle.pw_audit.specs.inner.Queues.{left_of}
-use Rattle.pw_audit.proofs.Queueing.{put_first, queue_of, queues_of}
+use Rattle.pw_audit.proofs.Queueing.{put_first, queues_of}
 use Rattle.pw_audit.proofs.asked.Asked.put.Goals as goal
 
 pub returns-in_ok-push-clause-first : goal.returns-in_ok-push-clause-first

@@ -1,4 +1,4 @@
-use Rattle.std.proofs.Common.{◌≡◌, ◌<◌, ◌∙◌, ℕ, [], ap, length, arith, sym, subst, List}
+use Rattle.std.proofs.Common.{◌≡◌, ◌<◌, [], ap, length, arith, subst, List}
 use Rattle.std.specs.Prelude.{MatchOption}
 use Rattle.std.specs.Vec.{vec_len}
 use Rattle.std.proofs.lemmas.List.{length-map}
