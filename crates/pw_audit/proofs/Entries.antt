@@ -1,0 +1,142 @@
+-- The line of an entry, and the entries that may have it.
+use Rattle.std.proofs.Common.{◌≡◌, ◌≤◌, ◌==◌, ◌+◌, ◌-◌, ◌∙◌, ℕ, cond, List, [], ◌∷◌, ◌++◌, map, take, length, refl, ap, sym, subst, arith, append_assoc, append-nil}
+use Rattle.std.proofs.lemmas.List.{append_cancel_left, length-append, length-map}
+use Rattle.acpi_values.specs.declared.operation.Op.{Op}
+use Rattle.pw_plan.specs.declared.plan.Plan.{Plan}
+use Rattle.pw_plan.specs.declared.request.Request.{Request}
+use Rattle.pw_plan.specs.declared.request.Request.TheVariants.{Idle, Wake, Perf, Throttle, PerfLimit, ThrottleLimit}
+use Rattle.pw_plan.specs.Requests.{Has, cpu_of}
+use Rattle.pw_model.specs.declared.entry.HistoryEntry.{HistoryEntry}
+use Rattle.pw_model.specs.declared.state.State.{State}
+use Rattle.pw_model.specs.History.{FaultFits, IsEntry, entry_ops, request_of}
+use Rattle.pw_model.specs.Operations.{ops_of}
+use Rattle.pw_model.proofs.Joining.{entry_is}
+use Rattle.pw_model.proofs.Staying.{request_cpu, request_has}
+use Rattle.pw_text.specs.Lines.{text_of, with_feed}
+use Rattle.pw_script.specs.HistoryText.{entry_lines, op_line, outcome_words, request_line}
+use Rattle.pw_script.specs.Lawful.{Begins}
+use Rattle.pw_script.specs.inner.Behind.{behind, head_text}
+use Rattle.pw_script.proofs.Printed.{entry_text}
+use Rattle.pw_texts.specs.Wholes.{entry_line}
+use Rattle.pw_audit.specs.declared.answer.AuditFault.{AuditFault}
+use Rattle.pw_audit.specs.inner.Queues.{IsNext, Takes, left_of}
+use Rattle.pw_audit.specs.inner.Stopping.{FitsAt, MayCome, NoEntry, StopsBehind, StopsIn, entry_with, outcome_at}
+
+-- # The entry of a request with a fault
+
+pub with_request : (q : Request) (f : ℕ) → request_of (entry_with q f) ≡ q
+with_request (Idle p s t) f = refl
+with_request (Wake p) f = refl
+with_request (Perf p i) f = refl
+with_request (Throttle p i) f = refl
+with_request (PerfLimit p n) f = refl
+with_request (ThrottleLimit p n) f = refl
+
+with_is : (P : Plan) (q : Request) (f : ℕ) → Has P q → IsEntry P (entry_with q f)
+with_is P q f has =
+    let h = entry_is P 0 q has in
+    record {
+      states = record { cpu = h.states.cpu; code_from = h.states.code_from; code_to = h.states.code_to };
+      wake = h.wake;
+      others = h.others;
+    }
+
+-- the operations that were done before the fault
+abbrev pub done_of : List Op → ℕ → List Op
+done_of ops f = cond (f == 0) ops (take (f - 1) ops)
+
+pub with_ops : (P : Plan) (S : State) (q : Request) (f : ℕ) → entry_ops P S (entry_with q f) ≡ done_of (ops_of P S q) f
+with_ops P S q f = ap (λ (r : Request). done_of (ops_of P S r) f) (with_request q f)
+
+with_fits : (P : Plan) (S : State) (q : Request) (f : ℕ) → FitsAt P S q f → FaultFits P S (entry_with q f)
+with_fits P S q f fits = subst (λ (r : Request). FitsAt P S r f) (sym (with_request q f)) fits
+
+-- # The line of an entry
+
+line_is : (P : Plan) (n : ℕ) (q : Request) (out : List (List ℕ)) → with_feed (request_line P n (cpu_of q) q out) ≡ head_text P n q ++ with_feed (behind out)
+line_is P n q out = sym (append-nil (with_feed (request_line P n (cpu_of q) q out))) ∙ sym (entry_text P n q out [])
+
+pub any_line : (P : Plan) (S : State) (n : ℕ) (e : HistoryEntry) → with_feed (entry_line P S n e) ≡ head_text P n (request_of e) ++ with_feed (behind (outcome_at P S (request_of e) e.fault))
+any_line P S n e =
+    ap (λ (p : ℕ). with_feed (request_line P n p (request_of e) (outcome_words P S e))) (sym (request_cpu e)) ∙ line_is P n (request_of e) (outcome_words P S e)
+
+with_line : (P : Plan) (S : State) (n : ℕ) (q : Request) (f : ℕ) → with_feed (entry_line P S n (entry_with q f)) ≡ head_text P n q ++ with_feed (behind (outcome_at P S q f))
+with_line P S n q f = any_line P S n (entry_with q f) ∙ ap (λ (r : Request). head_text P n r ++ with_feed (behind (outcome_at P S r f))) (with_request q f)
+
+-- # What may come
+
+module _ (P : Plan) (S : State) (n : ℕ) (queues : List (List Request)) (left : List ℕ) where
+  heads : (e : HistoryEntry) → Begins (with_feed (entry_line P S n e)) left → Begins (head_text P n (request_of e)) left
+  heads e b = record {
+    rest = with_feed (behind (outcome_at P S (request_of e) e.fault)) ++ b.rest;
+    is = b.is ∙ ap (λ (l : List ℕ). l ++ b.rest) (any_line P S n e) ∙ append_assoc (head_text P n (request_of e)) (with_feed (behind (outcome_at P S (request_of e) e.fault))) b.rest;
+  }
+
+  pub no_head : ((q : Request) → Has P q → IsNext queues q → Begins (head_text P n q) left → ⊥) → NoEntry P S n queues left
+  no_head none e may b = none (request_of e) (request_has P e may.entry.states) may.next (heads e b)
+
+  module _ (q : Request) (later : List ℕ) (head : left ≡ head_text P n q ++ later) (only : (r : Request) → Has P r → IsNext queues r → Begins (head_text P n r) left → r ≡ q) where
+    pub no_end : ((f : ℕ) → FitsAt P S q f → Begins (with_feed (behind (outcome_at P S q f))) later → ⊥) → NoEntry P S n queues left
+    no_end none e may b =
+        let same : request_of e ≡ q = only (request_of e) (request_has P e may.entry.states) may.next (heads e b) in
+        let outcome = with_feed (behind (outcome_at P S q e.fault)) in
+        let whole : left ≡ head_text P n q ++ (outcome ++ b.rest) =
+        b.is ∙ ap (λ (l : List ℕ). l ++ b.rest) (any_line P S n e ∙ ap (λ (r : Request). head_text P n r ++ with_feed (behind (outcome_at P S r e.fault))) same)
+        ∙ append_assoc (head_text P n q) outcome b.rest in
+        none e.fault (subst (λ (r : Request). FitsAt P S r e.fault) same may.fits)
+        (record { rest = b.rest; is = append_cancel_left (head_text P n q) later (outcome ++ b.rest) (sym head ∙ whole) })
+
+    module _ (f : ℕ) (rest : List ℕ) (has : Has P q) (new : List (List Request)) (takes : Takes queues (cpu_of q) q new) (fits : FitsAt P S q f) (outcome : later ≡ with_feed (behind
+        (outcome_at P S q f)) ++ rest) where
+      next_is : IsNext queues (request_of (entry_with q f))
+      next_is = subst (IsNext queues) (sym (with_request q f)) (record { later = left_of new (cpu_of q); is = takes.first })
+
+      pub may_come : MayCome P S queues (entry_with q f)
+      may_come = record { entry = with_is P q f has; fits = with_fits P S q f fits; next = next_is }
+
+      pub line_read : left ≡ with_feed (entry_line P S n (entry_with q f)) ++ rest
+      line_read =
+          head ∙ ap (λ (l : List ℕ). head_text P n q ++ l) outcome ∙ sym (append_assoc (head_text P n q) (with_feed (behind (outcome_at P S q f))) rest)
+          ∙ ap (λ (l : List ℕ). l ++ rest) (sym (with_line P S n q f))
+
+      pub lines_read : (done : List Op) (next : List ℕ) → done ≡ done_of (ops_of P S q) f → rest ≡ text_of (map (op_line P) done) ++ next
+          → left ≡ text_of (entry_lines P S n (entry_with q f)) ++ next
+      lines_read done next is goes =
+          let first = with_feed (entry_line P S n (entry_with q f)) in
+          let ops = text_of (map (op_line P) (entry_ops P S (entry_with q f))) in
+          line_read ∙ ap (λ (l : List ℕ). first ++ l) (goes ∙ ap (λ (os : List Op). text_of (map (op_line P) os) ++ next) (is ∙ sym (with_ops P S q f))) ∙ sym (append_assoc first ops next)
+
+      pub stops_behind : (done : List Op) (before : ℕ) (fault : AuditFault) → done ≡ done_of (ops_of P S q) f → StopsIn (map (op_line P) done) (before + 1) rest fault
+          → StopsBehind P S n queues before left fault
+      stops_behind done before fault is stops = record {
+        entry = entry_with q f;
+        may = may_come;
+        rest = rest;
+        is = line_read;
+        stops = subst (λ (os : List Op). StopsIn (map (op_line P) os) (before + 1) rest fault) (is ∙ sym (with_ops P S q f)) stops;
+      }
+
+-- # How many lines
+
+pub lines_few : (ls : List (List ℕ)) → length ls ≤ length (text_of ls)
+lines_few [] = omega arith
+lines_few (l ∷ ls) =
+    let few = lines_few ls in
+    let whole : length (text_of (l ∷ ls)) ≡ length (with_feed l) + length (text_of ls) = length-append (with_feed l) (text_of ls) in
+    let line : length (with_feed l) ≡ length l + 1 = length-append l (10 ∷ []) in
+    omega arith
+
+pub counted : (left first rest next : List ℕ) (ls : List (List ℕ)) → left ≡ with_feed first ++ rest → rest ≡ text_of ls ++ next → length ls + 1 ≤ length left
+counted left first rest next ls head tail =
+    let few = lines_few ls in
+    let a : length left ≡ length (with_feed first) + length rest = ap length head ∙ length-append (with_feed first) rest in
+    let b : length (with_feed first) ≡ length first + 1 = length-append first (10 ∷ []) in
+    let d : length rest ≡ length (text_of ls) + length next = ap length tail ∙ length-append (text_of ls) next in
+    omega arith
+
+pub lines_count : (P : Plan) (S : State) (n before : ℕ) (q : Request) (f : ℕ) (done : List Op) → done ≡ done_of (ops_of P S q) f
+    → before + 1 + length done ≡ before + length (entry_lines P S n (entry_with q f))
+lines_count P S n before q f done is =
+    let same : length done ≡ length (entry_ops P S (entry_with q f)) = ap (λ (os : List Op). length os) (is ∙ sym (with_ops P S q f)) in
+    let size : length (map (op_line P) (entry_ops P S (entry_with q f))) ≡ length (entry_ops P S (entry_with q f)) = length-map (entry_ops P S (entry_with q f)) (op_line P) in
+    omega arith

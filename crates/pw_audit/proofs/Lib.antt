@@ -1,0 +1,16 @@
+pub mod Leading
+pub mod Queueing
+pub mod Starts
+pub mod Passing
+pub mod Firsts
+pub mod Heads
+pub mod Outcomes
+pub mod Entries
+pub mod Showing
+pub mod Following
+pub mod Refusing
+pub mod Entering
+pub mod Knowing
+pub mod Walking
+pub mod Telling
+pub mod Verdicts

@@ -1,0 +1,17 @@
+use Rattle.std.proofs.Common.{◌∙◌, ℕ, subst}
+use Rattle.std.proofs.lemmas.Result.{err_from_is_err_and}
+use Rattle.pw_script.specs.HistoryText.{op_line}
+use Rattle.pw_audit.specs.inner.Stopping.{MissesLine}
+use Rattle.pw_audit.proofs.Passing.{stops_at}
+use Rattle.pw_audit.proofs.matching.pass_ops.Goals as goal
+
+pub returns-in_err-rest-clause-stops : goal.returns-in_err-rest-clause-stops
+returns-in_err-rest-clause-stops c =
+    let p = err_from_is_err_and c.from_residual-in_err-rest.result c.from_residual-in_err-rest.ensures.1 in
+    let P = c.args.names.now in
+    let k = c.loop-op.op-index in
+    let line = c.as_slice.result.now in
+    let put = rw c.clear.ensures.items at c.in_ok-push_op_line.ensures in
+    let whole = c.as_slice.ensures.value ∙ put in
+    let missed = subst (λ (n : ℕ). MissesLine line n c.loop-op.rest.now c.in_err-rest.field-0.0) c.loop-op.invariant.passed c.in_err-rest.ensures.stops in
+    rw (p.1, p.2) (stops_at (op_line P) c.args.before k c.args.ops.now _ c.args.left.now c.loop-op.rest.now line c.in_err-rest.field-0.0 c.loop-op-test.true c.loop-op.invariant.text whole missed)

@@ -1,0 +1,107 @@
+use Rattle.std.proofs.Common.{◌≡◌, ◌<◌, ◌+◌, ◌∙◌, ◌++◌, ℕ, List, Option, Some, None, length, ap, sym, subst, arith}
+use Rattle.std.proofs.lemmas.List.{length-append}
+use Rattle.std.proofs.lemmas.Result.{err_from_is_err_and}
+use Rattle.acpi_values.specs.declared.operation.Op.{Op}
+use Rattle.pw_base.specs.Room.{Bounded}
+use Rattle.pw_plan.specs.declared.plan.Plan.{Plan}
+use Rattle.pw_model.specs.declared.entry.HistoryEntry.{HistoryEntry}
+use Rattle.pw_model.specs.Operations.{opening_ops}
+use Rattle.pw_text.specs.Lines.{text_of}
+use Rattle.pw_script.specs.HistoryText.{history_text, opening_lines}
+use Rattle.pw_script.specs.Lawful.{Lawful}
+use Rattle.pw_script.specs.Reading.{requests_of}
+use Rattle.pw_audit.specs.declared.answer.AuditFault.TheVariants.{Wrong}
+use Rattle.pw_audit.specs.Audited.{Shows}
+use Rattle.pw_audit.specs.inner.Stopping.{Refuses, StopsAtOpening, WithinOpening, known}
+use Rattle.pw_audit.proofs.Entries.{lines_few}
+use Rattle.pw_audit.proofs.Entering.{behind_opening}
+use Rattle.pw_audit.proofs.Firsts.{opening_few}
+use Rattle.pw_audit.proofs.Knowing.{known_asked, refuses_to}
+use Rattle.pw_audit.proofs.Refusing.{at_opening}
+use Rattle.pw_audit.proofs.Telling.{shows_entries, shows_opening}
+use Rattle.pw_audit.proofs.Walking.{none_left, some_left}
+use Rattle.pw_audit.proofs.walk.read_text.Goals as goal
+
+-- what is said of the plan with its names, and of the opening that was read, holds of the plan, and of what the opening is
+said : (T : Plan → Option ℕ → Type 0) {n p : Plan} {o f : Option ℕ} → n ≡ p → o ≡ f → T n o → T p f
+said T {n} {p} {o} {f} plan opening h = subst (λ (q : Plan). T q f) plan (subst (λ (g : Option ℕ). T n g) opening h)
+
+pub read_opening-requires-clause-few : goal.read_opening-requires-clause-few
+read_opening-requires-clause-few c =
+    let P = c.args.plan.now in
+    let list : c.list.result.now ≡ opening_ops P = c.list.ensures ∙ ap (λ (o : Bounded Op). o.elements) c.open_all.ensures ∙ ap (λ (o : Bounded Op). o.elements ++ opening_ops P) c.in_ok-ops.ensures in
+    let size = ap (λ (os : List Op). length os) list in
+    let few = opening_few P in
+    omega arith
+
+pub returns-in_err-opening-clause-refuses : goal.returns-in_err-opening-clause-refuses
+returns-in_err-opening-clause-refuses c =
+    let p = err_from_is_err_and c.from_residual-in_err-opening.result c.from_residual-in_err-opening.ensures.1 in
+    let P = c.args.plan.now in
+    let qs = requests_of c.args.lines.now in
+    let text = c.args.text.now in
+    let fault = c.in_err-opening.field-0.0 in
+    let stops = subst (λ (p : Plan). StopsAtOpening p text fault) c.in_ok-names.ensures c.in_err-opening.ensures.stops in
+    rw (p.1, p.2) (refuses_to P qs text fault (at_opening P c.plans_have_segments.ensures (known P qs) (known_asked P qs c.lines_known.ensures) text fault stops))
+
+pub overflow_add-result : goal.overflow_add-result
+overflow_add-result c =
+    let ls = opening_lines c.in_ok-names.names c.in_ok-opening.opening in
+    let few = lines_few ls in
+    let size : length c.args.text.now ≡ length (text_of ls) + length c.in_ok-opening.left.now = ap length c.in_ok-opening.ensures.text ∙ length-append (text_of ls) c.in_ok-opening.left.now in
+    let lines = c.in_ok-opening.ensures.lines in
+    let short = c.requires in
+    omega arith
+
+pub returns-then-not-is_empty-clause-refuses : goal.returns-then-not-is_empty-clause-refuses
+returns-then-not-is_empty-clause-refuses c =
+    let P = c.args.plan.now in
+    let qs = requests_of c.args.lines.now in
+    let text = c.args.text.now in
+    let left = c.in_ok-opening.left.now in
+    let k = c.in-Some.field-0 in
+    let some : 0 < length left = some_left (length left) (sym c.is_empty.ensures ∙ c.if-not-is_empty.true) in
+    let within = said (λ p o. WithinOpening (length (opening_ops p)) o) c.in_ok-names.ensures c.in-Some.is c.in_ok-opening.ensures.within in
+    let is = said (λ p o. text ≡ text_of (opening_lines p o) ++ left) c.in_ok-names.ensures c.in-Some.is c.in_ok-opening.ensures.text in
+    let lines = said (λ p o. c.in_ok-opening.before ≡ length (opening_lines p o)) c.in_ok-names.ensures c.in-Some.is c.in_ok-opening.ensures.lines in
+    let wrong = behind_opening P c.plans_have_segments.ensures (known P qs) (known_asked P qs c.lines_known.ensures) k left within some in
+    refuses_to P qs text (Wrong (c.in_ok-opening.before + 1))
+    (subst (λ (t : List ℕ). Refuses P (known P qs) t (Wrong (c.in_ok-opening.before + 1))) (sym is)
+    (subst (λ (n : ℕ). Refuses P (known P qs) (text_of (opening_lines P (Some k)) ++ left) (Wrong (n + 1))) (sym lines) wrong))
+
+pub returns-in-Some-clause-shown : goal.returns-in-Some-clause-shown
+returns-in-Some-clause-shown c =
+    let P = c.args.plan.now in
+    let qs = requests_of c.args.lines.now in
+    let text = c.args.text.now in
+    let left = c.in_ok-opening.left.now in
+    let k = c.in-Some.field-0 in
+    let none : length left ≡ 0 = none_left (length left) (sym c.is_empty.ensures ∙ c.if-not-is_empty.false) in
+    let within = said (λ p o. WithinOpening (length (opening_ops p)) o) c.in_ok-names.ensures c.in-Some.is c.in_ok-opening.ensures.within in
+    let is = said (λ p o. text ≡ text_of (opening_lines p o) ++ left) c.in_ok-names.ensures c.in-Some.is c.in_ok-opening.ensures.text in
+    shows_opening P qs text left c.in_ok-opening.opening k c.from_vec.result c.in-Some.is within is none (c.from_vec.ensures ∙ c.new-in-Some.ensures.items)
+
+pub returns-in_err-entries-clause-refuses : goal.returns-in_err-entries-clause-refuses
+returns-in_err-entries-clause-refuses c =
+    let p = err_from_is_err_and c.from_residual-in_err-entries.result c.from_residual-in_err-entries.ensures.1 in
+    let P = c.args.plan.now in
+    let qs = requests_of c.args.lines.now in
+    let text = c.args.text.now in
+    let left = c.in_ok-opening.left.now in
+    let fault = c.in_err-entries.field-0.0 in
+    let is = said (λ p o. text ≡ text_of (opening_lines p o) ++ left) c.in_ok-names.ensures c.in_default.is c.in_ok-opening.ensures.text in
+    let refuses = subst (λ (p : Plan). Refuses p (known p qs) (text_of (opening_lines p None) ++ left) fault) c.in_ok-names.ensures c.in_err-entries.ensures.refuses in
+    rw (p.1, p.2) (refuses_to P qs text fault (subst (λ (t : List ℕ). Refuses P (known P qs) t fault) (sym is) refuses))
+
+pub returns-clause-shown : goal.returns-clause-shown
+returns-clause-shown c =
+    let P = c.args.plan.now in
+    let qs = requests_of c.args.lines.now in
+    let text = c.args.text.now in
+    let left = c.in_ok-opening.left.now in
+    let es = c.in_ok-entries.entries.items in
+    let is = said (λ p o. text ≡ text_of (opening_lines p o) ++ left) c.in_ok-names.ensures c.in_default.is c.in_ok-opening.ensures.text in
+    let lawful = subst (λ (p : Plan). Lawful p (known p qs) None es) c.in_ok-names.ensures c.in_ok-entries.ensures.lawful in
+    let whole = subst (λ (p : Plan). text_of (opening_lines p None) ++ left ≡ history_text p None es) c.in_ok-names.ensures c.in_ok-entries.ensures.text in
+    subst (λ (entries : List HistoryEntry). Shows P qs text (record { opening = c.in_ok-opening.opening; entries = entries })) (sym c.from_vec-2.ensures)
+    (shows_entries P qs text c.in_ok-opening.opening es c.in_default.is lawful (is ∙ whole) c.in_ok-entries.ensures.seats)

@@ -1,0 +1,124 @@
+-- Where the lines of a text stop to be those that should come.
+use Rattle.std.specs.Prelude.{◌≡◌, ◌==◌, ◌<◌, ◌≤◌, ◌⊎◌, ◌+◌, ◌-◌, ◌++◌, ℕ, List, [], map, take, length, slice_index_or, Option, Some, None, if◌then◌else◌, nat_lt, filter}
+use Rattle.pw_plan.specs.declared.plan.Plan.{Plan}
+use Rattle.pw_plan.specs.declared.request.Request.{Request}
+use Rattle.pw_plan.specs.Requests.{cpu_of}
+use Rattle.pw_model.specs.declared.entry.HistoryEntry.{HistoryEntry}
+use Rattle.pw_model.specs.declared.state.State.{State}
+use Rattle.pw_model.specs.Answers.{answer}
+use Rattle.pw_model.specs.History.{FaultFits, IsEntry, entry_of, entry_ops, request_of}
+use Rattle.pw_model.specs.Operations.{opening_ops, ops_of}
+use Rattle.pw_text.specs.Lines.{text_of, with_feed}
+use Rattle.pw_script.specs.HistoryText.{fault_words, op_line, reply_words}
+use Rattle.pw_script.specs.Lawful.{Begins}
+use Rattle.pw_script.specs.inner.Openings.{opened, opening_line}
+use Rattle.pw_texts.specs.Wholes.{entry_line, pieces_of}
+use Rattle.pw_audit.specs.declared.answer.AuditFault.{AuditFault}
+use Rattle.pw_audit.specs.declared.answer.AuditFault.TheVariants.{TooLong, Wrong, Unfinished, Memory}
+use Rattle.pw_audit.specs.Audited.{IsUnfinished, IsWrong}
+use Rattle.pw_audit.specs.inner.Queues.{IsNext}
+
+-- # Lines that should come
+
+-- a text has the first k of these lines, and then nothing
+pub record EndsIn (ls : List (List ℕ)) (left : List ℕ) (k : ℕ) : Type 0 where
+  pub within : k < length ls
+  pub is : left ≡ text_of (take k ls)
+
+-- a text has the first k of these lines, and then something else than the next
+pub record BreaksIn (ls : List (List ℕ)) (left : List ℕ) (k : ℕ) : Type 0 where
+  pub within : k < length ls
+  pub rest : List ℕ
+  pub is : left ≡ text_of (take k ls) ++ rest
+  pub some : 0 < length rest
+  pub other : Begins (with_feed (slice_index_or ls k [])) rest → ⊥
+
+-- what is told of a text, behind n lines, that should begin with these lines and doesn't
+abbrev pub StopsIn : List (List ℕ) → ℕ → List ℕ → AuditFault → Type 0
+StopsIn ls n left (TooLong bound) = ⊥
+StopsIn ls n left (Wrong line) = (k : ℕ) × BreaksIn ls left k × (line ≡ n + k + 1)
+StopsIn ls n left (Unfinished lines) = (k : ℕ) × EndsIn ls left k × (lines ≡ n + k)
+StopsIn ls n left Memory = Unit {0}
+
+-- what is told of a text, behind n lines, that should begin with this line, its line feed included, and doesn't
+abbrev pub MissesLine : List ℕ → ℕ → List ℕ → AuditFault → Type 0
+MissesLine line n left (TooLong bound) = ⊥
+MissesLine line n left (Wrong number) = (number ≡ n + 1) × (0 < length left) × (Begins line left → ⊥)
+MissesLine line n left (Unfinished lines) = (lines ≡ n) × (length left ≡ 0)
+MissesLine line n left Memory = ⊥
+
+-- # Entries that may come
+
+-- the request with this fault, as an entry of seat 0
+abbrev pub entry_with : Request → ℕ → HistoryEntry
+entry_with q fault = record (entry_of 0 q) { fault = fault }
+
+-- what came of a request that was asked in state S, with this fault
+abbrev pub outcome_at : Plan → State → Request → ℕ → List (List ℕ)
+outcome_at P S q fault = if fault == 0 then reply_words (answer P S q) else fault_words (fault - 1)
+
+-- a fault comes at one of the operations
+abbrev pub FitsAt : Plan → State → Request → ℕ → Type 0
+FitsAt P S q fault = (fault ≡ 0) ⊎ (fault ≤ length (ops_of P S q))
+
+-- an entry that may come next, where the plan is in state S and this is left of a script
+pub record MayCome (P : Plan) (S : State) (queues : List (List Request)) (e : HistoryEntry) : Type 0 where
+  pub entry : IsEntry P e
+  pub fits : FaultFits P S e
+  pub next : IsNext queues (request_of e)
+
+-- the text begins with the line of no such entry, numbered n
+abbrev pub NoEntry : Plan → State → ℕ → List (List Request) → List ℕ → Type 0
+NoEntry P S n queues left = (e : HistoryEntry) → MayCome P S queues e → Begins (with_feed (entry_line P S n e)) left → ⊥
+
+-- the text begins with the line of such an entry, and stops in its operations; there are `before` lines before it
+pub record StopsBehind (P : Plan) (S : State) (n : ℕ) (queues : List (List Request)) (before : ℕ) (left : List ℕ) (fault : AuditFault)
+    : Type 0 where
+  pub entry : HistoryEntry
+  pub may : MayCome P S queues entry
+  pub rest : List ℕ
+  pub is : left ≡ with_feed (entry_line P S n entry) ++ rest
+  pub stops : StopsIn (map (op_line P) (entry_ops P S entry)) (before + 1) rest fault
+
+-- what is told of a text, behind so many lines, that should begin with the lines of an entry and doesn't
+abbrev pub StopsAtEntry : Plan → State → ℕ → List (List Request) → ℕ → List ℕ → AuditFault → Type 0
+StopsAtEntry P S n queues before left fault =
+    (fault ≡ Memory) ⊎ (((fault ≡ Wrong (before + 1)) × NoEntry P S n queues left) ⊎ StopsBehind P S n queues before left fault)
+
+-- # The opening
+
+-- a fault in the opening comes before so many operations
+abbrev pub WithinOpening : ℕ → Option ℕ → Type 0
+WithinOpening count None = Unit {0}
+WithinOpening count (Some k) = k < count
+
+-- the text begins with no first line
+abbrev pub NoOpening : Plan → List ℕ → Type 0
+NoOpening P text = (f : Option ℕ) → WithinOpening (length (opening_ops P)) f → Begins (with_feed (opening_line f)) text → ⊥
+
+-- the text begins with a first line, and stops in the operations of the opening
+pub record StopsInOpening (P : Plan) (text : List ℕ) (fault : AuditFault) : Type 0 where
+  pub opening : Option ℕ
+  pub within : WithinOpening (length (opening_ops P)) opening
+  pub rest : List ℕ
+  pub is : text ≡ with_feed (opening_line opening) ++ rest
+  pub stops : StopsIn (map (op_line P) (opened opening (opening_ops P))) 1 rest fault
+
+-- what is told of a text that should begin with the lines of an opening and doesn't
+abbrev pub StopsAtOpening : Plan → List ℕ → AuditFault → Type 0
+StopsAtOpening P text fault =
+    (fault ≡ Memory) ⊎ (((fault ≡ Unfinished 0) × (length text ≡ 0))
+    ⊎ (((fault ≡ Wrong 1) × (0 < length text) × NoOpening P text) ⊎ StopsInOpening P text fault))
+
+-- # Texts
+
+-- what is told of a text that isn't whole
+abbrev pub Refuses : Plan → List Request → List ℕ → AuditFault → Type 0
+Refuses P asked text (TooLong bound) = ⊥
+Refuses P asked text (Wrong line) = IsWrong P asked text line
+Refuses P asked text (Unfinished lines) = (lines ≡ length (pieces_of text)) × IsUnfinished P asked text
+Refuses P asked text Memory = Unit {0}
+
+-- the requests of processors of the plan
+abbrev pub known : Plan → List Request → List Request
+known P asked = filter (λ q. nat_lt (cpu_of q) (length P.cpus)) asked

@@ -1,0 +1,118 @@
+//! The lines of an entry.
+ghost use Rattle.std.specs.Prelude.{◌≡◌, ◌<◌, ◌≤◌, ◌+◌, ◌^◌, ◌++◌, length, map, take, IfErr, IfOk, if◌then◌else◌, ◌==◌, ◌-◌};
+ghost use Rattle.pw_text.specs.Lines.{text_of};
+ghost use Rattle.pw_plan.specs.Requests.{cpu_of};
+ghost use Rattle.pw_model.specs.States.{IsState};
+ghost use Rattle.pw_model.specs.History.{after_entry, request_of};
+ghost use Rattle.pw_script.specs.HistoryText.{entry_lines};
+ghost use Rattle.pw_script.specs.inner.Paths.{paths_of};
+ghost use Rattle.pw_texts.specs.Telling.{HasSegments};
+ghost use Rattle.pw_audit.specs.inner.Looking.{LeadsTo};
+ghost use Rattle.pw_audit.specs.inner.Queues.{EachOwn, Takes};
+ghost use Rattle.pw_audit.specs.inner.Stopping.{MayCome, StopsAtEntry, entry_with};
+
+use crate::answer::AuditFault;
+use crate::asked::Asked;
+use crate::head::read_head;
+use crate::matching::pass_ops;
+use crate::names::Names;
+use crate::outcome::read_outcome;
+use acpi_values::Op;
+use pw_core::{Ops, State};
+use pw_model::HistoryEntry;
+use pw_plan::Request;
+use std::collections::HashMap;
+
+/// The tolerance of an entry that isn't an idle request.
+const ANY_LATENCY: u32 = u32::MAX;
+
+/// An entry of seat 0, of a processor.
+fn plain(cpu: u32, code: u32, argument: u32, tolerance: u32, fault: u32) -> HistoryEntry
+    ensures { result ≡ record { seat = 0; cpu = cpu; code = code; argument = argument; tolerance = tolerance; fault = fault } }
+{
+    HistoryEntry {
+        seat: 0,
+        cpu,
+        code,
+        argument,
+        tolerance,
+        fault,
+    }
+}
+
+/// The entry of a request, with this fault.
+#[tactic(auto, unfolding(pw_model::specs::States::any_latency))]
+fn entry_with(request: Request, fault: u32) -> HistoryEntry
+    ensures { result ≡ entry_with request fault }
+{
+    match request {
+        Request::Idle {
+            cpu,
+            state,
+            tolerance,
+        } => plain(cpu, 1, state, tolerance, fault),
+        Request::Wake { cpu } => plain(cpu, 2, 0, ANY_LATENCY, fault),
+        Request::Perf { cpu, index } => plain(cpu, 3, index, ANY_LATENCY, fault),
+        Request::Throttle { cpu, index } => plain(cpu, 4, index, ANY_LATENCY, fault),
+        Request::PerfLimit { cpu, n } => plain(cpu, 5, n, ANY_LATENCY, fault),
+        Request::ThrottleLimit { cpu, n } => plain(cpu, 6, n, ANY_LATENCY, fault),
+    }
+}
+
+/// The operations that were done before a fault, all where there is none.
+fn done_before(ops: &[Op], fault: u32) -> &[Op]
+    requires { fault ≤ length ops.now }
+    ensures { result.now ≡ (if fault == 0 then ops.now else take (fault - 1) ops.now) }
+{
+    if fault == 0 {
+        return ops;
+    }
+    &ops[..fault as usize - 1]
+}
+
+/// The entry that comes next in a text, asked in this state, and what stands behind its lines and how many
+/// lines stand before that. Leaves the state after the entry.
+pub(crate) fn read_entry<'a>(
+    line: &mut Vec<u8>,
+    names: &Names,
+    index: &HashMap<Vec<u8>, u32>,
+    asked: &mut Asked,
+    state: &mut State,
+    ops: &mut Ops,
+    number: u64,
+    before: u32,
+    left: &'a [u8],
+) -> Result<(HistoryEntry, u32, &'a [u8]), AuditFault>
+    requires segments { HasSegments names.now }
+    requires index { LeadsTo 0 (paths_of names.now) index.now }
+    requires size { length asked.old ≡ length names.now.cpus }
+    requires own { EachOwn asked.old }
+    requires fits { IsState names.now state.old }
+    requires room { 256 ≤ ops.old.capacity }
+    requires some { 0 < length left.now }
+    requires short { before + length left.now < 2 ^ 32 }
+    ensures may { IfOk result (λ r. MayCome names.now state.old asked.old r.0) }
+    ensures seat { IfOk result (λ r. r.0.seat ≡ 0) }
+    ensures text { IfOk result (λ r. left.now ≡ text_of (entry_lines names.now state.old number r.0) ++ r.2.now) }
+    ensures lines { IfOk result (λ r. r.1 ≡ before + length (entry_lines names.now state.old number r.0)) }
+    ensures takes { IfOk result (λ r. Takes asked.old r.0.cpu (request_of r.0) asked.new) }
+    ensures after { IfOk result (λ r. state.new ≡ after_entry names.now state.old r.0) }
+    ensures fits { IsState names.now state.new }
+    ensures room { ops.new.capacity ≡ ops.old.capacity }
+    ensures stops { IfErr result (StopsAtEntry names.now state.old number asked.old before left.now) }
+{
+    let wrong = AuditFault::Wrong { line: before + 1 };
+    let Some((request, behind)) = read_head(line, names, index, asked, number, left)? else {
+        return Err(wrong);
+    };
+    let Some((fault, rest)) = read_outcome(line, names.plan(), state, ops, request, behind)? else {
+        return Err(wrong);
+    };
+    let done = done_before(ops.list(), fault);
+    let next = pass_ops(line, names, done, before + 1, rest)?;
+    Ok((
+        entry_with(request, fault),
+        before + 1 + done.len() as u32,
+        next,
+    ))
+}

@@ -1,0 +1,76 @@
+//! The lines of the opening.
+ghost use Rattle.std.specs.Prelude.{◌≡◌, ◌<◌, ◌+◌, ◌^◌, ◌++◌, ◌∷◌, [], ℕ, Option, length, IfErr, IfOk, MatchOption};
+ghost use Rattle.pw_text.specs.Lines.{text_of, with_feed};
+ghost use Rattle.pw_model.specs.Operations.{opening_ops};
+ghost use Rattle.pw_script.specs.HistoryText.{opening_lines};
+ghost use Rattle.pw_script.specs.Lawful.{Begins};
+ghost use Rattle.pw_script.specs.inner.Openings.{opened, opening_line};
+ghost use Rattle.pw_audit.specs.inner.Stopping.{StopsAtOpening, WithinOpening};
+
+use crate::answer::AuditFault;
+use crate::matching::{pass_ops, strip};
+use crate::names::Names;
+use crate::outcome::read_count;
+use acpi_values::Op;
+use pw_base::Memory;
+
+/// How the first line of a text says that the opening went, which has so many operations, and what stands
+/// behind that line.
+fn read_first<'a>(
+    line: &mut Vec<u8>,
+    count: u32,
+    text: &'a [u8],
+) -> Result<Option<(Option<u32>, &'a [u8])>, Memory>
+    ensures { IfOk result (λ o. MatchOption o ((f : Option ℕ) → WithinOpening count f
+        → Begins (with_feed (opening_line f)) text.now → ⊥)
+        (λ r. WithinOpening count r.0 × (text.now ≡ with_feed (opening_line r.0) ++ r.1.now))) }
+{
+    match strip(text, b"open -> register fault after ") {
+        None => match strip(text, b"open\n") {
+            None => Ok(None),
+            Some(rest) => Ok(Some((None, rest))),
+        },
+        Some(behind) => match read_count(line, count, behind)? {
+            None => Ok(None),
+            Some((done, rest)) => Ok(Some((Some(done), rest))),
+        },
+    }
+}
+
+/// The operations at the start that were done.
+fn opened(ops: &[Op], opening: Option<u32>) -> &[Op]
+    requires { WithinOpening (length ops.now) opening }
+    ensures { result.now ≡ opened opening ops.now }
+{
+    match opening {
+        None => ops,
+        Some(done) => &ops[..done as usize],
+    }
+}
+
+/// How the opening went, which has these operations, as a text says it, what stands behind its lines, and
+/// how many lines stand before that.
+pub(crate) fn read_opening<'a>(
+    line: &mut Vec<u8>,
+    names: &Names,
+    ops: &[Op],
+    text: &'a [u8],
+) -> Result<(Option<u32>, u32, &'a [u8]), AuditFault>
+    requires ops { ops.now ≡ opening_ops names.now }
+    requires few { length ops.now + 1 < 2 ^ 32 }
+    requires short { length text.now + 1 < 2 ^ 32 }
+    ensures within { IfOk result (λ r. WithinOpening (length (opening_ops names.now)) r.0) }
+    ensures text { IfOk result (λ r. text.now ≡ text_of (opening_lines names.now r.0) ++ r.2.now) }
+    ensures lines { IfOk result (λ r. r.1 ≡ length (opening_lines names.now r.0)) }
+    ensures stops { IfErr result (StopsAtOpening names.now text.now) }
+{
+    if text.is_empty() {
+        return Err(AuditFault::Unfinished { lines: 0 });
+    }
+    let Some((opening, rest)) = read_first(line, ops.len() as u32, text)? else {
+        return Err(AuditFault::Wrong { line: 1 });
+    };
+    let done = opened(ops, opening);
+    let next = pass_ops(line, names, done, 1, rest)?;
+    Ok((opening, 1 + done.len() as u32, next))
+}

@@ -1,0 +1,141 @@
+//! The walk over a text, line by line, with the state of the plan at each line.
+ghost use Rattle.std.specs.Prelude.{◌≡◌, ◌<◌, ◌≤◌, ◌+◌, ◌^◌, ◌++◌, None, length, IfErr, IfOk};
+ghost use Rattle.std.specs.List.{AllByRecursion};
+ghost use Rattle.pw_text.specs.Lines.{text_of};
+ghost use Rattle.pw_model.specs.declared.entry.HistoryEntry.{HistoryEntry as entry};
+ghost use Rattle.pw_model.specs.States.{IsState, opening};
+ghost use Rattle.pw_script.specs.Asking.{IsNarrowRequest};
+ghost use Rattle.pw_script.specs.HistoryText.{history_text, opening_lines};
+ghost use Rattle.pw_script.specs.Lawful.{Lawful};
+ghost use Rattle.pw_script.specs.Reading.{requests_of};
+ghost use Rattle.pw_script.specs.inner.Paths.{paths_of};
+ghost use Rattle.pw_texts.specs.Telling.{HasSegments};
+ghost use Rattle.pw_audit.specs.Audited.{IsShort, Shows};
+ghost use Rattle.pw_audit.specs.inner.Looking.{LeadsTo};
+ghost use Rattle.pw_audit.specs.inner.Stopping.{Refuses, known};
+
+use crate::answer::{Audit, AuditFault};
+use crate::asked::Asked;
+use crate::entry::read_entry;
+use crate::names::{Names, index_of};
+use crate::opening::read_opening;
+use pw_base::List;
+use pw_core::{Ops, State, open_all};
+use pw_model::HistoryEntry;
+use pw_plan::{Plan, Request};
+use pw_script::Line;
+use pw_texts::plans_have_segments;
+use std::alloc::Global;
+use std::collections::HashMap;
+
+/// How many operations a request has at most.
+const MOST_OF_A_REQUEST: u32 = 256;
+
+/// The numbers of a request are of 32 bits.
+fn request_known(request: Request)
+    ensures { IsNarrowRequest request }
+{
+    match request {
+        Request::Idle { .. } => {}
+        Request::Wake { .. } => {}
+        Request::Perf { .. } => {}
+        Request::Throttle { .. } => {}
+        Request::PerfLimit { .. } => {}
+        Request::ThrottleLimit { .. } => {}
+    }
+}
+
+/// The numbers of the lines' requests are of 32 bits.
+fn lines_known(lines: &[Line])
+    ensures { AllByRecursion IsNarrowRequest (requests_of lines.now) }
+{
+    let mut left = lines;
+    while let [line, rest @ ..] = left {
+        request_known(line.request);
+        left = rest;
+    }
+}
+
+/// The entries of a text behind its opening, which has so many lines.
+fn read_entries(
+    alloc: Global,
+    line: &mut Vec<u8>,
+    names: &Names,
+    ops: &mut Ops,
+    lines: &[Line],
+    before: u32,
+    text: &[u8],
+) -> Result<Vec<HistoryEntry>, AuditFault>
+    requires segments { HasSegments names.now }
+    requires narrow { AllByRecursion IsNarrowRequest (requests_of lines.now) }
+    requires room { 256 ≤ ops.old.capacity }
+    requires opened { before ≡ length (opening_lines names.now None) }
+    requires short { length (text_of (opening_lines names.now None)) + length text.now < 2 ^ 31 }
+    ensures lawful { IfOk result (λ entries. Lawful names.now (known names.now (requests_of lines.now)) None entries.items) }
+    ensures text { IfOk result (λ entries. text_of (opening_lines names.now None) ++ text.now
+        ≡ history_text names.now None entries.items) }
+    ensures seats { IfOk result (λ entries. AllByRecursion (λ (e : entry). e.seat ≡ 0) entries.items) }
+    ensures refuses { IfErr result (Refuses names.now (known names.now (requests_of lines.now))
+        (text_of (opening_lines names.now None) ++ text.now)) }
+{
+    let plan = names.plan();
+    let index = index_of(alloc, names)?;
+    let mut asked = Asked::new(alloc, plan.cpus.as_slice().len(), lines)?;
+    let mut state = State::open(alloc, plan)?;
+    let mut entries = Vec::new(alloc);
+    let mut passed = before;
+    let mut left = text;
+    while !left.is_empty() {
+        let number = entries.len() as u64 + 1;
+        let (entry, next, rest) = read_entry(
+            line, names, &index, &mut asked, &mut state, ops, number, passed, left,
+        )?;
+        entries.push(entry)?;
+        if entry.fault != 0 {
+            if !rest.is_empty() {
+                return Err(AuditFault::Wrong { line: next + 1 });
+            }
+            return Ok(entries);
+        }
+        passed = next;
+        left = rest;
+    }
+    if !asked.is_empty() {
+        return Err(AuditFault::Unfinished { lines: passed });
+    }
+    Ok(entries)
+}
+
+/// What a text shows, if it is whole.
+pub(crate) fn read_text(
+    alloc: Global,
+    plan: &Plan,
+    lines: &[Line],
+    text: &[u8],
+) -> Result<Audit, AuditFault>
+    requires { IsShort text.now }
+    ensures shown { IfOk result (λ a. Shows plan.now (requests_of lines.now) text.now a) }
+    ensures refuses { IfErr result (Refuses plan.now (requests_of lines.now) text.now) }
+{
+    plans_have_segments(plan);
+    lines_known(lines);
+    let names = Names::new(alloc, plan)?;
+    let mut line = Vec::new(alloc);
+    let mut ops = Ops::new(alloc, plan.opening_bound().max(MOST_OF_A_REQUEST))?;
+    open_all(plan, &mut ops);
+    let (opening, before, left) = read_opening(&mut line, &names, ops.list(), text)?;
+    if let Some(_) = opening {
+        if !left.is_empty() {
+            return Err(AuditFault::Wrong { line: before + 1 });
+        }
+        return Ok(Audit {
+            opening,
+            entries: List::from_vec(Vec::new(alloc)),
+        });
+    }
+    let entries = read_entries(alloc, &mut line, &names, &mut ops, lines, before, left)?;
+    Ok(Audit {
+        opening,
+        entries: List::from_vec(entries),
+    })
+}
