@@ -1,21 +1,23 @@
 -- What a run by workers is to its caller.
-use Rattle.std.proofs.Common.{◌≡◌, ◌++◌, ◌∙◌, ℕ, suc, Bool, true, List, Vec, [], ◌∷◌, length, Option, Some, None, refl, ap, sym, subst, append-nil, append_assoc}
+use Rattle.std.proofs.Common.{◌≡◌, ◌≤◌, ◌++◌, ◌∙◌, ℕ, suc, Bool, true, List, Vec, [], ◌∷◌, length, Option, Some, None, refl, ap, sym, subst, arith, append-nil, append_assoc}
 use Rattle.std.specs.Prelude.{is_some}
 use Rattle.std.specs.List.{AllByRecursion}
 use Rattle.std.specs.declared.alloc.Global.{Global}
-use Rattle.pw_rule.specs.Promises.{Promise}
+use Rattle.pw_rule.specs.Promises.{Promise, bound_of}
 use Rattle.pw_base.specs.Outside.{Rose}
 use Rattle.pw_plan.specs.declared.plan.Plan.{Plan}
 use Rattle.pw_plan.specs.declared.request.Request.{Request}
-use Rattle.pw_plan.specs.Requests.{Has}
+use Rattle.pw_plan.specs.Requests.{Has, opening_bound}
 use Rattle.pw_model.specs.declared.entry.HistoryEntry.{HistoryEntry}
 use Rattle.pw_model.specs.History.{fault_at, history_ops}
 use Rattle.pw_model.specs.Operations.{opening_ops}
+use Rattle.pw_model.proofs.Joining.{faultless_none}
 use Rattle.pw_machine.specs.Machine.{Given}
 use Rattle.pw_regs.specs.declared.registers.Registers.{Ghosts as Registers}
 use Rattle.pw_regs.specs.Seen.{registers_seen}
 use Rattle.pw_script.specs.declared.script.Line.{Line}
-use Rattle.pw_script.specs.Reading.{requests_of}
+use Rattle.pw_script.specs.Lawful.{IsRunOf}
+use Rattle.pw_script.specs.Reading.{operations, requests_of}
 use Rattle.pw_turns.specs.Opens.{FailsAfter}
 use Rattle.pw_interleaved.specs.Workers.{MadeByWorkers, seat_of}
 use Rattle.pw_interleaved.proofs.Seats.{asked-run, seats-tell}
@@ -23,6 +25,7 @@ use Rattle.pw_interleaved.proofs.Workers.{workers-asked}
 use Rattle.pw_workers.specs.Drives.{Opens, Runs}
 use Rattle.pw_workers.specs.inner.Lists.{AreLists, AreListsFor}
 use Rattle.pw_workers.specs.inner.Runs.{LeavesNone, Makes}
+use Rattle.pw_workers.proofs.Bounds.{run-bound}
 
 lines_have : (P : Plan) (lines : List Line) → AllByRecursion (λ (l : Line). Has P l.request) lines → AllByRecursion (Has P) (requests_of lines)
 lines_have P [] has = tt
@@ -48,37 +51,51 @@ module _ {R : Type 0} (by : Registers R) (P : Plan) (lines : List Line) (n : ℕ
   abbrev pub given : Given
   given = record { plan = P; capacity = n; ops = by.log regs; count = by.faults regs }
 
-  pub runs : (promise : Promise) (g : Given) (lists : List (Vec Request Global)) (entries : List HistoryEntry) (left : R) → promise.told ≡ by.told regs → g ≡ given
+  pub runs : (promise : Promise) (g : Given) (lists : List (Vec Request Global)) (entries : List HistoryEntry) (left : R)
+      → promise.told ≡ by.told regs → promise.room ≡ by.room regs → g ≡ given
       → AllByRecursion (λ (l : Line). Has P l.request) lines → AreLists (requests_of lines) (length P.cpus) lists → Makes by promise g lists entries left
       → Runs P lines None entries (registers_seen by regs) (registers_seen by left)
-  runs promise g lists entries left is same has are m =
+  runs promise g lists entries left is room same has are m =
       let m : Makes by promise given lists entries left = subst (λ x. Makes by promise x lists entries left) same m in
       let asked = requests_of lines in
       let made : MadeByWorkers asked m.workers m.last.book entries = m.made asked (lines_have P lines has) are (size ∙ sym (lines_size lines)) in
       let by_seats = workers-asked asked entries m.workers m.last.book made in
+      let lawful : IsRunOf P asked entries = asked-run asked (seat_of m.workers) entries by_seats P m.ends.legal in
+      let within : bound_of P entries ≤ operations P lines = run-bound P lines entries (lines_have P lines has) lawful in
       record {
-        lawful = asked-run asked (seat_of m.workers) entries by_seats P m.ends.legal;
+        lawful = lawful;
         seats = seats-tell asked (seat_of m.workers) entries by_seats;
         operates = record {
           same_told = m.ends.same_told ∙ is;
           count = m.ends.least;
           log = λ tells. m.ends.ops (is ∙ tells) ∙ append_assoc (by.log regs) (opening_ops P) (history_ops P entries);
           fault = where_fault (fault_at entries) (by.faults regs) (by.faults left) m.ends.fault;
+          promised = λ most.
+              let kept = m.ends.promised.steady (omega (arith, within, most, room)) in
+              (faultless_none entries kept.1, kept.0);
         };
       }
 
-  pub opens : (promise : Promise) (g : Given) (left : R) → promise.told ≡ by.told regs → g ≡ given → LeavesNone by promise g left → Opens P (registers_seen by regs) (registers_seen by left)
-  opens promise g left is same n =
+  pub opens : (promise : Promise) (g : Given) (left : R) → promise.told ≡ by.told regs → promise.room ≡ by.room regs → g ≡ given
+      → LeavesNone by promise g left → Opens P (registers_seen by regs) (registers_seen by left)
+  opens promise g left is room same n =
       let n : LeavesNone by promise given left = subst (λ x. LeavesNone by promise x left) same n in
       record {
         same_told = n.ends.same_told ∙ is;
         count = n.ends.least;
         log = λ tells. n.ends.ops (is ∙ tells) ∙ ap (λ l. by.log regs ++ opening_ops P ++ l) (no_ops P) ∙ append-nil (by.log regs ++ opening_ops P);
+        promised = λ most. (n.ends.promised.steady (omega (arith, most, room))).0;
       }
 
   pub stops : (done : ℕ) (left : R) → FailsAfter by P regs done left → Runs P lines (Some done) [] (registers_seen by regs) (registers_seen by left)
   stops done left f = record {
     lawful = (f.within, refl);
     seats = tt;
-    operates = record { same_told = f.same_told; count = f.least; log = f.ops; fault = λ e. f.failed };
+    operates = record {
+      same_told = f.same_told;
+      count = f.least;
+      log = f.ops;
+      fault = λ e. f.failed;
+      promised = λ most. let short = f.promised in absurd (omega (arith, short, most));
+    };
   }

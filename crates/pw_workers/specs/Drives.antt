@@ -1,38 +1,34 @@
 -- What a run of a script by workers comes to.
-use Rattle.std.specs.Prelude.{◌≡◌, ◌≤◌, ◌⊎◌, ℕ, true, List, [], Option, Some, None, is_some}
-use Rattle.pw_base.specs.Outside.{Rose}
+use Rattle.std.specs.Prelude.{◌≡◌, ◌≤◌, ◌⊎◌, ℕ, List, [], Option, Some, None}
 use Rattle.pw_plan.specs.declared.plan.Plan.{Plan}
+use Rattle.pw_plan.specs.Requests.{opening_bound}
 use Rattle.pw_model.specs.declared.entry.HistoryEntry.{HistoryEntry}
 use Rattle.pw_model.specs.Operations.{opening_ops}
 use Rattle.pw_regs.specs.declared.registers.Registers.{Ghosts as Registers}
 use Rattle.pw_regs.specs.Seen.{Operated, RegistersSeen, registers_seen}
 use Rattle.pw_script.specs.declared.script.Line.{Line}
 use Rattle.pw_script.specs.Lawful.{Lawful}
-use Rattle.pw_script.specs.Reading.{requests_of}
+use Rattle.pw_script.specs.Reading.{operations, requests_of}
 use Rattle.pw_interleaved.specs.Seats.{SeatsTell}
-use Rattle.pw_drive.specs.Driven.{run_ops, stopped_at}
+use Rattle.pw_drive.specs.Driven.{OperatesFor}
 use Rattle.pw_workers.specs.declared.driving.Drove.{Drove}
 use Rattle.pw_workers.specs.declared.driving.Drove.TheVariants.{Closed, Opening}
-
--- What a run by workers does to registers: their log grew by its operations, and a fault comes only where their count rose.
-pub record Operates (P : Plan) (opening : Option ℕ) (es : List HistoryEntry) (old new : RegistersSeen) : Type 0 where
-  pub same_told : new.told ≡ old.told
-  pub count : old.faults ≤ new.faults
-  pub log : Operated old new (run_ops P opening es)
-  pub fault : is_some (stopped_at opening es) ≡ true → Rose old.faults new.faults
 
 -- The history is one that the lines allow, in which each processor has a seat of its own, and its operations were done.
 pub record Runs (P : Plan) (lines : List Line) (opening : Option ℕ) (es : List HistoryEntry) (old new : RegistersSeen) : Type 0 where
   pub lawful : Lawful P (requests_of lines) opening es
   -- two entries have the same seat exactly where they have the same processor
   pub seats : SeatsTell es
-  pub operates : Operates P opening es old new
+  -- where the registers promise room for the operations of all lines, none fails
+  pub operates : OperatesFor P (operations P lines) opening es old new
 
 -- The opening alone was done.
 pub record Opens (P : Plan) (old new : RegistersSeen) : Type 0 where
   pub same_told : new.told ≡ old.told
   pub count : old.faults ≤ new.faults
   pub log : Operated old new (opening_ops P)
+  -- none failed where they promise room for it
+  pub promised : opening_bound P ≤ old.room → new.faults ≡ old.faults
 
 module _ {R : Type 0} (by : Registers R) where
   -- The plan is that which was given; what the closed coordinator has is such a run, or the opening was ended by a fault.

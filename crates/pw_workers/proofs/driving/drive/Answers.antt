@@ -22,13 +22,13 @@ returns-in-Ok-run-clause-drove g c =
     let closed = c.in-Ok-run.closed in
     let are = subst (λ ls. AreLists (requests_of ls) (length P.cpus) lists) c.as_slice-lines.ensures c.in-Ok.ensures.lists in (
       c.in-Ok-run.ensures.plan ∙ c.in-Ok-open.ensures.plan,
-      runs by P lines _ (search rules) c.args.regs (promise_of by key) (given_of by key) lists closed.sealed.entries closed.regs c.in-Ok-open.ensures.told c.in-Ok-open.ensures.given
-          c.requires.has are c.in-Ok-run.ensures.made,
+      runs by P lines _ (search rules) c.args.regs (promise_of by key) (given_of by key) lists closed.sealed.entries closed.regs
+          c.in-Ok-open.ensures.told c.in-Ok-open.ensures.room c.in-Ok-open.ensures.given c.requires.has are c.in-Ok-run.ensures.made,
     )
 
 pub returns-in-Ok-open-clause-given_back : goal.returns-in-Ok-open-clause-given_back
 returns-in-Ok-open-clause-given_back g c =
     let by = g.R.Registers in
     let key = c.in-Ok-open.coordinator.table.shared.key in
-    inr (opens by c.args.plan c.args.script.now.lines _ (search rules) c.args.regs (promise_of by key) (given_of by key) c.in-Err.regs c.in-Ok-open.ensures.told c.in-Ok-open.ensures.given
-    c.in-Err.ensures.given_back)
+    inr (opens by c.args.plan c.args.script.now.lines _ (search rules) c.args.regs (promise_of by key) (given_of by key) c.in-Err.regs
+    c.in-Ok-open.ensures.told c.in-Ok-open.ensures.room c.in-Ok-open.ensures.given c.in-Err.ensures.given_back)
