@@ -5,7 +5,6 @@ use Rattle.std.specs.List.{AllByRecursion}
 use Rattle.std.proofs.lemmas.Bool.{eqb-false}
 use Rattle.std.proofs.lemmas.List.Sums.{sum_by-append, sum_by-cons}
 use Rattle.pw_plan.specs.declared.plan.Plan.{Plan}
-use Rattle.pw_plan.specs.declared.request.Request.{Request}
 use Rattle.pw_plan.specs.Requests.{Has, cpu_of, ops_bound}
 use Rattle.pw_model.specs.declared.entry.HistoryEntry.{HistoryEntry}
 use Rattle.pw_model.specs.History.{IsEntry, request_of}

@@ -1,5 +1,5 @@
 -- What a run by workers is to its caller.
-use Rattle.std.proofs.Common.{◌≡◌, ◌≤◌, ◌++◌, ◌∙◌, ℕ, suc, Bool, true, List, Vec, [], ◌∷◌, length, Option, Some, None, refl, ap, sym, subst, arith, append-nil, append_assoc}
+use Rattle.std.proofs.Common.{◌≡◌, ◌≤◌, ◌++◌, ◌∙◌, ℕ, suc, true, List, Vec, [], ◌∷◌, length, Option, Some, None, refl, ap, sym, subst, arith, append-nil, append_assoc}
 use Rattle.std.specs.Prelude.{is_some}
 use Rattle.std.specs.List.{AllByRecursion}
 use Rattle.std.specs.declared.alloc.Global.{Global}
@@ -7,7 +7,7 @@ use Rattle.pw_rule.specs.Promises.{Promise, bound_of}
 use Rattle.pw_base.specs.Outside.{Rose}
 use Rattle.pw_plan.specs.declared.plan.Plan.{Plan}
 use Rattle.pw_plan.specs.declared.request.Request.{Request}
-use Rattle.pw_plan.specs.Requests.{Has, opening_bound}
+use Rattle.pw_plan.specs.Requests.{Has}
 use Rattle.pw_model.specs.declared.entry.HistoryEntry.{HistoryEntry}
 use Rattle.pw_model.specs.History.{fault_at, history_ops}
 use Rattle.pw_model.specs.Operations.{opening_ops}

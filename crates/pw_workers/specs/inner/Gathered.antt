@@ -1,5 +1,5 @@
 -- Seats that become one.
-use Rattle.std.specs.Prelude.{◌≡◌, ◌+◌, Bool, List, map, length}
+use Rattle.std.specs.Prelude.{◌≡◌, ◌+◌, List, map, length}
 use Rattle.std.specs.List.{AllByRecursion}
 use Rattle.atomic_table.specs.Seated.{TableId}
 use Rattle.pw_model.specs.declared.entry.HistoryEntry.{HistoryEntry}

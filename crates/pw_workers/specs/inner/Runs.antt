@@ -1,5 +1,5 @@
 -- What comes of workers that were seated.
-use Rattle.std.specs.Prelude.{◌≡◌, Bool, List, Vec, [], length}
+use Rattle.std.specs.Prelude.{◌≡◌, List, Vec, [], length}
 use Rattle.std.specs.List.{AllByRecursion}
 use Rattle.std.specs.declared.alloc.Global.{Global}
 use Rattle.pw_plan.specs.declared.request.Request.{Request}
