@@ -25,8 +25,9 @@ pub struct Coordinator<R: Registers> {
     pub(crate) counts: Counts,
     pub(crate) capacity: u32,
     pub(crate) table: Table<Option<Load<R>>, View, Limit<R>, Turns<R>, Global>,
-    /// How many threads may sleep until a turn is free.
-    pub(crate) sleepers: AtomicU32,
+    /// Of each word how many threads may sleep until its turn is free.
+    pub(crate) sleepers: Vec<AtomicU32>,
+    ghost watched: { length sleepers.items ≡ counts.records + 2 },
     ghost words: { table.shared.table_id.words ≡ counts.records + 2 },
     ghost slots: { table.shared.table_id.slots ≡ counts.records + 1 },
     ghost counted: { AreCounts plan counts },

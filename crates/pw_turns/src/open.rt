@@ -11,6 +11,7 @@ ghost use Rattle.pw_turns.specs.inner.Opening.{HasBegun};
 use crate::coordinator::{Coordinator, MOST_OF_A_REQUEST, Raw, Seat};
 use crate::counts::Counts;
 use crate::plays::{Asked, Claim, OpenJournal, OpenRecord};
+use crate::sleeping::no_sleepers;
 use crate::slots::{close_shelf, open_shelf};
 use pw_base::Memory;
 use pw_core::{Ops, open_all};
@@ -21,7 +22,6 @@ use pw_rule::{Limit, Load};
 use std::alloc::Global;
 use std::marker::Brand;
 use std::snapshot::Snapshot;
-use std::sync::atomic::AtomicU32;
 
 /// Why there is no coordinator.
 #[derive(Drop)]
@@ -69,6 +69,7 @@ impl<R: Registers> Coordinator<R> {
         let Some(counts) = Counts::of(&plan) else {
             return Err(Memory);
         };
+        let sleepers = no_sleepers(alloc, counts.records)?;
         let limit = Limit {
             plan,
             capacity,
@@ -86,7 +87,7 @@ impl<R: Registers> Coordinator<R> {
             counts,
             capacity,
             table,
-            sleepers: AtomicU32::new(0),
+            sleepers,
         };
         Ok((coordinator, raw))
     }
