@@ -22,8 +22,9 @@ fn main(rt: HostRuntime) -> ExitCode {
     let Ok(regs) = RegisterFile::new(alloc, MOST_OPERATIONS) else {
         return end_early(&mut err, true);
     };
-    let mut files = StdFiles::new(rt, alloc);
+    let mut files = StdFiles::new(&rt, alloc);
     let outcome = run(
+        &rt,
         alloc,
         words.as_slice(),
         &mut files,

@@ -4,9 +4,12 @@ use pw_base::{Memory, MemoryFiles, MemorySink, OpenGate};
 use pw_cli::run;
 use pw_regs::FailingRegisters;
 use std::alloc::Global;
+use std::sync::Wait;
+use std::thread::Threads;
 
 /// One run: what the files `a`, `b` and `c` hold, the words, what the outside is like, and what must come: what
-/// stands on the two outputs, all of it or so many first bytes, and how many operations the registers saw.
+/// stands on the two outputs, all of it or so many first bytes, and how many operations the registers saw, unless any
+/// number may come.
 #[derive(Drop)]
 pub struct Case {
     a: Vec<u8>,
@@ -18,7 +21,7 @@ pub struct Case {
     out_first: u32,
     err: Vec<u8>,
     err_first: u32,
-    ops: u32,
+    ops: Option<u32>,
 }
 
 impl Case {
@@ -33,7 +36,7 @@ impl Case {
             out_first: u32::MAX,
             err: Vec::new(alloc),
             err_first: u32::MAX,
-            ops: 0,
+            ops: Some(0),
         }
     }
 
@@ -45,12 +48,18 @@ impl Case {
         self.err_first = u32::MAX;
     }
 
-    /// Begins a case of the same files `a` and `b`, with another script.
+    /// Begins a case of the same file `a`, with another script.
     pub fn other(&mut self) {
-        self.again();
+        self.anew();
         self.c.clear();
+    }
+
+    /// Begins a case of the same files `a` and `c` and the same words, with another history.
+    pub fn anew(&mut self) {
+        self.again();
+        self.b.clear();
         self.out.clear();
-        self.ops = 0;
+        self.ops = Some(0);
     }
 
     /// Reads a line of the list.
@@ -67,6 +76,8 @@ impl Case {
             "err" => put_line(&mut self.err, rest),
             "block" => self.make_block(alloc, rest),
             "script" => put_line(&mut self.c, rest),
+            "history" => put_line(&mut self.b, rest),
+            "ops" => self.read_ops(rest),
             _ => self.read_number(alloc, key, rest),
         }
     }
@@ -84,9 +95,17 @@ impl Case {
         match key {
             "out-first" => Some(&mut self.out_first),
             "err-first" => Some(&mut self.err_first),
-            "ops" => Some(&mut self.ops),
             _ => self.outside.number(key),
         }
+    }
+
+    fn read_ops(&mut self, rest: &str) -> Option<()> {
+        self.ops = if rest == "any" {
+            None
+        } else {
+            Some(rest.parse::<u32>().ok()?)
+        };
+        Some(())
     }
 
     fn read_words(&mut self, alloc: Global, words: &str) -> Option<()> {
@@ -126,14 +145,19 @@ impl Case {
     }
 
     /// What came of the run: `as it must be`, or what else.
-    pub fn run(&self, alloc: Global, status: u8) -> Option<&'static str> {
+    pub fn run<T: Threads + Wait + Sync>(
+        &self,
+        rt: &T,
+        alloc: Global,
+        status: u8,
+    ) -> Option<&'static str> {
         let mut files = self.files(alloc).ok()?;
         let mut out = self.outside.out(alloc).ok()?;
         let mut err = self.outside.err(alloc).ok()?;
         let regs = self.outside.regs(alloc).ok()?;
         let words = self.words.as_slice();
         let outcome = run(
-            alloc, words, &mut files, &mut out, &mut err, regs, &OpenGate,
+            rt, alloc, words, &mut files, &mut out, &mut err, regs, &OpenGate,
         );
         if outcome.status != status {
             return Some("another status");
@@ -147,7 +171,7 @@ impl Case {
             "another output"
         } else if err.written() != first_of(self.err.as_slice(), self.err_first) {
             "another line"
-        } else if regs.log().len() != self.ops as usize {
+        } else if self.ops.is_some_and(|ops| regs.log().len() != ops as usize) {
             "other operations"
         } else {
             "as it must be"

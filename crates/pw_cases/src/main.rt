@@ -9,10 +9,12 @@ mod outside;
 
 use case::Case;
 use std::alloc::Global;
+use std::sync::Wait;
+use std::thread::Threads;
 use std::{fs, io};
 
-/// Begins the case that a line names: with nothing of the one before, with its files `a` and `b`, or with all but
-/// its outside.
+/// Begins the case that a line names: with nothing of the one before, with its file `a`, with its files `a` and `c`, or
+/// with all but its outside.
 fn begun<'a>(alloc: Global, case: &mut Case, line: &'a str) -> Option<&'a str> {
     if let Some(name) = line.strip_prefix("case ") {
         *case = Case::new(alloc);
@@ -22,15 +24,24 @@ fn begun<'a>(alloc: Global, case: &mut Case, line: &'a str) -> Option<&'a str> {
         case.other();
         return Some(name);
     }
+    if let Some(name) = line.strip_prefix("anew ") {
+        case.anew();
+        return Some(name);
+    }
     let name = line.strip_prefix("again ")?;
     case.again();
     Some(name)
 }
 
 /// Reads a line that begins no case. A line with the case's status ends it, and says what came of it.
-fn took(alloc: Global, case: &mut Case, line: &str) -> Option<Option<&'static str>> {
+fn took<T: Threads + Wait + Sync>(
+    rt: &T,
+    alloc: Global,
+    case: &mut Case,
+    line: &str,
+) -> Option<Option<&'static str>> {
     match line.strip_prefix("status ") {
-        Some(status) => Some(Some(case.run(alloc, status.parse::<u8>().ok()?)?)),
+        Some(status) => Some(Some(case.run(rt, alloc, status.parse::<u8>().ok()?)?)),
         None => {
             case.read(alloc, line)?;
             Some(None)
@@ -47,7 +58,7 @@ fn main(rt: HostRuntime) -> io::Result<()> {
             case_name = name;
             continue;
         }
-        match took(rt.alloc(), &mut case, line) {
+        match took(&rt, rt.alloc(), &mut case, line) {
             None => println!(rt; "{case_name}: can't be read, or want of memory: {line}")?,
             Some(Some(came)) => println!(rt; "{case_name}: {came}")?,
             Some(None) => {}

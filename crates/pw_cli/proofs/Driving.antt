@@ -1,4 +1,4 @@
--- A drive as the work of a command, unless a register failed.
+-- A drive on one thread as the work of a command, unless a register failed.
 use Rattle.std.proofs.Common.{◌≡◌, ℕ, Bool, List, Option, Some, None, inl, inr, ◌⊎◌, refl, ap}
 use Rattle.std.specs.Prelude.{is_some}
 use Rattle.pw_base.specs.Outside.{Rose}
@@ -13,8 +13,8 @@ use Rattle.pw_ends.specs.Ends.{Does}
 use Rattle.pw_ends.specs.Ends.Stops.{without_memory as no_memory}
 use Rattle.pw_ends.specs.Ends.Prints.{whole as all_printed, unwritten as part_printed}
 use Rattle.pw_ends.specs.Ends.Does.{stopped as stops, printed as printed_so}
-use Rattle.pw_runs.specs.Runs.{AreGiven, Drives, IsRun, IsTextOn, PrintsRun, driving, entries_of}
-use Rattle.pw_runs.specs.Runs.Drives.{stopped, drove}
+use Rattle.pw_runs.specs.Runs.{AreGiven, DrivesSerially, IsSerialRun, IsTextOn, PrintsRun, driving, entries_of}
+use Rattle.pw_runs.specs.Runs.DrivesSerially.{stopped, drove}
 use Rattle.pw_runs.specs.Runs.PrintsRun.{whole, unwritten, failed, failed_unwritten, without_memory}
 use Rattle.pw_runs.proofs.Histories.{whole_history}
 
@@ -27,12 +27,12 @@ pub record Failed (step : Bool) (script : List ℕ) (names : List (List ℕ)) (b
 
 module _ (step : Bool) (script : List ℕ) (names : List (List ℕ)) (before after : Seen) where
   text_of : {P : Plan} {lines : List line} {opening : Option ℕ} {es : List HistoryEntry} → AreGiven before.files step script names P lines
-      → IsRun P lines opening es before.regs after.regs → stopped_at opening es ≡ None → IsTextOn before.files step script names (history_text P opening es)
+      → IsSerialRun P lines opening es before.regs after.regs → stopped_at opening es ≡ None → IsTextOn before.files step script names (history_text P opening es)
   text_of {P} {lines} {opening} {es} given run none =
       record { plan = P; lines = lines; given = given; says = whole_history P lines opening es before.regs after.regs run none }
 
   failed_of : {P : Plan} {lines : List line} {opening : Option ℕ} {es : List HistoryEntry} {k : ℕ} → AreGiven before.files step script names P lines
-      → IsRun P lines opening es before.regs after.regs → stopped_at opening es ≡ Some k → Failed step script names before after 5
+      → IsSerialRun P lines opening es before.regs after.regs → stopped_at opening es ≡ Some k → Failed step script names before after 5
   failed_of {P} {lines} {opening} {es} {k} given run at = record {
     five = refl;
     rose = run.operates.fault (ap is_some at);
@@ -42,7 +42,7 @@ module _ (step : Bool) (script : List ℕ) (names : List (List ℕ)) (before aft
 
   -- what was printed of a run
   by_print : (P : Plan) (lines : List line) (opening : Option ℕ) (es : List HistoryEntry) → AreGiven before.files step script names P lines
-      → IsRun P lines opening es before.regs after.regs → (status : ℕ) (text said : List ℕ) → PrintsRun P opening es before.outputs after.outputs status text said
+      → IsSerialRun P lines opening es before.regs after.regs → (status : ℕ) (text said : List ℕ) → PrintsRun P opening es before.outputs after.outputs status text said
       → Does (driving step script names before.files after.files) before.outputs after.outputs status text said ⊎ Failed step script names before after status
   by_print P lines opening es given run status text said (whole none) = inl (printed_so (text_of given run none) all_printed)
   by_print P lines opening es given run status text said (unwritten n none rose) = inl (printed_so (text_of given run none) (part_printed n rose))
@@ -51,7 +51,7 @@ module _ (step : Bool) (script : List ℕ) (names : List (List ℕ)) (before aft
   by_print P lines opening es given run status text said without_memory = inl (stops no_memory)
 
   -- It stops or prints as a command does, or a register failed.
-  pub does_or_failed : (status : ℕ) (text said : List ℕ) → Drives step script names before after status text said
+  pub does_or_failed : (status : ℕ) (text said : List ℕ) → DrivesSerially step script names before after status text said
       → Does (driving step script names before.files after.files) before.outputs after.outputs status text said ⊎ Failed step script names before after status
   does_or_failed status text said (stopped way same) = inl (stops way)
   does_or_failed status text said (drove {P = P} {lines = lines} {opening = opening} {es = es} given run prints) = by_print P lines opening es given run status text said prints

@@ -2,3 +2,4 @@ pub mod Driving
 pub mod Obeying
 pub mod Complete
 pub mod Spared
+pub mod Working

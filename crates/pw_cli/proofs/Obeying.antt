@@ -1,22 +1,28 @@
 -- What a command did, whichever it is.
-use Rattle.std.proofs.Common.{◌≡◌, ◌≢◌, ℕ, true, List, inl, inr, ◌⊎◌, arith}
+use Rattle.std.proofs.Common.{◌≡◌, ◌≢◌, ◌∷◌, ℕ, Bool, true, false, List, Option, inl, inr, ◌⊎◌, arith}
+use Rattle.std.proofs.lemmas.Bool.{false≢true}
+use Rattle.pw_base.specs.Outside.{Rose}
 use Rattle.pw_base.specs.Seen.{FilesSeen}
 use Rattle.pw_words.specs.Words.{AskFor, Asked}
-use Rattle.pw_words.specs.Words.Asked.{on_blocks, drive, generate}
+use Rattle.pw_words.specs.Words.Asked.{on_blocks, drive, audit, generate}
 use Rattle.pw_words.proofs.Asking.{few_counted}
 use Rattle.pw_ends.specs.Seen.{Seen, NoneFailed}
-use Rattle.pw_ends.specs.Ends.{Does}
+use Rattle.pw_ends.specs.Ends.{Does, Work}
 use Rattle.pw_ends.specs.Ends.Stops.{refused, unread, without_memory}
 use Rattle.pw_ends.specs.Ends.Prints.{whole, unwritten, cut}
 use Rattle.pw_ends.specs.Ends.Does.{stopped, printed}
-use Rattle.pw_ends.proofs.Completeness.{IsOne}
+use Rattle.pw_ends.proofs.Completeness.{IsJudged, judged_of}
 use Rattle.pw_tasks.proofs.One.{never_unread, refusal_is_1, task_is_one}
-use Rattle.pw_runs.proofs.One.{drive_is_one, refusal_is_1_or_7}
+use Rattle.pw_turns.specs.declared.close.Sealed.{Sealed}
+use Rattle.pw_runs.proofs.One.{drive_is_one, refusal_is_1_or_7, working_apart, working_refuses_once}
 use Rattle.pw_runs.proofs.One.{never_unread as never_unread_drive}
 use Rattle.pw_trial.proofs.One.{trying_is_one}
 use Rattle.pw_trial.proofs.One.{does_or_failed as tries_or_failed}
-use Rattle.pw_cli.specs.Runs.{IsWithin, Obeys, RegistersHeld, names_in, work_of}
+use Rattle.pw_review.proofs.One.{refusal_is_1_7_or_8, reviewing_is_one}
+use Rattle.pw_review.proofs.One.{never_unread as never_unread_audit}
+use Rattle.pw_cli.specs.Runs.{DrivesBy, IsSettled, IsWithin, Obeys, RegistersHeld, driving_by, names_in, work_of}
 use Rattle.pw_cli.proofs.Driving.{does_or_failed}
+use Rattle.pw_cli.proofs.Working.{does_or_failed as worked_or_failed}
 
 -- # One command
 
@@ -24,51 +30,112 @@ use Rattle.pw_cli.proofs.Driving.{does_or_failed}
 pub within_of : (words : List (List ℕ)) (asked : Asked) → AskFor words asked → IsWithin asked
 within_of words (on_blocks task names) is = tt
 within_of words (drive way script names) is = tt
+within_of words (audit step script history names) is = tt
 within_of words (generate n) is = (few_counted words n is).1
 
-pub command_is_one : (asked : Asked) (before after : FilesSeen) → before.told ≡ true → IsOne (work_of asked before after)
-command_is_one (on_blocks task names) before after tells = task_is_one task names before after tells
-command_is_one (drive way script names) before after tells = drive_is_one way.step script names before after tells
-command_is_one (generate n) before after tells = trying_is_one n
+judged_by : (serial step : Bool) (script : List ℕ) (names : List (List ℕ)) (before after : FilesSeen) → before.told ≡ true
+    → IsJudged (driving_by serial step script names before after)
+judged_by true step script names before after tells = judged_of _ (drive_is_one step script names before after tells)
+judged_by false step script names before after tells =
+    record { refusals = working_refuses_once step script names before tells; apart = working_apart step script names before tells }
+
+-- a command is refused in one way, and only where it has no text
+pub command_is_judged : (asked : Asked) (before after : FilesSeen) → before.told ≡ true → IsJudged (work_of asked before after)
+command_is_judged (on_blocks task names) before after tells = judged_of _ (task_is_one task names before after tells)
+command_is_judged (drive way script names) before after tells = judged_by way.serial way.step script names before after tells
+command_is_judged (audit step script history names) before after tells = judged_of _ (reviewing_is_one step script history names before after tells)
+command_is_judged (generate n) before after tells = judged_of _ (trying_is_one n)
+
+one_by : (serial step : Bool) (script : List ℕ) (names : List (List ℕ)) (before after : FilesSeen) → before.told ≡ true → serial ≡ true
+    → (a b : List ℕ) → (driving_by serial step script names before after).text a → (driving_by serial step script names before after).text b → a ≡ b
+one_by true step script names before after tells is = (drive_is_one step script names before after tells).texts
+one_by false step script names before after tells is = absurd (false≢true is)
+
+-- and it has one text, unless workers drive
+pub settled_is_one : (asked : Asked) (before after : FilesSeen) → before.told ≡ true → IsSettled asked
+    → (a b : List ℕ) → (work_of asked before after).text a → (work_of asked before after).text b → a ≡ b
+settled_is_one (on_blocks task names) before after tells is = (task_is_one task names before after tells).texts
+settled_is_one (drive way script names) before after tells is = one_by way.serial way.step script names before after tells is
+settled_is_one (audit step script history names) before after tells is = (reviewing_is_one step script history names before after tells).texts
+settled_is_one (generate n) before after tells is = (trying_is_one n).texts
+
+unread_by : (serial step : Bool) (script : List ℕ) (names : List (List ℕ)) (before after : FilesSeen) → NoneFailed (script ∷ names) before after
+    → (driving_by serial step script names before after).unread → ⊥
+unread_by true step script names before after none u = never_unread_drive step script names before after none u
+unread_by false step script names before after none u = never_unread_drive step script names before after none u
 
 pub none_unread : (asked : Asked) (before after : FilesSeen) → NoneFailed (names_in asked) before after → (work_of asked before after).unread → ⊥
 none_unread (on_blocks task names) before after none u = never_unread names before after none u
-none_unread (drive way script names) before after none u = never_unread_drive way.step script names before after none u
+none_unread (drive way script names) before after none u = unread_by way.serial way.step script names before after none u
+none_unread (audit step script history names) before after none u = never_unread_audit step script history names before after none u
 none_unread (generate n) before after none u = u
 
--- a register of the command failed, and without that it has a text
+-- a register failed, and without that there is a text, where the files tell
+record LostBy (work : Work) (before after : Seen) (status : ℕ) : Type 0 where
+  pub five : status ≡ 5
+  pub rose : Rose before.regs.faults after.regs.faults
+  pub made : before.files.told ≡ true → (text : List ℕ) × work.text text
+
+-- so it is with a command whose registers this fails
 pub record Lost (asked : Asked) (before after : Seen) (status : ℕ) : Type 0 where
   pub five : status ≡ 5
   pub unheld : RegistersHeld asked before after → ⊥
-  pub text : List ℕ
-  pub made : (work_of asked before.files after.files).text text
+  pub made : before.files.told ≡ true → (text : List ℕ) × (work_of asked before.files after.files).text text
+
+drove_or_lost : (serial step : Bool) (script : List ℕ) (names : List (List ℕ)) (sealed : Option Sealed) (before after : Seen) (status : ℕ) (text line : List ℕ)
+    → DrivesBy serial step script names sealed before after status text line
+    → Does (driving_by serial step script names before.files after.files) before.outputs after.outputs status text line
+    ⊎ LostBy (driving_by serial step script names before.files after.files) before after status
+drove_or_lost true step script names sealed before after status text line o = elim (does_or_failed step script names before after status text line o.0) [
+  | inl did ↦ inl did
+  | inr f ↦ inr (record { five = f.five; rose = f.rose; made = λ tells. (f.text, f.made) })
+]
+drove_or_lost false step script names sealed before after status text line o = elim (worked_or_failed step script names sealed before after status text line o) [
+  | inl did ↦ inl did
+  | inr f ↦ inr (record { five = f.five; rose = f.rose; made = f.made })
+]
 
 -- it did its work, or a register failed
-pub did_or_lost : (asked : Asked) (before after : Seen) (status : ℕ) (text line : List ℕ) → Obeys asked before after status text line
+pub did_or_lost : (asked : Asked) → IsWithin asked → (sealed : Option Sealed) (before after : Seen) (status : ℕ) (text line : List ℕ) → Obeys asked sealed before after status text line
     → Does (work_of asked before.files after.files) before.outputs after.outputs status text line ⊎ Lost asked before after status
-did_or_lost (on_blocks task names) before after status text line o = inl o.0
-did_or_lost (drive way script names) before after status text line o = elim (does_or_failed way.step script names before after status text line o) [
-  | inl did ↦ inl did
-  | inr f ↦ inr (record { five = f.five; unheld = λ held. held f.rose; text = f.text; made = f.made })
-]
-did_or_lost (generate n) before after status text line o = elim (tries_or_failed n before.outputs after.outputs before.regs after.regs status text line o) [
-  | inl did ↦ inl did
-  | inr f ↦ inr (record { five = f.five; unheld = λ held. held f.rose; text = f.text; made = f.made })
-]
+did_or_lost (on_blocks task names) within sealed before after status text line o = inl o.0
+did_or_lost (drive way script names) within sealed before after status text line o =
+    elim (drove_or_lost way.serial way.step script names sealed before after status text line o) [
+      | inl did ↦ inl did
+      | inr f ↦ inr (record { five = f.five; unheld = λ held. held f.rose; made = f.made })
+    ]
+did_or_lost (audit step script history names) within sealed before after status text line o = inl o.0
+did_or_lost (generate n) within sealed before after status text line o =
+    elim (tries_or_failed n within sealed before.outputs after.outputs before.regs after.regs status text line o) [
+      | inl did ↦ inl did
+      | inr f ↦ inr (record { five = f.five; unheld = λ held. held f.rose; made = λ tells. (f.text, f.made) })
+    ]
 
 -- # The status
 
--- a refusal has status 1 or 7
-refusal_status : (asked : Asked) (before after : FilesSeen) (status : ℕ) (line : List ℕ) → (work_of asked before after).refusal status line → (status ≡ 1) ⊎ (status ≡ 7)
+-- the status of a refusal is 1, 7 or 8
+status_by : (serial step : Bool) (script : List ℕ) (names : List (List ℕ)) (before after : FilesSeen) (status : ℕ) (line : List ℕ)
+    → (driving_by serial step script names before after).refusal status line → (status ≡ 1) ⊎ (status ≡ 7)
+status_by true step script names before after status line refusal = refusal_is_1_or_7 step script names before status line refusal
+status_by false step script names before after status line refusal = refusal_is_1_or_7 step script names before status line refusal
+
+refusal_status : (asked : Asked) (before after : FilesSeen) (status : ℕ) (line : List ℕ) → (work_of asked before after).refusal status line
+    → (status ≡ 1) ⊎ (status ≡ 7) ⊎ (status ≡ 8)
 refusal_status (on_blocks task names) before after status line refusal = inl (refusal_is_1 task names before status line refusal)
-refusal_status (drive way script names) before after status line refusal = refusal_is_1_or_7 way.step script names before status line refusal
+refusal_status (drive way script names) before after status line refusal = elim (status_by way.serial way.step script names before after status line refusal) [
+  | inl one ↦ inl one
+  | inr seven ↦ inr (inl seven)
+]
+refusal_status (audit step script history names) before after status line refusal = refusal_is_1_7_or_8 step script history names before status line refusal
 refusal_status (generate n) before after status line refusal = absurd refusal
 
-neither : (s k : ℕ) → (s ≡ 1) ⊎ (s ≡ 7) → (k ≡ 2) ⊎ (k ≡ 5) → s ≡ k → ⊥
+neither : (s k : ℕ) → (s ≡ 1) ⊎ (s ≡ 7) ⊎ (s ≡ 8) → (k ≡ 2) ⊎ (k ≡ 5) → s ≡ k → ⊥
 neither s k (inl one) (inl two) e = absurd (omega (arith, one, two, e))
 neither s k (inl one) (inr five) e = absurd (omega (arith, one, five, e))
-neither s k (inr seven) (inl two) e = absurd (omega (arith, seven, two, e))
-neither s k (inr seven) (inr five) e = absurd (omega (arith, seven, five, e))
+neither s k (inr (inl seven)) (inl two) e = absurd (omega (arith, seven, two, e))
+neither s k (inr (inl seven)) (inr five) e = absurd (omega (arith, seven, five, e))
+neither s k (inr (inr eight)) (inl two) e = absurd (omega (arith, eight, two, e))
+neither s k (inr (inr eight)) (inr five) e = absurd (omega (arith, eight, five, e))
 
 apart : (s k : ℕ) → (s ≢ 2) → (s ≢ 5) → (k ≡ 2) ⊎ (k ≡ 5) → s ≡ k → ⊥
 apart s k ne nf (inl two) e = let z : s ≡ 2 = omega (arith, two, e) in ne z

@@ -1,26 +1,29 @@
 -- Registers with room for all operations of a script never fail.
-use Rattle.std.proofs.Common.{◌≡◌, ◌≤◌, ℕ, List, Option, Some, None, inr, refl, ap, arith}
+use Rattle.std.proofs.Common.{◌≡◌, ◌≤◌, ℕ, Bool, true, false, List, Option, Some, None, inr, refl, ap, arith}
 use Rattle.pw_plan.specs.declared.plan.Plan.{Plan}
 use Rattle.pw_model.specs.declared.entry.HistoryEntry.{HistoryEntry}
 use Rattle.pw_regs.specs.Seen.{RegistersSeen}
-use Rattle.pw_words.specs.declared.command.Way.{Way}
 use Rattle.pw_words.specs.Words.{Asked}
-use Rattle.pw_words.specs.Words.Asked.{on_blocks, drive, generate}
+use Rattle.pw_words.specs.Words.Asked.{on_blocks, drive, audit, generate}
 use Rattle.pw_script.specs.declared.script.Line.{Line as line}
 use Rattle.pw_script.specs.declared.script.TheConstants.{MOST_OPERATIONS}
 use Rattle.pw_script.specs.Reading.{operations}
-use Rattle.pw_drive.specs.Driven.{stopped_at}
+use Rattle.pw_drive.specs.Driven.{OperatesFor, stopped_at}
+use Rattle.pw_turns.specs.declared.close.Sealed.{Sealed}
+use Rattle.pw_workers.specs.Drives.{Opens}
 use Rattle.pw_ends.specs.Seen.{Seen}
+use Rattle.pw_ends.specs.Ends.{Does}
 use Rattle.pw_ends.specs.Ends.Does.{stopped as stops}
-use Rattle.pw_runs.specs.Runs.{AreGiven, Drives, IsRun, PrintsRun}
-use Rattle.pw_runs.specs.Runs.Drives.{stopped, drove}
+use Rattle.pw_runs.specs.Runs.{PrintsRun}
+use Rattle.pw_runs.specs.Runs.DrivesSerially.{stopped, drove}
 use Rattle.pw_runs.specs.Runs.PrintsRun.{whole, unwritten, failed, failed_unwritten, without_memory}
+use Rattle.pw_runs.specs.Workers.Drives.{stopped as work_stopped, opened as work_opened, drove as workers_drove}
 use Rattle.pw_generate.specs.Loads.{machine_load}
 use Rattle.pw_trial.specs.Trials.{Generates, PrintsSummary}
-use Rattle.pw_trial.specs.Trials.Generates.{undone}
+use Rattle.pw_trial.specs.Trials.Generates.{undone, opened}
 use Rattle.pw_trial.specs.Trials.Generates.{drove as tried}
 use Rattle.pw_trial.specs.Trials.PrintsSummary.{whole as all_summed, unwritten as part_summed, failed as never_summed, without_memory as unsummed}
-use Rattle.pw_cli.specs.Runs.{EndsBy, IsSpared, Obeys, Ran}
+use Rattle.pw_cli.specs.Runs.{DrivesBy, EndsBy, IsSpared, Obeys, Ran, driving_by}
 use Rattle.pw_cli.specs.Runs.EndsBy.{misworded, commanded}
 use Rattle.pw_cli.specs.Runs.EndsBy.{without_memory as without_memory_of}
 use Rattle.pw_cli.proofs.Obeying.{does_not}
@@ -32,15 +35,22 @@ counted : (before after : Seen) → after.regs ≡ before.regs → after.regs.fa
 counted before after same = ap (λ (r : RegistersSeen). r.faults) same
 
 module _ (before after : Seen) (room : MOST_OPERATIONS ≤ before.regs.room) where
-  module _ (way : Way) (script : List ℕ) (names : List (List ℕ)) where
-    -- so many operations at most, and room for all
-    run_spared : {P : Plan} {lines : List line} {opening : Option ℕ} {es : List HistoryEntry} → AreGiven before.files way.step script names P lines
-        → IsRun P lines opening es before.regs after.regs → (stopped_at opening es ≡ None) × (after.regs.faults ≡ before.regs.faults)
-    run_spared given run = let few = given.few in run.operates.promised (omega (arith, few, room))
+  -- so many operations at most, and room for all
+  run_spared : {P : Plan} (lines : List line) {opening : Option ℕ} {es : List HistoryEntry} → operations P lines ≤ MOST_OPERATIONS
+      → OperatesFor P (operations P lines) opening es before.regs after.regs → (stopped_at opening es ≡ None) × (after.regs.faults ≡ before.regs.faults)
+  run_spared lines few operates = operates.promised (omega (arith, few, room))
 
-    drives_counts : (status : ℕ) (text said : List ℕ) → Drives way.step script names before after status text said → after.regs.faults ≡ before.regs.faults
-    drives_counts status text said (stopped way_is same) = counted before after same
-    drives_counts status text said (drove given run prints) = (run_spared given run).1
+  open_spared : {P : Plan} (lines : List line) → operations P lines ≤ MOST_OPERATIONS → Opens P before.regs after.regs → after.regs.faults ≡ before.regs.faults
+  open_spared lines few opens = opens.promised (omega (arith, few, room))
+
+  module _ (step : Bool) (script : List ℕ) (names : List (List ℕ)) (sealed : Option Sealed) where
+    drives_counts : (serial : Bool) (status : ℕ) (text said : List ℕ) → DrivesBy serial step script names sealed before after status text said
+        → after.regs.faults ≡ before.regs.faults
+    drives_counts true status text said (stopped way_is same, unsealed) = counted before after same
+    drives_counts true status text said (drove {lines = lines} given run prints, unsealed) = let few = given.few in (run_spared lines few run.operates).1
+    drives_counts false status text said (work_stopped way_is same unsealed) = counted before after same
+    drives_counts false status text said (work_opened {lines = lines} given opens unsealed) = let few = given.few in open_spared lines few opens
+    drives_counts false status text said (workers_drove {lines = lines} given run prints seals) = let few = given.few in (run_spared lines few run.operates).1
 
     -- what was printed of a run in which none failed
     print_not_5 : (P : Plan) (opening : Option ℕ) (es : List HistoryEntry) → stopped_at opening es ≡ None → (status : ℕ) (text said : List ℕ)
@@ -51,22 +61,22 @@ module _ (before after : Seen) (room : MOST_OPERATIONS ≤ before.regs.room) whe
     print_not_5 P opening es held status text said (failed_unwritten n at rose) five = none_or_some held at
     print_not_5 P opening es held status text said without_memory five = absurd (omega (arith, five))
 
-    drives_not_5 : (status : ℕ) (text said : List ℕ) → Drives way.step script names before after status text said → status ≡ 5 → ⊥
-    drives_not_5 status text said (stopped way_is same) five =
-        does_not 5 (inr refl) (drive way script names) before after status text said (stops way_is) five
-    drives_not_5 status text said (drove {P = P} {opening = opening} {es = es} given run prints) five =
-        print_not_5 P opening es (run_spared given run).0 status text said prints five
+    drives_not_5 : (serial : Bool) (status : ℕ) (text said : List ℕ) → DrivesBy serial step script names sealed before after status text said
+        → (Does (driving_by serial step script names before.files after.files) before.outputs after.outputs status text said → status ≡ 5 → ⊥) → status ≡ 5 → ⊥
+    drives_not_5 true status text said (stopped way_is same, unsealed) not_so five = not_so (stops way_is) five
+    drives_not_5 true status text said (drove {P = P} {lines = lines} {opening = opening} {es = es} given run prints, unsealed) not_so five =
+        let few = given.few in print_not_5 P opening es (run_spared lines few run.operates).0 status text said prints five
+    drives_not_5 false status text said (work_stopped way_is same unsealed) not_so five = not_so (stops way_is) five
+    drives_not_5 false status text said (work_opened given opens unsealed) not_so five = absurd (omega (arith, five))
+    drives_not_5 false status text said (workers_drove {P = P} {lines = lines} {opening = opening} {es = es} given run prints seals) not_so five =
+        let few = given.few in print_not_5 P opening es (run_spared lines few run.operates).0 status text said prints five
 
-  module _ (n : ℕ) where
-    -- so many operations at most, and room for all
-    tried_spared : {P : Plan} {opening : Option ℕ} {es : List HistoryEntry} → operations P (machine_load n).lines ≤ MOST_OPERATIONS
-        → IsRun P (machine_load n).lines opening es before.regs after.regs → (stopped_at opening es ≡ None) × (after.regs.faults ≡ before.regs.faults)
-    tried_spared few run = run.operates.promised (omega (arith, few, room))
-
-    generates_counts : (status : ℕ) (text said : List ℕ) → Generates n before.outputs after.outputs before.regs after.regs status text said
+  module _ (n : ℕ) (sealed : Option Sealed) where
+    generates_counts : (status : ℕ) (text said : List ℕ) → Generates n sealed before.outputs after.outputs before.regs after.regs status text said
         → after.regs.faults ≡ before.regs.faults
-    generates_counts status text said (undone same) = counted before after same
-    generates_counts status text said (tried machine few run prints) = (tried_spared few run).1
+    generates_counts status text said (undone same unsealed) = counted before after same
+    generates_counts status text said (opened machine few opens unsealed) = open_spared (machine_load n).lines few opens
+    generates_counts status text said (tried machine few run prints seals) = (run_spared (machine_load n).lines few run.operates).1
 
     summary_not_5 : (P : Plan) (opening : Option ℕ) (es : List HistoryEntry) → stopped_at opening es ≡ None → (status : ℕ) (text said : List ℕ)
         → PrintsSummary P opening es before.outputs after.outputs status text said → status ≡ 5 → ⊥
@@ -75,27 +85,36 @@ module _ (before after : Seen) (room : MOST_OPERATIONS ≤ before.regs.room) whe
     summary_not_5 P opening es held status text said (never_summed at) five = none_or_some held at
     summary_not_5 P opening es held status text said unsummed five = absurd (omega (arith, five))
 
-    generates_not_5 : (status : ℕ) (text said : List ℕ) → Generates n before.outputs after.outputs before.regs after.regs status text said → status ≡ 5 → ⊥
-    generates_not_5 status text said (undone same) five = absurd (omega (arith, five))
-    generates_not_5 status text said (tried {P = P} {opening = opening} {es = es} machine few run prints) five =
-        summary_not_5 P opening es (tried_spared few run).0 status text said prints five
+    generates_not_5 : (status : ℕ) (text said : List ℕ) → Generates n sealed before.outputs after.outputs before.regs after.regs status text said → status ≡ 5 → ⊥
+    generates_not_5 status text said (undone same unsealed) five = absurd (omega (arith, five))
+    generates_not_5 status text said (opened machine few opens unsealed) five = absurd (omega (arith, five))
+    generates_not_5 status text said (tried {P = P} {opening = opening} {es = es} machine few run prints seals) five =
+        summary_not_5 P opening es (run_spared (machine_load n).lines few run.operates).0 status text said prints five
 
-  obeyed_spared : (asked : Asked) (status : ℕ) (text said : List ℕ) → Obeys asked before after status text said → IsSpared before.regs.faults after.regs.faults status
-  obeyed_spared (on_blocks task names) status text said o = record {
+  obeyed_spared : (asked : Asked) (sealed : Option Sealed) (status : ℕ) (text said : List ℕ) → Obeys asked sealed before after status text said
+      → IsSpared before.regs.faults after.regs.faults status
+  obeyed_spared (on_blocks task names) sealed status text said o = record {
     status_is = does_not 5 (inr refl) (on_blocks task names) before after status text said o.0;
     count = counted before after o.1;
   }
-  obeyed_spared (drive way script names) status text said o =
-      record { status_is = drives_not_5 way script names status text said o; count = drives_counts way script names status text said o }
-  obeyed_spared (generate n) status text said o = record { status_is = generates_not_5 n status text said o; count = generates_counts n status text said o }
+  obeyed_spared (drive way script names) sealed status text said o = record {
+    status_is = drives_not_5 way.step script names sealed way.serial status text said o (does_not 5 (inr refl) (drive way script names) before after status text said);
+    count = drives_counts way.step script names sealed way.serial status text said o;
+  }
+  obeyed_spared (audit step script history names) sealed status text said o = record {
+    status_is = does_not 5 (inr refl) (audit step script history names) before after status text said o.0;
+    count = counted before after o.1;
+  }
+  obeyed_spared (generate n) sealed status text said o =
+      record { status_is = generates_not_5 n sealed status text said o; count = generates_counts n sealed status text said o }
 
-  ends_spared : (words : List (List ℕ)) (status : ℕ) (text said : List ℕ) → EndsBy words before after status text said
+  ends_spared : (words : List (List ℕ)) (sealed : Option Sealed) (status : ℕ) (text said : List ℕ) → EndsBy words sealed before after status text said
       → IsSpared before.regs.faults after.regs.faults status
-  ends_spared words status text said (misworded none same) = record { status_is = λ five. absurd (omega (arith, five)); count = counted before after same }
-  ends_spared words status text said (without_memory_of same) = record { status_is = λ five. absurd (omega (arith, five)); count = counted before after same }
-  ends_spared words status text said (commanded asked is o) = obeyed_spared asked status text said o
+  ends_spared words sealed status text said (misworded none same unsealed) = record { status_is = λ five. absurd (omega (arith, five)); count = counted before after same }
+  ends_spared words sealed status text said (without_memory_of same unsealed) = record { status_is = λ five. absurd (omega (arith, five)); count = counted before after same }
+  ends_spared words sealed status text said (commanded asked is o) = obeyed_spared asked sealed status text said o
 
 -- a run whose registers have room for what a script may ask
-pub spared_of : {words : List (List ℕ)} {before after : Seen} {status : ℕ} → Ran words before after status → MOST_OPERATIONS ≤ before.regs.room
+pub spared_of : {words : List (List ℕ)} {sealed : Option Sealed} {before after : Seen} {status : ℕ} → Ran words sealed before after status → MOST_OPERATIONS ≤ before.regs.room
     → IsSpared before.regs.faults after.regs.faults status
-spared_of {words} {before} {after} {status} ran room = ends_spared before after room words status ran.text ran.line ran.way
+spared_of {words} {sealed} {before} {after} {status} ran room = ends_spared before after room words sealed status ran.text ran.line ran.way

@@ -1,31 +1,46 @@
 -- How a run of the program ends.
-use Rattle.std.specs.Prelude.{◌≡◌, ◌≢◌, ◌≤◌, ◌∷◌, ℕ, true, List, [], codes}
+use Rattle.std.specs.Prelude.{◌≡◌, ◌≢◌, ◌≤◌, ◌∷◌, ℕ, Bool, true, false, List, [], codes, Option, None}
 use Rattle.std.proofs.Common.{◌⊎◌}
 use Rattle.pw_base.specs.Outside.{Rose}
 use Rattle.pw_base.specs.Seen.{FilesSeen}
 use Rattle.pw_words.specs.declared.command.WordsFault.{WordsFault}
 use Rattle.pw_words.specs.declared.command.WordsFault.TheVariants.{Refused, Memory}
 use Rattle.pw_words.specs.Words.{AskFor, Asked, IsCommand}
-use Rattle.pw_words.specs.Words.Asked.{on_blocks, drive, generate}
+use Rattle.pw_words.specs.Words.Asked.{on_blocks, drive, audit, generate}
 use Rattle.pw_ends.specs.Seen.{Seen, NoneFailed}
-use Rattle.pw_ends.specs.Ends.{Does, Ended, EndedSo, Work}
+use Rattle.pw_ends.specs.Ends.{Does, Ended, EndedSo, EndedWell, Work}
 use Rattle.pw_tasks.specs.Tasks.{work_on}
-use Rattle.pw_runs.specs.Runs.{Drives, driving}
+use Rattle.pw_turns.specs.declared.close.Sealed.{Sealed}
+use Rattle.pw_runs.specs.Runs.{DrivesSerially, driving}
+use Rattle.pw_runs.specs.Workers.{Drives, working}
 use Rattle.pw_trial.specs.Trials.{Generates, trying}
+use Rattle.pw_review.specs.Reviews.{reviewing}
 
 -- # What is asked for
+
+-- to drive a machine, on one thread or by workers
+abbrev pub driving_by : (serial : Bool) → (step : Bool) → (script : List ℕ) → (names : List (List ℕ)) → FilesSeen → FilesSeen → Work
+driving_by true step script names before after = driving step script names before after
+driving_by false step script names before after = working step script names before after
 
 -- what a command does, which words ask for: of `drive` and `generate` what they do where no register fails
 abbrev pub work_of : Asked → FilesSeen → FilesSeen → Work
 work_of (on_blocks task names) before after = work_on task names before after
-work_of (drive way script names) before after = driving way.step script names before after
+work_of (drive way script names) before after = driving_by way.serial way.step script names before after
+work_of (audit step script history names) before after = reviewing step script history names before after
 work_of (generate n) before after = trying n
 
 -- the names of the files that it reads
 abbrev pub names_in : Asked → List (List ℕ)
 names_in (on_blocks task names) = names
 names_in (drive way script names) = script ∷ names
+names_in (audit step script history names) = script ∷ history ∷ names
 names_in (generate n) = []
+
+-- It has one text at most. `drive` by workers has one for each history that the script allows.
+abbrev pub IsSettled : Asked → Type 0
+IsSettled (drive way script names) = way.serial ≡ true
+IsSettled _ = Unit {0}
 
 -- # The run
 
@@ -34,12 +49,27 @@ abbrev pub IsWithin : Asked → Type 0
 IsWithin (generate n) = n ≤ 32
 IsWithin _ = Unit {0}
 
+-- A command did its work, and no register was operated.
+abbrev pub OnlyDoes : Work → Option Sealed → Seen → Seen → ℕ → List ℕ → List ℕ → Type 0
+OnlyDoes work sealed before after status text line =
+    Does work before.outputs after.outputs status text line × (after.regs ≡ before.regs) × (sealed ≡ None)
+
+-- A machine was driven, on one thread or by workers. These alone hand on what a closed coordinator gave.
+abbrev pub DrivesBy : (serial : Bool) → (step : Bool) → (script : List ℕ) → (names : List (List ℕ)) → Option Sealed → Seen → Seen → ℕ → List ℕ → List ℕ → Type 0
+DrivesBy true step script names sealed before after status text line =
+    DrivesSerially step script names before after status text line × (sealed ≡ None)
+DrivesBy false step script names sealed before after status text line = Drives step script names sealed before after status text line
+
 -- A command did its work. None but `drive` and `generate` operates a register.
-abbrev pub Obeys : Asked → Seen → Seen → ℕ → List ℕ → List ℕ → Type 0
-Obeys (on_blocks task names) before after status text line =
-    Does (work_on task names before.files after.files) before.outputs after.outputs status text line × (after.regs ≡ before.regs)
-Obeys (drive way script names) before after status text line = Drives way.step script names before after status text line
-Obeys (generate n) before after status text line = Generates n before.outputs after.outputs before.regs after.regs status text line
+abbrev pub Obeys : Asked → Option Sealed → Seen → Seen → ℕ → List ℕ → List ℕ → Type 0
+Obeys (on_blocks task names) sealed before after status text line =
+    OnlyDoes (work_on task names before.files after.files) sealed before after status text line
+Obeys (drive way script names) sealed before after status text line =
+    DrivesBy way.serial way.step script names sealed before after status text line
+Obeys (audit step script history names) sealed before after status text line =
+    OnlyDoes (reviewing step script history names before.files after.files) sealed before after status text line
+Obeys (generate n) sealed before after status text line =
+    Generates n sealed before.outputs after.outputs before.regs after.regs status text line
 
 -- the status and the line where words are no command
 abbrev pub words_status : WordsFault → ℕ
@@ -51,18 +81,18 @@ words_line Refused = codes "words: refused\n"
 words_line Memory = codes "no memory\n"
 
 -- What a run does with words.
-pub data EndsBy (words : List (List ℕ)) (before after : Seen) : ℕ → List ℕ → List ℕ → Type 0 where
+pub data EndsBy (words : List (List ℕ)) (sealed : Option Sealed) (before after : Seen) : ℕ → List ℕ → List ℕ → Type 0 where
   -- they are no command
-  misworded : (IsCommand words → ⊥) → after.regs ≡ before.regs → EndsBy words before after 2 [] (codes "words: refused\n")
+  misworded : (IsCommand words → ⊥) → after.regs ≡ before.regs → sealed ≡ None → EndsBy words sealed before after 2 [] (codes "words: refused\n")
   -- memory ran out before they were read
-  without_memory : after.regs ≡ before.regs → EndsBy words before after 6 [] (codes "no memory\n")
+  without_memory : after.regs ≡ before.regs → sealed ≡ None → EndsBy words sealed before after 6 [] (codes "no memory\n")
   -- they ask for something, and this is done
   commanded : {status : ℕ} {text line : List ℕ} (asked : Asked) → AskFor words asked
-      → Obeys asked before after status text line → EndsBy words before after status text line
+      → Obeys asked sealed before after status text line → EndsBy words sealed before after status text line
 
 -- one run
-abbrev pub Ran : List (List ℕ) → Seen → Seen → ℕ → Type 0
-Ran words before after status = Ended (EndsBy words before after) before.outputs after.outputs status
+abbrev pub Ran : List (List ℕ) → Option Sealed → Seen → Seen → ℕ → Type 0
+Ran words sealed before after status = Ended (EndsBy words sealed before after) before.outputs after.outputs status
 
 -- no register failed: the status doesn't say so, and their count stands
 pub record IsSpared (before after status : ℕ) : Type 0 where
@@ -79,13 +109,16 @@ EndsSo before after status so text line = EndedSo before.outputs after.outputs s
 abbrev pub RegistersHeld : Asked → Seen → Seen → Type 0
 RegistersHeld (on_blocks task names) before after = Unit {0}
 RegistersHeld (drive way script names) before after = Rose before.regs.faults after.regs.faults → ⊥
+RegistersHeld (audit step script history names) before after = Unit {0}
 RegistersHeld (generate n) before after = Rose before.regs.faults after.regs.faults → ⊥
 
 -- What must come where the files tell, and no read of the command's files failed.
 pub record IsCompleteFor (asked : Asked) (before after : Seen) (status : ℕ) : Type 0 where
-  -- what the command prints is printed, if no register and no write of the output failed
+  -- where it has a text, one is printed, if no register and no write of the output failed
   pub prints : (text : List ℕ) → (work_of asked before.files after.files).text text → RegistersHeld asked before after
-      → (Rose before.outputs.out.faults after.outputs.out.faults → ⊥) → EndsSo before after status 0 text []
+      → (Rose before.outputs.out.faults after.outputs.out.faults → ⊥)
+      → EndedWell (work_of asked before.files after.files) before.outputs after.outputs status ⊎ (status ≡ 6)
+  pub one : IsSettled asked → (a b : List ℕ) → (work_of asked before.files after.files).text a → (work_of asked before.files after.files).text b → a ≡ b
   -- what it refuses is refused, by its status and its line
   pub refuses : (so : ℕ) (line : List ℕ) → (work_of asked before.files after.files).refusal so line → EndsSo before after status so [] line
   -- it refuses exactly what it doesn't print

@@ -3,35 +3,71 @@ ghost use Rattle.pw_base.specs.Outside.{KeepsFiles, KeepsSink};
 ghost use Rattle.pw_base.specs.Seen.{sink_seen, GrewByLine};
 ghost use Rattle.pw_words.specs.Command.{asked_of};
 ghost use Rattle.pw_words.specs.Words.{texts};
+ghost use Rattle.pw_blocks.specs.Held.{names_of};
 ghost use Rattle.pw_ends.specs.Ends.{Ended};
 ghost use Rattle.pw_ends.specs.Seen.{all_seen, outputs_seen};
 ghost use Rattle.pw_script.specs.declared.script.TheConstants.{MOST_OPERATIONS};
-ghost use Rattle.pw_cli.specs.Runs.{IsComplete, IsSpared, IsWithin, Obeys, Ran, words_line};
+ghost use Rattle.pw_cli.specs.Runs.{DrivesBy, IsComplete, IsSpared, IsWithin, Obeys, Ran, words_line};
 ghost use Rattle.pw_cli.specs.Runs.{words_status};
 
 use pw_base::{Files, Gate, Sink};
-use pw_ends::{Outcome, say, without_memory};
+use pw_ends::{say, without_memory};
 use pw_regs::Registers;
-use pw_runs::drive;
+use pw_review::audit;
+use pw_runs::{Outcome, drive, drive_serially};
 use pw_tasks::do_on_blocks;
 use pw_trial::generate;
-use pw_words::{Command, WordsFault, command_of};
+use pw_words::{Command, Way, WordsFault, command_of};
 use std::alloc::Global;
+use std::sync::Wait;
+use std::thread::Threads;
+
+/// Does `drive`, on one thread or by workers.
+fn drive_by<T: Threads + Wait + Sync, F: Files, K: Sink, R: Registers + Send, G: Gate + Sync>(
+    rt: &T,
+    alloc: Global,
+    way: Way,
+    script: &str,
+    blocks: &[&str],
+    files: &mut F,
+    out: &mut K,
+    err: &mut K,
+    regs: R,
+    gate: &G,
+) -> Outcome<R>
+    ensures keeps_files { KeepsFiles F.told F.holds F.faults files.old files.new }
+    ensures keeps_out { KeepsSink K.told K.faults out.old out.new }
+    ensures keeps_err { KeepsSink K.told K.faults err.old err.new }
+    ensures drove { Ended (DrivesBy way.serial way.step script.now (names_of blocks.now) result.sealed
+        (all_seen F.Files K.Sink R.Registers files.old out.old err.old regs)
+        (all_seen F.Files K.Sink R.Registers files.new out.new err.new result.regs))
+        (outputs_seen K.Sink out.old err.old) (outputs_seen K.Sink out.new err.new) result.status }
+{
+    if way.serial {
+        drive_serially(alloc, way.step, script, blocks, files, out, err, regs)
+    } else {
+        drive(
+            rt, alloc, way.step, script, blocks, files, out, err, regs, gate,
+        )
+    }
+}
 
 /// Does what a command asks for.
-fn obey<F: Files, K: Sink, R: Registers>(
+fn obey<T: Threads + Wait + Sync, F: Files, K: Sink, R: Registers + Send, G: Gate + Sync>(
+    rt: &T,
     alloc: Global,
     command: &Command<'_>,
     files: &mut F,
     out: &mut K,
     err: &mut K,
     regs: R,
+    gate: &G,
 ) -> Outcome<R>
     requires { IsWithin (asked_of command.now) }
     ensures keeps_files { KeepsFiles F.told F.holds F.faults files.old files.new }
     ensures keeps_out { KeepsSink K.told K.faults out.old out.new }
     ensures keeps_err { KeepsSink K.told K.faults err.old err.new }
-    ensures obeyed { Ended (Obeys (asked_of command.now)
+    ensures obeyed { Ended (Obeys (asked_of command.now) result.sealed
         (all_seen F.Files K.Sink R.Registers files.old out.old err.old regs)
         (all_seen F.Files K.Sink R.Registers files.new out.new err.new result.regs))
         (outputs_seen K.Sink out.old err.old) (outputs_seen K.Sink out.new err.new) result.status }
@@ -39,23 +75,51 @@ fn obey<F: Files, K: Sink, R: Registers>(
     match command {
         Command::OnBlocks { task, blocks } => {
             let status = do_on_blocks(alloc, *task, blocks.as_slice(), files, out, err);
-            Outcome { status, regs }
+            Outcome {
+                status,
+                regs,
+                sealed: None,
+            }
         }
         Command::Drive {
             way,
             script,
             blocks,
-        } => drive(
+        } => drive_by(
+            rt,
             alloc,
-            way.step,
+            *way,
             script,
             blocks.as_slice(),
             files,
             out,
             err,
             regs,
+            gate,
         ),
-        Command::Generate { count } => generate(alloc, *count, out, err, regs),
+        Command::Audit {
+            step,
+            script,
+            history,
+            blocks,
+        } => {
+            let status = audit(
+                alloc,
+                *step,
+                script,
+                history,
+                blocks.as_slice(),
+                files,
+                out,
+                err,
+            );
+            Outcome {
+                status,
+                regs,
+                sealed: None,
+            }
+        }
+        Command::Generate { count } => generate(rt, alloc, *count, out, err, regs, gate),
     }
 }
 
@@ -74,23 +138,25 @@ fn refuse_words<K: Sink>(err: &mut K, fault: WordsFault) -> u8
     }
 }
 
-/// The whole run of the program on these words, which leave out the program's name: the files that it
-/// reads, its output and its error output, the registers that it operates, and the gate that a request
-/// passes where several processors are driven at once.
-pub fn run<F: Files, K: Sink, R: Registers, G: Gate>(
+/// The whole run of the program on these words, which leave out the program's name: with the threads that
+/// it may start, the files that it reads, its output and its error output, the registers that it
+/// operates, and the gate that a request passes where processors are driven side by side.
+pub fn run<T: Threads + Wait + Sync, F: Files, K: Sink, R: Registers + Send, G: Gate + Sync>(
+    rt: &T,
     alloc: Global,
     words: &[String],
     files: &mut F,
     out: &mut K,
     err: &mut K,
     regs: R,
-    _gate: &G,
+    gate: &G,
 ) -> Outcome<R>
     ensures keeps_files { KeepsFiles F.told F.holds F.faults files.old files.new }
     ensures keeps_out { KeepsSink K.told K.faults out.old out.new }
     ensures keeps_err { KeepsSink K.told K.faults err.old err.new }
-    // The status, with its cause, what stands on the two outputs, and what registers saw.
-    ensures ran { Ran (texts words.now)
+    // The status, with its cause, what stands on the two outputs, what registers saw, and what the
+    // coordinator gave at its closing.
+    ensures ran { Ran (texts words.now) result.sealed
         (all_seen F.Files K.Sink R.Registers files.old out.old err.old regs)
         (all_seen F.Files K.Sink R.Registers files.new out.new err.new result.regs) result.status }
     // What must come where nothing outside fails, unless memory runs out.
@@ -103,10 +169,11 @@ pub fn run<F: Files, K: Sink, R: Registers, G: Gate>(
 {
     let mut room = Vec::new(alloc);
     match command_of(alloc, words, &mut room) {
-        Ok(command) => obey(alloc, &command, files, out, err, regs),
+        Ok(command) => obey(rt, alloc, &command, files, out, err, regs, gate),
         Err(fault) => Outcome {
             status: refuse_words(err, fault),
             regs,
+            sealed: None,
         },
     }
 }

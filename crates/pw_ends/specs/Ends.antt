@@ -59,6 +59,12 @@ pub record EndedSo (before after : Outputs) (status : ℕ) (so : ℕ) (text line
   pub on_out : Grew before.out after.out text
   pub on_err : GrewByLine before.err after.err line
 
+-- It ended well: it printed one of the work's texts, whole, and said nothing.
+pub record EndedWell (work : Work) (before after : Outputs) (status : ℕ) : Type 0 where
+  pub text : List ℕ
+  pub made : work.text text
+  pub so : EndedSo before after status 0 text []
+
 -- A command stopped with this status, before it printed anything, and the error output grew by its line.
 pub record Stopped (work : Work) (before after : SinkSeen) (status : ℕ) : Type 0 where
   pub line : List ℕ

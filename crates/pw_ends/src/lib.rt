@@ -2,7 +2,5 @@
 #![tactic(auto)]
 
 mod ending;
-mod outcome;
 
 pub use ending::{printed, say, unread, unwritten, without_memory};
-pub use outcome::Outcome;

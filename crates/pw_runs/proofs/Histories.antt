@@ -14,13 +14,13 @@ use Rattle.pw_notice.specs.Limits.{requests}
 use Rattle.pw_regs.specs.Seen.{RegistersSeen}
 use Rattle.pw_script.specs.declared.script.Line.{Line as line}
 use Rattle.pw_script.specs.HistoryText.{history_text}
-use Rattle.pw_script.specs.Lawful.{LawfulSerial}
+use Rattle.pw_script.specs.Lawful.{Lawful}
 use Rattle.pw_script.specs.Reading.{requests_of}
 use Rattle.pw_drive.specs.Driven.{stopped_at}
-use Rattle.pw_runs.specs.Runs.{IsRun, entries_of}
+use Rattle.pw_runs.specs.Runs.{IsSerialRun, entries_of}
 
 -- the entries of a history that lines allow state requests
-pub entries_state : (P : Plan) (asked : List Request) (opening : Option ℕ) (es : List HistoryEntry) → LawfulSerial P asked opening es
+pub entries_state : (P : Plan) (asked : List Request) (opening : Option ℕ) (es : List HistoryEntry) → Lawful P asked opening es
     → AllByRecursion (StatesRequest P) es
 entries_state P asked (Some k) es run = rw run.1 tt
 entries_state P asked None es run = weaker (IsEntry P) (StatesRequest P) (λ e is. is.states) es run.legal.well_formed.entries
@@ -78,7 +78,7 @@ entries_back P (e ∷ es) is seats faults =
     cc
 
 -- A run of lines in which no register failed has the entries of their requests.
-pub whole_entries : (P : Plan) (lines : List line) (opening : Option ℕ) (es : List HistoryEntry) (old new : RegistersSeen) → IsRun P lines opening es old new
+pub whole_entries : (P : Plan) (lines : List line) (opening : Option ℕ) (es : List HistoryEntry) (old new : RegistersSeen) → IsSerialRun P lines opening es old new
     → stopped_at opening es ≡ None → es ≡ entries_of (requests_of lines)
 whole_entries P lines (Some k) es old new run none = absurd (cc)
 whole_entries P lines None es old new run none =
@@ -87,7 +87,7 @@ whole_entries P lines None es old new run none =
     entries_back P es legal.well_formed.entries run.seats faultless ∙ ap entries_of (run.lawful.whole faultless)
 
 -- And so their history.
-pub whole_history : (P : Plan) (lines : List line) (opening : Option ℕ) (es : List HistoryEntry) (old new : RegistersSeen) → IsRun P lines opening es old new
+pub whole_history : (P : Plan) (lines : List line) (opening : Option ℕ) (es : List HistoryEntry) (old new : RegistersSeen) → IsSerialRun P lines opening es old new
     → stopped_at opening es ≡ None → history_text P opening es ≡ history_text P None (entries_of (requests_of lines))
 whole_history P lines (Some k) es old new run none = absurd (cc)
 whole_history P lines None es old new run none = ap (λ (l : List HistoryEntry). history_text P None l) (whole_entries P lines None es old new run none)

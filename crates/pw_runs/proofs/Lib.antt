@@ -1,5 +1,6 @@
 pub mod Cuts
 pub mod Histories
+pub mod Many
 pub mod OnePlan
 pub mod Parsed
 pub mod Printing

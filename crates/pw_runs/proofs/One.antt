@@ -1,4 +1,4 @@
--- A drive has one text of what files hold, or is refused in one way.
+-- A serial drive has one text of what files hold, or is refused in one way; one by workers is refused just so.
 use Rattle.std.proofs.Common.{◌≡◌, ℕ, ◌-◌, Bool, true, List, [], ◌∷◌, length, Option, Some, None, Result, Err, inl, inr, ◌⊎◌, refl, sym, ap, subst, ◌∙◌, arith}
 use Rattle.std.specs.Prelude.{Contains, suc}
 use Rattle.std.proofs.lemmas.List.Elements.{Contains-get_or}
@@ -28,6 +28,7 @@ use Rattle.pw_load.specs.Steps.{AreHeldBy, IsGivenTwice, IsNoPlanOf, IsUnplanned
 use Rattle.pw_runs.specs.Scripts.{AreLinesIn, HoldsNoScript, HoldsScript, IsNoScript, IsScript, limit_by, script_line}
 use Rattle.pw_runs.specs.Scripts.IsNoScript.{bad, too_much}
 use Rattle.pw_runs.specs.Runs.{AreGiven, ArePlanned, IsRefusalOn, IsTextOn, IsUnscripted, driving, entries_of}
+use Rattle.pw_runs.specs.Workers.{IsTextBy}
 use Rattle.pw_runs.specs.Runs.IsRefusalOn.{unspelled, unplanned, unscripted}
 use Rattle.pw_runs.proofs.OnePlan.{same_plans}
 use Rattle.pw_runs.proofs.Repeats.{one_first_repeat}
@@ -113,7 +114,7 @@ module _ (step : Bool) (script : List ℕ) (names : List (List ℕ)) (files : Fi
       same_plans P Q (same_plan (entries_in q.blocks) P Q p.notes q.notes made q.made).0
 
   -- and the script has one list of lines
-  one_given : (P Q : Plan) (ls ms : List line) → AreGiven files step script names P ls → AreGiven files step script names Q ms → (P ≡ Q) × (ls ≡ ms)
+  pub one_given : (P Q : Plan) (ls ms : List line) → AreGiven files step script names P ls → AreGiven files step script names Q ms → (P ≡ Q) × (ls ≡ ms)
   one_given P Q ls ms p q =
       let same = one_planned P Q p.planned q.planned in
       let held = subst (λ (R : Plan). HoldsScript (files.holds script) R step ls) same (p.scripted tells) in
@@ -168,7 +169,7 @@ module _ (step : Bool) (script : List ℕ) (names : List (List ℕ)) (files : Fi
   apart : (status : ℕ) (text line : List ℕ) → IsTextOn files step script names text → IsRefusalOn files step script names status line → ⊥
   apart status text line made r = given_apart made.plan made.lines status line made.given r
 
--- A drive of what files hold has one text, or is refused in one way, and never both.
+-- A serial drive of what files hold has one text, or is refused in one way, and never both.
 pub drive_is_one : (step : Bool) (script : List ℕ) (names : List (List ℕ)) (before after : FilesSeen) → before.told ≡ true
     → IsOne (driving step script names before after)
 drive_is_one step script names before after tells = record {
@@ -190,13 +191,25 @@ pub given_not_refused : (step : Bool) (script : List ℕ) (names : List (List �
     → AreGiven files step script names P lines → (status : ℕ) (text : List ℕ) → IsRefusalOn files step script names status text → ⊥
 given_not_refused step script names files tells P lines given status text r = given_apart step script names files tells P lines status text given r
 
+-- # A drive by workers
+
+-- It is refused in one way.
+pub working_refuses_once : (step : Bool) (script : List ℕ) (names : List (List ℕ)) (before : FilesSeen) → before.told ≡ true
+    → (s t : ℕ) (a b : List ℕ) → IsRefusalOn before step script names s a → IsRefusalOn before step script names t b → (s ≡ t) × (a ≡ b)
+working_refuses_once step script names before tells = one_refusal step script names before tells
+
+-- And never where it has a text.
+pub working_apart : (step : Bool) (script : List ℕ) (names : List (List ℕ)) (before : FilesSeen) → before.told ≡ true
+    → (status : ℕ) (text line : List ℕ) → IsTextBy before step script names text → IsRefusalOn before step script names status line → ⊥
+working_apart step script names before tells status text line made r = given_apart step script names before tells made.plan made.lines status line made.given r
+
 -- # Files of which no read failed
 
 -- an element stands behind another
 Contains-behind : {X : Type 0} (y : X) (xs : List X) (x : X) → Contains xs x → Contains (y ∷ xs) x
 Contains-behind y xs x (k, lt, is) = (suc k, omega (arith, lt), is)
 
--- No file is unread where no read of the script or of a block failed.
+-- No file is unread where no read of the script or of a block failed, whoever makes the lines.
 pub never_unread : (step : Bool) (script : List ℕ) (names : List (List ℕ)) (before after : FilesSeen) → NoneFailed (script ∷ names) before after
     → (driving step script names before after).unread → ⊥
 never_unread step script names before after none (inl u) =

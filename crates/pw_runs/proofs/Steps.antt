@@ -1,5 +1,5 @@
 -- What the parts of a drive do is what a drive does.
-use Rattle.std.proofs.Common.{◌≡◌, ◌≢◌, ◌≤◌, ℕ, Bool, List, Option, Result, Ok, Err, IfOk, IfErr, inl, inr, refl, sym, subst, ◌∙◌, arith}
+use Rattle.std.proofs.Common.{◌≡◌, ◌≢◌, ◌≤◌, ℕ, Bool, List, [], Option, None, Result, Ok, Err, IfOk, IfErr, codes, inl, inr, refl, sym, ap, subst, ◌∙◌, arith}
 use Rattle.std.proofs.lemmas.Bool.{false≢true}
 use Rattle.pw_base.specs.declared.files.Files.{Ghosts as Files}
 use Rattle.pw_base.specs.Outside.{KeepsFiles, Rose}
@@ -10,24 +10,33 @@ use Rattle.acpi_space.specs.Namespace.{Entry, entries_in, places_of}
 use Rattle.acpi_build.specs.declared.note.Note.{Note}
 use Rattle.acpi_build.specs.Planning.{IsPlanFrom}
 use Rattle.pw_plan.specs.declared.plan.Plan.{Plan}
+use Rattle.pw_regs.specs.declared.registers.Registers.{Ghosts as Registers}
+use Rattle.pw_regs.specs.Seen.{registers_seen}
+use Rattle.pw_turns.specs.declared.close.Sealed.{Sealed}
 use Rattle.pw_script.specs.declared.script.Line.{Line as line}
 use Rattle.pw_script.specs.declared.script.TheConstants.{MOST_OPERATIONS}
 use Rattle.pw_script.specs.Reading.{operations}
 use Rattle.pw_script.specs.declared.script.Script.{Script}
 use Rattle.pw_script.specs.declared.script.ScriptFault.{ScriptFault}
 use Rattle.pw_script.specs.declared.script.ScriptFault.TheVariants.{Line, Memory, TooLong}
-use Rattle.pw_ends.specs.Seen.{Seen}
+use Rattle.pw_workers.specs.Drives.{GivesBack}
+use Rattle.pw_ends.specs.Seen.{Outputs, Seen}
 use Rattle.pw_ends.specs.Ends.{Stops}
-use Rattle.pw_ends.specs.Ends.Stops.{refused, without_memory}
+use Rattle.pw_ends.specs.Ends.Stops.{refused, unread, without_memory}
 use Rattle.pw_ends.proofs.Outcomes.{IsWithin}
 use Rattle.pw_load.specs.Steps.{AreHeldBy, loading, placing, planning}
 use Rattle.pw_runs.specs.Scripts.{HoldsNoScript, HoldsScript, script_line, script_status}
-use Rattle.pw_runs.specs.Runs.{AreGiven, ArePlanned, Drives, driving}
-use Rattle.pw_runs.specs.Runs.Drives.{drove, stopped}
+use Rattle.pw_runs.specs.Runs.{AreGiven, ArePlanned, DrivesSerially, driving}
+use Rattle.pw_runs.specs.Runs.DrivesSerially.{drove, stopped}
+use Rattle.pw_runs.specs.Workers.{Drives, working}
+use Rattle.pw_runs.specs.Workers.Drives.{drove as drove_by, opened as opened_by, stopped as stopped_by}
 use Rattle.pw_runs.specs.Runs.IsRefusalOn.{unplanned as unplanned_on, unscripted, unspelled as unspelled_on}
-use Rattle.pw_runs.specs.inner.Parts.{IsNoPlanIn, IsNotScripted, IsPlanBy, Runs, mapping, readying, scripting}
+use Rattle.pw_runs.specs.inner.Parts.{IsNoPlanIn, IsNotScripted, IsPlanBy, RunsSerially, mapping, readying, scripting}
 use Rattle.pw_runs.specs.inner.Parts.IsNoPlanIn.{unspelled, unplanned}
-use Rattle.pw_runs.specs.inner.Parts.Runs.{ran, undone}
+use Rattle.pw_runs.specs.inner.Parts.RunsSerially.{ran, undone}
+use Rattle.pw_runs.specs.inner.Works.{Works}
+use Rattle.pw_runs.specs.inner.Works.Works.{opened, worked}
+use Rattle.pw_runs.specs.inner.Works.Works.{undone as undone_by}
 
 -- # The plan
 
@@ -157,12 +166,33 @@ module _ {S : Type 0} (F : Files S) (old mid : S) (kept : KeepsFiles F.told F.ho
 
 -- # The whole
 
--- what came of a plan and of lines that are given is a drive
+-- what came of a plan and of lines that are given is a serial drive
 pub runs_drive : (step : Bool) (script : List ℕ) (names : List (List ℕ)) (before after : Seen) (P : Plan) (lines : List line)
     → AreGiven before.files step script names P lines → (status : ℕ) (written text : List ℕ)
-    → Runs P lines before.outputs after.outputs before.regs after.regs status written text → Drives step script names before after status written text
+    → RunsSerially P lines before.outputs after.outputs before.regs after.regs status written text → DrivesSerially step script names before after status written text
 runs_drive step script names before after P lines given status written text (undone same) = stopped without_memory same
 runs_drive step script names before after P lines given status written text (ran run prints) = drove given run prints
+
+-- a drive by workers stops where a serial one does
+pub stops_working : (step : Bool) (script : List ℕ) (names : List (List ℕ)) (before after : FilesSeen) {status : ℕ} {line : List ℕ}
+    → Stops (driving step script names before after) status line → Stops (working step script names before after) status line
+stops_working step script names before after (refused r) = refused r
+stops_working step script names before after (unread u) = unread u
+stops_working step script names before after without_memory = without_memory
+
+-- where workers had no memory
+pub works_none : {R : Type 0} (by : Registers R) (P : Plan) (lines : List line) (before after : Outputs) (regs back : R) → GivesBack by P regs back
+    → Works P lines None before after (registers_seen by regs) (registers_seen by back) 6 [] (codes "no memory\n")
+works_none by P lines before after regs back (inl same) = undone_by (ap (registers_seen by) same) refl
+works_none by P lines before after regs back (inr opens) = opened opens refl
+
+-- what came of them by workers is a drive by workers
+pub works_drive : (step : Bool) (script : List ℕ) (names : List (List ℕ)) (sealed : Option Sealed) (before after : Seen) (P : Plan) (lines : List line)
+    → AreGiven before.files step script names P lines → (status : ℕ) (written text : List ℕ)
+    → Works P lines sealed before.outputs after.outputs before.regs after.regs status written text → Drives step script names sealed before after status written text
+works_drive step script names sealed before after P lines given status written text (undone_by same none) = stopped_by without_memory same none
+works_drive step script names sealed before after P lines given status written text (opened opens none) = opened_by given opens none
+works_drive step script names sealed before after P lines given status written text (worked run prints seals) = drove_by given run prints seals
 
 -- # Results
 

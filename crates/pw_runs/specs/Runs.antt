@@ -51,7 +51,7 @@ pub record AreGiven (files : FilesSeen) (step : Bool) (script : List ℕ) (names
 abbrev pub entries_of : List Request → List HistoryEntry
 entries_of asked = map (entry_of 0) asked
 
--- The text of a drive in which no register fails: the history of the script's lines, in their order.
+-- The text of a serial drive in which no register fails: the history of the script's lines, in their order.
 pub record IsTextOn (files : FilesSeen) (step : Bool) (script : List ℕ) (names : List (List ℕ)) (text : List ℕ) : Type 0 where
   pub plan : Plan
   pub lines : List line
@@ -82,7 +82,7 @@ pub record IsScriptUnread (before after : FilesSeen) (script : List ℕ) (names 
   pub planned : ArePlanned before names plan
   pub rose : Rose (before.faults script) (after.faults script)
 
--- to drive the machine of these blocks by this script
+-- to drive the machine of these blocks by this script, line by line
 abbrev pub driving : (step : Bool) → (script : List ℕ) → (names : List (List ℕ)) → FilesSeen → FilesSeen → Work
 driving step script names before after = record {
   text = IsTextOn before step script names;
@@ -94,7 +94,7 @@ driving step script names before after = record {
 -- # How it ends
 
 -- What came of the lines: a history in their order, with the operations that registers saw.
-pub record IsRun (P : Plan) (lines : List line) (opening : Option ℕ) (es : List HistoryEntry) (old new : RegistersSeen) : Type 0 where
+pub record IsSerialRun (P : Plan) (lines : List line) (opening : Option ℕ) (es : List HistoryEntry) (old new : RegistersSeen) : Type 0 where
   pub lawful : LawfulSerial P (requests_of lines) opening es
   pub seats : AllByRecursion (λ (e : HistoryEntry). e.seat ≡ 0) es
   pub operates : OperatesFor P (operations P lines) opening es old new
@@ -113,11 +113,11 @@ pub data PrintsRun (P : Plan) (opening : Option ℕ) (es : List HistoryEntry) (b
       → PrintsRun P opening es before after 5 (take n (history_text P opening es)) (register_line k)
   without_memory : PrintsRun P opening es before after 6 [] (codes "no memory\n")
 
--- A machine was driven, or nothing was done: what is given is refused, a file couldn't be read, or memory ran out.
-pub data Drives (step : Bool) (script : List ℕ) (names : List (List ℕ)) (before after : Seen) : ℕ → List ℕ → List ℕ → Type 0 where
+-- A machine was driven line by line, or nothing was done: what is given is refused, a file couldn't be read, or memory ran out.
+pub data DrivesSerially (step : Bool) (script : List ℕ) (names : List (List ℕ)) (before after : Seen) : ℕ → List ℕ → List ℕ → Type 0 where
   stopped : {status : ℕ} {text : List ℕ} → Stops (driving step script names before.files after.files) status text → after.regs ≡ before.regs
-      → Drives step script names before after status [] text
+      → DrivesSerially step script names before after status [] text
   drove : {status : ℕ} {written text : List ℕ} {P : Plan} {lines : List line} {opening : Option ℕ} {es : List HistoryEntry}
-      → AreGiven before.files step script names P lines → IsRun P lines opening es before.regs after.regs
+      → AreGiven before.files step script names P lines → IsSerialRun P lines opening es before.regs after.regs
       → PrintsRun P opening es before.outputs after.outputs status written text
-      → Drives step script names before after status written text
+      → DrivesSerially step script names before after status written text

@@ -2,13 +2,19 @@
 #![tactic(auto)]
 
 mod given;
+mod outcome;
 mod planned;
 mod print;
 mod refusal;
 mod running;
 mod say;
 mod script;
+mod working;
 
+pub use given::given_in;
+pub use outcome::{Outcome, handed_on};
 pub use print::failed_after;
 pub use refusal::say_register;
-pub use running::drive;
+pub use running::drive_serially;
+pub use say::{put_between, say_number};
+pub use working::drive;

@@ -7,18 +7,18 @@ use pw_base::{Failed, Sink};
 use pw_text::{Page, put_number};
 
 /// Puts a number between two texts.
-fn put_between<K: Sink>(
+pub fn put_between<K: Sink>(
     page: &mut Page,
     sink: &mut K,
     before: &[u8],
-    number: u32,
+    number: u64,
     after: &[u8],
 ) -> Result<(), Failed>
     ensures { PutsText K.Sink sink.old sink.new page.old page.new
         (before.now ++ decimal number ++ after.now) (is_ok result) }
 {
     page.put(sink, before)?;
-    put_number(page, sink, u64::from(number))?;
+    put_number(page, sink, number)?;
     page.put(sink, after)
 }
 
@@ -29,7 +29,7 @@ pub fn say_number<K: Sink>(page: &mut Page, err: &mut K, before: &[u8], number: 
     ensures line { GrewByLine (sink_seen K.Sink err.old) (sink_seen K.Sink err.new)
         (before.now ++ decimal number ++ after.now) }
 {
-    if put_between(page, err, before, number, after).is_ok() {
+    if put_between(page, err, before, u64::from(number), after).is_ok() {
         let _ = page.flush(err);
     }
 }

@@ -7,15 +7,18 @@ use Rattle.acpi_build.specs.Planning.{IsPlanFrom}
 use Rattle.pw_plan.specs.declared.plan.Plan.{Plan}
 use Rattle.pw_model.specs.declared.entry.HistoryEntry.{HistoryEntry}
 use Rattle.pw_regs.specs.Seen.{RegistersSeen}
+use Rattle.pw_turns.specs.declared.close.Sealed.{Sealed}
 use Rattle.pw_script.specs.declared.script.TheConstants.{MOST_OPERATIONS}
 use Rattle.pw_script.specs.Reading.{operations, requests_of}
 use Rattle.pw_drive.specs.Driven.{stopped_at}
+use Rattle.pw_workers.specs.Drives.{Opens, Runs}
 use Rattle.pw_generate.specs.Loads.{machine_load}
 use Rattle.pw_generate.specs.Machines.{machine_block}
 use Rattle.pw_summary.specs.Summary.{script_summary, summary_text}
 use Rattle.pw_ends.specs.Seen.{Outputs}
 use Rattle.pw_ends.specs.Ends.{Work}
-use Rattle.pw_runs.specs.Runs.{IsRun, register_line}
+use Rattle.pw_runs.specs.Runs.{register_line}
+use Rattle.pw_runs.specs.Workers.{Seals}
 
 -- # What is printed where no register fails
 
@@ -45,9 +48,13 @@ pub data PrintsSummary (P : Plan) (opening : Option ℕ) (es : List HistoryEntry
   failed : {k : ℕ} → stopped_at opening es ≡ Some k → PrintsSummary P opening es before after 5 [] (register_line k)
   without_memory : PrintsSummary P opening es before after 6 [] (codes "no memory\n")
 
--- The load, which is no longer than a script may be, was run on the machine, or memory ran out before a register was operated.
-pub data Generates (n : ℕ) (before after : Outputs) (old new : RegistersSeen) : ℕ → List ℕ → List ℕ → Type 0 where
-  undone : new ≡ old → Generates n before after old new 6 [] (codes "no memory\n")
+-- The load, which is no longer than a script may be, was run on the machine by workers, or memory ran out before a request was made.
+pub data Generates (n : ℕ) (sealed : Option Sealed) (before after : Outputs) (old new : RegistersSeen) : ℕ → List ℕ → List ℕ → Type 0 where
+  undone : new ≡ old → sealed ≡ None → Generates n sealed before after old new 6 [] (codes "no memory\n")
+  -- it ran out behind the operations at the start
+  opened : {P : Plan} → IsMachine n P → operations P (machine_load n).lines ≤ MOST_OPERATIONS → Opens P old new → sealed ≡ None
+      → Generates n sealed before after old new 6 [] (codes "no memory\n")
   drove : {status : ℕ} {written text : List ℕ} {P : Plan} {opening : Option ℕ} {es : List HistoryEntry}
-      → IsMachine n P → operations P (machine_load n).lines ≤ MOST_OPERATIONS → IsRun P (machine_load n).lines opening es old new
-      → PrintsSummary P opening es before after status written text → Generates n before after old new status written text
+      → IsMachine n P → operations P (machine_load n).lines ≤ MOST_OPERATIONS → Runs P (machine_load n).lines opening es old new
+      → PrintsSummary P opening es before after status written text → Seals P opening es status sealed
+      → Generates n sealed before after old new status written text

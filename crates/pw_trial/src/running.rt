@@ -13,16 +13,19 @@ ghost use Rattle.pw_trial.specs.inner.Trying.{Tries};
 
 use crate::machine::plan_of;
 use crate::print::print_run;
-use pw_base::{Memory, Sink};
-use pw_drive::{Driven, serial};
-use pw_ends::{Outcome, without_memory};
+use pw_base::{Gate, Memory, Sink};
+use pw_ends::without_memory;
 use pw_generate::generate_script;
 use pw_generated::{generated_loads_fit, generated_machines_have_plans};
 use pw_plan::Plan;
 use pw_regs::Registers;
+use pw_runs::{Outcome, handed_on};
 use pw_script::Script;
 use pw_text::Page;
+use pw_workers::Drove;
 use std::alloc::Global;
+use std::sync::Wait;
+use std::thread::Threads;
 
 /// The plan of the machine of so many containers, the load for it, and an empty page.
 fn prepare(alloc: Global, n: u32) -> Result<(Plan, Script, Page), Memory>
@@ -37,9 +40,10 @@ fn prepare(alloc: Global, n: u32) -> Result<(Plan, Script, Page), Memory>
     Ok((plan, script, page))
 }
 
-/// Makes the requests of the load on the machine, and prints the summary, with an empty page for the error output.
-/// It says the status, and gives the registers back.
-fn run<K: Sink, R: Registers>(
+/// Lets workers make the requests of the load on the machine, and prints the summary, with an empty page for the error
+/// output. It says the status, gives the registers back, and hands on what the coordinator gave.
+fn run<T: Threads + Wait + Sync, K: Sink, R: Registers + Send, G: Gate + Sync>(
+    rt: &T,
     alloc: Global,
     plan: Plan,
     script: &Script,
@@ -47,48 +51,57 @@ fn run<K: Sink, R: Registers>(
     out: &mut K,
     err: &mut K,
     regs: R,
+    gate: &G,
 ) -> Outcome<R>
     requires empty { page.old ≡ [] }
     requires few { length script.now.lines ≤ 65536 }
     requires has { AllByRecursion (λ (l : line). Has plan l.request) script.now.lines }
     ensures keeps_out { KeepsSink K.told K.faults out.old out.new }
     ensures keeps_err { KeepsSink K.told K.faults err.old err.new }
-    ensures ran { Ended (Tries plan script.now.lines
+    ensures ran { Ended (Tries plan script.now.lines result.sealed
         (outputs_seen K.Sink out.old err.old) (outputs_seen K.Sink out.new err.new)
         (registers_seen R.Registers regs) (registers_seen R.Registers result.regs))
         (outputs_seen K.Sink out.old err.old) (outputs_seen K.Sink out.new err.new) result.status }
 {
-    match serial(alloc, plan, script, regs) {
+    match pw_workers::drive(rt, alloc, plan, script, regs, gate) {
         Err(regs) => Outcome {
             status: without_memory(err),
             regs,
+            sealed: None,
         },
-        Ok(driven) => {
-            let Driven {
-                plan,
-                opening,
-                entries,
+        Ok(Drove::Opening { done, plan, regs }) => Outcome {
+            status: print_run(alloc, &plan, Some(done), &[], page, out, err),
+            regs,
+            sealed: None,
+        },
+        Ok(Drove::Closed(closed)) => {
+            let (sealed, regs) = closed.into_parts();
+            let status = print_run(alloc, sealed.plan(), None, sealed.entries(), page, out, err);
+            Outcome {
+                status,
                 regs,
-            } = driven;
-            let status = print_run(alloc, &plan, opening, entries.as_slice(), page, out, err);
-            Outcome { status, regs }
+                sealed: handed_on(status, sealed),
+            }
         }
     }
 }
 
-/// Does `generate N`: makes the block of N containers, reads it again, makes the requests of the load on its machine,
-/// and prints the summary of their history. Says the status, and gives the registers back.
-pub fn generate<K: Sink, R: Registers>(
+/// Does `generate N`: makes the block of N containers, reads it again, makes the requests of the load on its machine, by
+/// one worker for each processor, and prints the summary of their history. Says the status, gives the registers back, and
+/// hands on what the coordinator gave.
+pub fn generate<T: Threads + Wait + Sync, K: Sink, R: Registers + Send, G: Gate + Sync>(
+    rt: &T,
     alloc: Global,
     n: u32,
     out: &mut K,
     err: &mut K,
     regs: R,
+    gate: &G,
 ) -> Outcome<R>
     requires { n ≤ MOST_CONTAINERS }
     ensures keeps_out { KeepsSink K.told K.faults out.old out.new }
     ensures keeps_err { KeepsSink K.told K.faults err.old err.new }
-    ensures did { Ended (Generates n
+    ensures did { Ended (Generates n result.sealed
         (outputs_seen K.Sink out.old err.old) (outputs_seen K.Sink out.new err.new)
         (registers_seen R.Registers regs) (registers_seen R.Registers result.regs))
         (outputs_seen K.Sink out.old err.old) (outputs_seen K.Sink out.new err.new) result.status }
@@ -97,9 +110,10 @@ pub fn generate<K: Sink, R: Registers>(
         return Outcome {
             status: without_memory(err),
             regs,
+            sealed: None,
         };
     };
     generated_machines_have_plans();
     generated_loads_fit();
-    run(alloc, plan, &script, &mut page, out, err, regs)
+    run(rt, alloc, plan, &script, &mut page, out, err, regs, gate)
 }

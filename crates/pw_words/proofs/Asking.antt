@@ -17,14 +17,15 @@ use Rattle.pw_words.specs.Stated.{Enters, IsRefused, IsTaken, is_used}
 use Rattle.pw_words.specs.App.{line_app}
 use Rattle.pw_words.specs.Words.{AreMiscounted, AreStated, AskFor, Asked, IsCommand, IsCount, IsLine, Say, SayTask, SayWay}
 use Rattle.pw_words.specs.Words.{command_name, is_plain, moved, task_name}
-use Rattle.pw_words.specs.Words.Asked.{drive, generate, on_blocks}
+use Rattle.pw_words.specs.Words.Asked.{audit, drive, generate, on_blocks}
 use Rattle.pw_words.specs.inner.Reading.{Reads, given}
 use Rattle.pw_words.proofs.Bounds.{HasFew}
 use Rattle.pw_words.proofs.Getters.{inside}
 use Rattle.pw_words.proofs.Counts.{one_count}
 use Rattle.pw_words.proofs.Generating.{generate_rows, generate_said}
 use Rattle.pw_words.proofs.Lines.{AreToCount, generate_rows_at, line_stated, plain_line}
-use Rattle.pw_words.proofs.Present.{drive_not_generate, files_met, not_drive, not_generate, rows_met, stated_of}
+use Rattle.pw_words.proofs.Present.{audit_not_generate, drive_not_audit, drive_not_generate, files_met, not_audit, not_drive, not_generate}
+use Rattle.pw_words.proofs.Present.{rows_met, stated_of}
 use Rattle.pw_words.proofs.Subcommands.{met}
 
 -- ---- one thing
@@ -55,14 +56,23 @@ one_said (drive s x us) (drive t y vs) rows same p q =
     let way = sym (is_way s rows p.0) ∙ is_way t rows q.0 in
     let names = ap₂ (drive s) (inside x y (sym p.1 ∙ q.1)) (inside us vs (sym p.2 ∙ q.2)) in
     names ∙ ap (λ (w : Way). drive w y vs) way
+one_said (audit a x z us) (audit b y w vs) rows same p q =
+    let names = ap₂ (audit a x) (inside z w (sym p.2 ∙ q.2)) (inside us vs (sym p.3 ∙ q.3)) in
+    names ∙ ap₂ (λ (c : Bool) (s : Text). audit c s w vs) (sym p.0 ∙ q.0) (inside x y (sym p.1 ∙ q.1))
 one_said (generate m) (generate n) rows same p q =
     ap generate (one_count q.0 m n (subst (λ (w : Text). IsCount w m) (inside p.0 q.0 (sym p.1 ∙ q.1)) p.2) q.2)
 one_said (on_blocks s us) (drive t y vs) rows same p q = absurd (not_drive s same)
+one_said (on_blocks s us) (audit b y w vs) rows same p q = absurd (not_audit s same)
 one_said (on_blocks s us) (generate n) rows same p q = absurd (not_generate s same)
 one_said (drive s x us) (on_blocks t vs) rows same p q = absurd (not_drive t (sym same))
+one_said (drive s x us) (audit b y w vs) rows same p q = absurd (drive_not_audit same)
 one_said (drive s x us) (generate n) rows same p q = absurd (drive_not_generate same)
+one_said (audit a x z us) (on_blocks t vs) rows same p q = absurd (not_audit t (sym same))
+one_said (audit a x z us) (drive t y vs) rows same p q = absurd (drive_not_audit (sym same))
+one_said (audit a x z us) (generate n) rows same p q = absurd (audit_not_generate same)
 one_said (generate m) (on_blocks t vs) rows same p q = absurd (not_generate t (sym same))
 one_said (generate m) (drive t y vs) rows same p q = absurd (drive_not_generate (sym same))
+one_said (generate m) (audit b y w vs) rows same p q = absurd (audit_not_generate (sym same))
 
 module _ (words : List Text) where
   name_entered : {m n : Text} {p q : List Row} → Enters words m p → Enters words n q → m ≡ n
@@ -85,6 +95,7 @@ not_miscounted words asked p m =
     go : (a : Asked) → command_name a ≡ codes "generate" → Say m.rows a → ⊥
     go (on_blocks task files) same said = not_generate task same
     go (drive way script files) same said = drive_not_generate same
+    go (audit step script history files) same said = audit_not_generate same
     go (generate count) same said = m.unsaid count said
 
 -- ---- plain words and others
@@ -125,6 +136,11 @@ pub few_driven : (words : List Text) (way : Way) (script : Text) (blocks : List 
 few_driven words way script blocks p = by_plainness words (λ e. ((p.plain e).2.some, (p.plain e).2.few))
     (λ e. (let h = p.other e in few_files words blocks (drive way script blocks) h drive_not_generate h.said.2))
 
+pub few_audited : (words : List Text) (step : Bool) (script history : Text) (blocks : List Text)
+    → AskFor words (audit step script history blocks) → HasFew blocks
+few_audited words step script history blocks p = by_plainness words (λ e. ((p.plain e).3.some, (p.plain e).3.few))
+    (λ e. (let h = p.other e in few_files words blocks (audit step script history blocks) h audit_not_generate h.said.3))
+
 -- the number of clusters
 pub few_counted : (words : List Text) (count : ℕ) → AskFor words (generate count) → (1 ≤ count) × (count ≤ 32)
 few_counted words count p = by_plainness words (λ e. ((p.plain e).2.some, (p.plain e).2.few))
@@ -153,6 +169,7 @@ counted_line words asked are stated =
     go : (a : Asked) → command_name a ≡ codes "generate" → Say (generate_rows are.0) a → IsLine words a
     go (on_blocks task files) same said = absurd (not_generate task same)
     go (drive way script files) same said = absurd (drive_not_generate same)
+    go (audit step script history files) same said = absurd (audit_not_generate same)
     go (generate count) same said =
         let word = inside said.0 are.0 (sym said.1 ∙ generate_said are.0 are.2) in
         (are.0, are.1, subst (λ (w : Text). IsCount w count) word said.2)

@@ -20,6 +20,7 @@ use Rattle.clap.specs.declared.parser.matches.ValueSource.{ValueSource}
 use Rattle.clap.specs.declared.parser.matches.ValueSource.TheVariants.{DefaultValue}
 use Rattle.clap.specs.declared.error.kind.ErrorKind.TheVariants as kind
 use Rattle.pw_words.specs.App.{flag_rule}
+use Rattle.pw_words.proofs.Auditing.{audit_leaf}
 use Rattle.pw_words.proofs.Driving.{drive_leaf}
 use Rattle.pw_words.proofs.Generating.{generate_leaf}
 use Rattle.pw_words.proofs.Kept.{Keeps, KeepsFilled, level_keeps, none_of_both, some_kind}
@@ -210,6 +211,42 @@ script_bound words free =
         (bare_filled x HasSome (word_at (codes "script") 1) refl, (bare_filled x HasSome (blocks_at 2) refl, tt)),
       ),
     ) tt free
+
+-- what `audit` keeps of an argument that is none of its flag
+module _ (x : Text) (P : List Text → Type 0) (other : bytes_eq (codes "step") x ≡ false) where
+  -- what one use gives to it
+  abbrev Gives : Text → Rule → ℕ → Type 0
+  Gives id a most =
+      bytes_eq id x ≡ true → (values : List Text) → range_kinds 1 most (length values) ≡ [] → P (values_or_missing a values)
+
+  audit_keeps : Gives (codes "script") (word_at (codes "script") 1) 1 → Gives (codes "history") (word_at (codes "history") 2) 1
+      → Gives (codes "blocks") (blocks_at 3) 64
+      → (words : List Text) → level_fault audit_leaf [] nothing_held words false [] ≡ [] → Has x P (rows_after audit_leaf.rules [] words)
+  audit_keeps script history blocks words free =
+      level_keeps (Has x P) audit_leaf words (
+        flag_keeps x P (codes "step") 1 other,
+        (word_keeps x P (codes "script") 1 script, (word_keeps x P (codes "history") 2 history, (blocks_keeps x P 3 blocks, tt))),
+      ) (
+        flag_filled x P (codes "step") 1 other,
+        (
+          bare_filled x P (word_at (codes "script") 1) refl,
+          (bare_filled x P (word_at (codes "history") 2) refl, (bare_filled x P (blocks_at 3) refl, tt)),
+        ),
+      ) tt free
+
+pub audit_bound : (words : List Text) → level_fault audit_leaf [] nothing_held words false [] ≡ []
+    → blocks_in (rows_after audit_leaf.rules [] words)
+audit_bound words free = audit_keeps (codes "blocks") HasFew refl (λ e. never e) (λ e. never e) (λ _. few 3) words free
+
+pub audited_bound : (words : List Text) → level_fault audit_leaf [] nothing_held words false [] ≡ []
+    → script_in (rows_after audit_leaf.rules [] words)
+audited_bound words free =
+    audit_keeps (codes "script") HasSome refl (λ _. some (codes "script") 1) (λ e. never e) (λ e. never e) words free
+
+pub history_bound : (words : List Text) → level_fault audit_leaf [] nothing_held words false [] ≡ []
+    → Has (codes "history") HasSome (rows_after audit_leaf.rules [] words)
+history_bound words free =
+    audit_keeps (codes "history") HasSome refl (λ e. never e) (λ _. some (codes "history") 2) (λ e. never e) words free
 
 pub count_bound : (words : List Text) → level_fault generate_leaf [] nothing_held words false [] ≡ []
     → Has (codes "count") HasSome (rows_after generate_leaf.rules [] words)

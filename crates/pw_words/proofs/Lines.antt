@@ -25,7 +25,8 @@ use Rattle.pw_words.specs.App.{line_app}
 use Rattle.pw_words.specs.Stated.{IsTaken}
 use Rattle.pw_words.specs.Words.{AreFiles, AreStated, Asked, IsLine, Say, are_bare, are_flags_of, in_table_order, is_among, is_bare}
 use Rattle.pw_words.specs.Words.{is_dashed, is_plain, moved, task_flags, task_name, way_flags}
-use Rattle.pw_words.specs.Words.Asked.{drive, generate, on_blocks}
+use Rattle.pw_words.specs.Words.Asked.{audit, drive, generate, on_blocks}
+use Rattle.pw_words.proofs.Auditing.{audit_leaf, audit_level, audit_rows, audit_said, audited_kinds, step_words}
 use Rattle.pw_words.proofs.Bounds.{over}
 use Rattle.pw_words.proofs.Counts.{bare_count}
 use Rattle.pw_words.proofs.Driving.{drive_leaf, drive_level, drive_rows, drive_said, names_kinds}
@@ -96,6 +97,16 @@ drive_rows_at : (rest : List Text)
 unfolding clap_on_literals
 drive_rows_at rest = named_rows (codes "drive") rest refl
 
+-- and of those of `audit`
+audit_fault_at : (rest : List Text) → fault_of line_app (codes "audit" ∷ rest) ≡ level_fault audit_leaf [] nothing_held rest false []
+unfolding clap_on_literals
+audit_fault_at rest = named_fault (codes "audit") rest refl refl refl
+
+audit_rows_at : (rest : List Text)
+    → subcommand_of line_app (codes "audit" ∷ rest) ≡ Some (codes "audit", rows_after audit_leaf.rules [] rest)
+unfolding clap_on_literals
+audit_rows_at rest = named_rows (codes "audit") rest refl
+
 -- and of those of `generate`
 generate_fault_at : (rest : List Text)
     → fault_of line_app (codes "generate" ∷ rest) ≡ level_fault generate_leaf [] nothing_held rest false []
@@ -110,10 +121,11 @@ generate_rows_at rest = named_rows (codes "generate") rest refl
 -- a first word that names no subcommand
 abbrev IsOther : Text → Type 0
 IsOther word = (bytes_eq (codes "show") word ≡ false) × (bytes_eq (codes "rewrite") word ≡ false)
-    × (bytes_eq (codes "check") word ≡ false) × (bytes_eq (codes "drive") word ≡ false) × (bytes_eq (codes "generate") word ≡ false)
+    × (bytes_eq (codes "check") word ≡ false) × (bytes_eq (codes "drive") word ≡ false) × (bytes_eq (codes "audit") word ≡ false)
+    × (bytes_eq (codes "generate") word ≡ false)
 
 none_met : (word : Text) → IsOther word → subcommand_met names idle word ≡ None
-none_met word other = rw (other.0, other.1, other.2, other.3, other.4) refl
+none_met word other = rw (other.0, other.1, other.2, other.3, other.4, other.5) refl
 
 other_refused : (word : Text) (rest : List Text) → is_dashed word ≡ false → IsOther word → fault_of line_app (word ∷ rest) ≡ [] → ⊥
 unfolding walk_fault
@@ -163,6 +175,10 @@ drive_fault : (way : Way) (names : List Text) → are_bare names ≡ true
     → fault_of line_app (codes "drive" ∷ way_flags way ++ names) ≡ names_kinds names
 drive_fault way names bare = drive_fault_at (way_flags way ++ names) ∙ drive_level way names bare
 
+audit_fault : (step : Bool) (names : List Text) → are_bare names ≡ true
+    → fault_of line_app (codes "audit" ∷ step_words step ++ names) ≡ audited_kinds names
+audit_fault step names bare = audit_fault_at (step_words step ++ names) ∙ audit_level step names bare
+
 generate_fault : (words : List Text) → are_bare words ≡ true → fault_of line_app (codes "generate" ∷ words) ≡ count_kinds words
 generate_fault words bare = generate_fault_at words ∙ generate_level words bare
 
@@ -174,6 +190,12 @@ drive_said_of : (way : Way) (script : Text) (files : List Text) → is_dashed sc
     → Say (drive_rows way (script ∷ files)) (drive way script files)
 drive_said_of way script [] dash h = let bad = h.some in absurd (omega arith)
 drive_said_of way script (f ∷ fs) dash h = drive_said way script f fs (bare_names script (f ∷ fs) dash h.bare)
+
+audit_said_of : (step : Bool) (script history : Text) (files : List Text) → is_dashed script ≡ false → is_dashed history ≡ false
+    → AreFiles files → Say (audit_rows step (script ∷ history ∷ files)) (audit step script history files)
+audit_said_of step script history [] first second h = let bad = h.some in absurd (omega arith)
+audit_said_of step script history (f ∷ fs) first second h =
+    audit_said step script history f fs (bare_names script (history ∷ f ∷ fs) first (bare_names history (f ∷ fs) second h.bare))
 
 pub line_stated : (words : List Text) (asked : Asked) → IsLine words asked → AreStated words asked
 line_stated words (on_blocks task files) h = record {
@@ -188,6 +210,14 @@ line_stated words (drive way script files) h = record {
   command = ap (subcommand_of line_app) h.0 ∙ drive_rows_at (way_flags way ++ script ∷ files);
   said = drive_said_of way script files h.1 h.2;
 }
+line_stated words (audit step script history files) h =
+    let bare = bare_names script (history ∷ files) h.1 (bare_names history files h.2 h.3.bare) in
+    record {
+      rows = audit_rows step (script ∷ history ∷ files);
+      taken = ap (fault_of line_app) h.0 ∙ audit_fault step (script ∷ history ∷ files) bare ∙ files_taken files h.3;
+      command = ap (subcommand_of line_app) h.0 ∙ audit_rows_at (step_words step ++ script ∷ history ∷ files);
+      said = audit_said_of step script history files h.1 h.2 h.3;
+    }
 line_stated words (generate count) h =
     let bare = bare_count h.0 count h.2 in
     record {
@@ -199,18 +229,21 @@ line_stated words (generate count) h =
 
 -- ---- plain words that are taken are a line, or `generate` and a word
 
--- the word and the flags, in order, are those of a task, of `drive` in some way, or of `generate`
+-- the word and the flags, in order, are those of a task, of `drive` in some way, of `audit`, or of `generate`
 abbrev IsTask : Text → List Text → Type 0
 IsTask word flags = (task : Task) × (word ≡ task_name task) × (in_table_order word flags ≡ task_flags task)
 
 abbrev IsDrive : Text → List Text → Type 0
 IsDrive word flags = (way : Way) × (word ≡ codes "drive") × (in_table_order word flags ≡ way_flags way)
 
+abbrev IsAudit : Text → List Text → Type 0
+IsAudit word flags = (step : Bool) × (word ≡ codes "audit") × (in_table_order word flags ≡ step_words step)
+
 abbrev IsGenerate : Text → List Text → Type 0
 IsGenerate word flags = (word ≡ codes "generate") × (in_table_order word flags ≡ [])
 
 abbrev Named : List Text → Text → Type 0
-Named flags word = IsTask word flags ⊎ (IsDrive word flags ⊎ (IsGenerate word flags ⊎ IsOther word))
+Named flags word = IsTask word flags ⊎ (IsDrive word flags ⊎ (IsAudit word flags ⊎ (IsGenerate word flags ⊎ IsOther word)))
 
 show_flags : (flags : List Text) → IsTask (codes "show") flags
 show_flags flags = go (is_among flags (codes "--json"))
@@ -230,6 +263,9 @@ drive_flags flags =
     go true b = refl
     go false b = refl
 
+audit_flags : (flags : List Text) → IsAudit (codes "audit") flags
+audit_flags flags = (is_among flags (codes "--step"), refl, refl)
+
 same_text : (a b : Text) → bytes_eq a b ≡ true → a ≡ b
 same_text a b e = (bytes_eq-Decides a b).0 e
 
@@ -237,19 +273,20 @@ same_text a b e = (bytes_eq-Decides a b).0 e
 named : (flags : List Text) (word : Text) → Named flags word
 named flags word =
     go (bytes_eq (codes "show") word) (bytes_eq (codes "rewrite") word) (bytes_eq (codes "check") word) (bytes_eq (codes "drive") word)
-    (bytes_eq (codes "generate") word) refl refl refl refl refl
+    (bytes_eq (codes "audit") word) (bytes_eq (codes "generate") word) refl refl refl refl refl refl
   where
     at : (name : Text) → bytes_eq name word ≡ true → Named flags name → Named flags word
     at name e = subst (Named flags) (same_text name word e)
 
-    go : (a b c d e : Bool) → bytes_eq (codes "show") word ≡ a → bytes_eq (codes "rewrite") word ≡ b → bytes_eq (codes "check") word ≡ c
-        → bytes_eq (codes "drive") word ≡ d → bytes_eq (codes "generate") word ≡ e → Named flags word
-    go true b c d e p q r s t = at (codes "show") p (inl (show_flags flags))
-    go false true c d e p q r s t = at (codes "rewrite") q (inl (Rewrite, refl, refl))
-    go false false true d e p q r s t = at (codes "check") r (inl (Check, refl, refl))
-    go false false false true e p q r s t = at (codes "drive") s (inr (inl (drive_flags flags)))
-    go false false false false true p q r s t = at (codes "generate") t (inr (inr (inl (refl, refl))))
-    go false false false false false p q r s t = inr (inr (inr (p, q, r, s, t)))
+    go : (a b c d e f : Bool) → bytes_eq (codes "show") word ≡ a → bytes_eq (codes "rewrite") word ≡ b → bytes_eq (codes "check") word ≡ c
+        → bytes_eq (codes "drive") word ≡ d → bytes_eq (codes "audit") word ≡ e → bytes_eq (codes "generate") word ≡ f → Named flags word
+    go true b c d e f p q r s t u = at (codes "show") p (inl (show_flags flags))
+    go false true c d e f p q r s t u = at (codes "rewrite") q (inl (Rewrite, refl, refl))
+    go false false true d e f p q r s t u = at (codes "check") r (inl (Check, refl, refl))
+    go false false false true e f p q r s t u = at (codes "drive") s (inr (inl (drive_flags flags)))
+    go false false false false true f p q r s t u = at (codes "audit") t (inr (inr (inl (audit_flags flags))))
+    go false false false false false true p q r s t u = at (codes "generate") u (inr (inr (inr (inl (refl, refl)))))
+    go false false false false false false p q r s t u = inr (inr (inr (inr (p, q, r, s, t, u))))
 
 pub bare_filtered : (words : List Text) → are_bare (filter is_bare words) ≡ true
 bare_filtered [] = refl
@@ -275,6 +312,16 @@ drive_line words way (script ∷ files) are bare kinds =
     let parts = bare_parts script files bare in
     inl (drive way script files, (are, parts.0, are_files files parts.1 kinds))
 
+-- or a script, a history and files
+audit_line : (words : List Text) (step : Bool) (names : List Text) → words ≡ codes "audit" ∷ step_words step ++ names
+    → are_bare names ≡ true → audited_kinds names ≡ [] → LineOrCount words
+audit_line words step [] are bare kinds = absurd (some_kind [] kind.MissingRequiredArgument kinds)
+audit_line words step (script ∷ []) are bare kinds = absurd (some_kind [] kind.MissingRequiredArgument kinds)
+audit_line words step (script ∷ history ∷ files) are bare kinds =
+    let one = bare_parts script (history ∷ files) bare in
+    let two = bare_parts history files one.1 in
+    inl (audit step script history files, (are, one.0, two.0, are_files files two.1 kinds))
+
 -- words that are taken are one
 generate_line : (words names : List Text) → words ≡ codes "generate" ∷ names → are_bare names ≡ true → count_kinds names ≡ []
     → LineOrCount words
@@ -294,10 +341,14 @@ parted_line word flags names dash bare taken = elim (named flags word) [
       drive_line (word ∷ in_table_order word flags ++ names) t.0 names are bare
       (sym (drive_fault t.0 names bare) ∙ ap (fault_of line_app) (sym are) ∙ taken)
   | inr (inr (inl t)) ↦
+      let are : word ∷ in_table_order word flags ++ names ≡ codes "audit" ∷ step_words t.0 ++ names = ap₂ (λ w xs. w ∷ xs ++ names) t.1 t.2 in
+      audit_line (word ∷ in_table_order word flags ++ names) t.0 names are bare
+      (sym (audit_fault t.0 names bare) ∙ ap (fault_of line_app) (sym are) ∙ taken)
+  | inr (inr (inr (inl t))) ↦
       let are : word ∷ in_table_order word flags ++ names ≡ codes "generate" ∷ names = ap₂ (λ w xs. w ∷ xs ++ names) t.0 t.1 in
       generate_line (word ∷ in_table_order word flags ++ names) names are bare
       (sym (generate_fault names bare) ∙ ap (fault_of line_app) (sym are) ∙ taken)
-  | inr (inr (inr other)) ↦ absurd (other_refused word (in_table_order word flags ++ names) dash other taken)
+  | inr (inr (inr (inr other))) ↦ absurd (other_refused word (in_table_order word flags ++ names) dash other taken)
 ]
 
 empty_refused : IsTaken [] → ⊥

@@ -84,12 +84,14 @@ one_more flag flags (k ∷ ks) new distinct there =
         (later flag flags new k (picked flags ks) (picked (flag ∷ flags) ks) (is_among flags k) (more there))
 
 known_distinct : (word : Text) → are_distinct (flags_of word) ≡ true
-known_distinct word = go (bytes_eq word (codes "show")) (bytes_eq word (codes "drive"))
+known_distinct word = go (bytes_eq word (codes "show")) (bytes_eq word (codes "drive")) (bytes_eq word (codes "audit"))
   where
-    go : (a b : Bool) → are_distinct (cond a (codes "--json" ∷ []) (cond b (codes "--serial" ∷ codes "--step" ∷ []) [])) ≡ true
-    go true b = refl
-    go false true = refl
-    go false false = refl
+    go : (a b c : Bool)
+        → are_distinct (cond a (codes "--json" ∷ []) (cond b (codes "--serial" ∷ codes "--step" ∷ []) (cond c (codes "--step" ∷ []) []))) ≡ true
+    go true b c = refl
+    go false true c = refl
+    go false false true = refl
+    go false false false = refl
 
 -- ---- all words
 

@@ -9,8 +9,9 @@ use Rattle.pw_words.specs.declared.command.Task.TheVariants.{Show, ShowAsJson, R
 use Rattle.pw_words.specs.declared.command.Way.{Way}
 use Rattle.pw_words.specs.Words.{AreFiles, AskFor, Asked, IsCount, IsLine, are_bare, are_flags_of, in_table_order, is_bare, is_dashed}
 use Rattle.pw_words.specs.Words.{task_flags, task_name, way_flags}
-use Rattle.pw_words.specs.Words.Asked.{drive, generate, on_blocks}
+use Rattle.pw_words.specs.Words.Asked.{audit, drive, generate, on_blocks}
 use Rattle.pw_words.proofs.Asking.{plain_asks}
+use Rattle.pw_words.proofs.Auditing.{step_words}
 use Rattle.pw_words.proofs.Counts.{bare_count}
 use Rattle.pw_words.proofs.Driving.{flags_by}
 use Rattle.pw_words.proofs.Lines.{bare_filtered, bare_names}
@@ -132,3 +133,32 @@ module _ (way : Way) (script : Text) (blocks : List Text) (are : AreFiles blocks
         | inl e ↦ way_asks rest (way_flags way) (in_order way) e others bare
         | inr e ↦ way_asks rest (reverse (way_flags way)) (turned way) e others bare
       ]
+
+-- ---- `audit`
+
+-- its flag is one, and stays
+step_ordered : (step : Bool) → (are_flags_of (codes "audit") (step_words step) ≡ true)
+    × (in_table_order (codes "audit") (step_words step) ≡ step_words step)
+step_ordered true = (refl, refl)
+step_ordered false = (refl, refl)
+
+step_front : (step : Bool) (names : List Text) → are_bare names ≡ true
+    → (filter is_dashed (step_words step ++ names) ≡ step_words step) × (filter is_bare (step_words step ++ names) ≡ names)
+step_front true names bare = (ap (λ xs. codes "--step" ∷ xs) (none_dashed names bare), all_bare names bare)
+step_front false names bare = (none_dashed names bare, all_bare names bare)
+
+module _ (step : Bool) (script history : Text) (blocks : List Text) (are : AreFiles blocks) where
+  pub step_asks : (rest : List Text) → filter is_bare rest ≡ script ∷ history ∷ blocks → filter is_dashed rest ≡ step_words step
+      → AskFor (codes "audit" ∷ rest) (audit step script history blocks)
+  step_asks rest others dashed =
+      let one = bare_parts script (history ∷ blocks) (ap are_bare (sym others) ∙ bare_filtered rest) in
+      let two = bare_parts history blocks one.1 in
+      parted_asks (codes "audit") rest (step_words step) (script ∷ history ∷ blocks) (audit step script history blocks) refl dashed others
+      (step_ordered step).0 (ap (λ xs. codes "audit" ∷ xs ++ script ∷ history ∷ blocks) (step_ordered step).1, one.0, two.0, are)
+
+  pub audit_asks : is_dashed script ≡ false → is_dashed history ≡ false
+      → AskFor (codes "audit" ∷ step_words step ++ script ∷ history ∷ blocks) (audit step script history blocks)
+  audit_asks first second =
+      let bare = bare_names script (history ∷ blocks) first (bare_names history blocks second are.bare) in
+      let parts = step_front step (script ∷ history ∷ blocks) bare in
+      step_asks (step_words step ++ script ∷ history ∷ blocks) parts.1 parts.0

@@ -33,6 +33,14 @@ way_app = with_rule (with_rule (new_app (codes "drive")) (flag_rule (codes "seri
 abbrev pub drive_app : App
 drive_app = with_rule (with_rule way_app (word_rule (codes "script"))) blocks_rule
 
+-- `audit [--step] SCRIPT`, with no further names yet
+abbrev pub step_app : App
+step_app = with_rule (with_rule (new_app (codes "audit")) (flag_rule (codes "step"))) (word_rule (codes "script"))
+
+-- `audit [--step] SCRIPT HISTORY BLOCK..`
+abbrev pub audit_app : App
+audit_app = with_rule (with_rule step_app (word_rule (codes "history"))) blocks_rule
+
 -- `generate N`
 abbrev pub generate_app : App
 generate_app = with_rule (new_app (codes "generate")) (word_rule (codes "count"))
@@ -55,7 +63,9 @@ abbrev pub line_app : App
 line_app = with_subcommand
     (with_subcommand
     (with_subcommand
+    (with_subcommand
     (with_subcommand (with_subcommand bare_app show_app.top) (blocks_app (codes "rewrite")).top)
     (blocks_app (codes "check")).top)
     drive_app.top)
+    audit_app.top)
     generate_app.top

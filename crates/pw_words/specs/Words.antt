@@ -21,6 +21,8 @@ pub data Asked : Type 0 where
   on_blocks : Task → List Text → Asked
   -- a script run in this way: the name of its file, and those of the blocks' files
   drive : Way → Text → List Text → Asked
+  -- a history checked against a script and blocks, with `--step` or without: the names of their files, the script's first
+  audit : Bool → Text → Text → List Text → Asked
   -- a machine of so many clusters and a load for it, driven
   generate : ℕ → Asked
 
@@ -72,11 +74,14 @@ pub record IsCount (word : Text) (count : ℕ) : Type 0 where
   pub few : count ≤ 32
 
 -- The words are a line of the table: `show BLOCK..`, `show --json BLOCK..`, `rewrite BLOCK..`, `check BLOCK..`,
--- `drive [--serial] [--step] SCRIPT BLOCK..`, `generate N`.
+-- `drive [--serial] [--step] SCRIPT BLOCK..`, `audit [--step] SCRIPT HISTORY BLOCK..`, `generate N`.
 abbrev pub IsLine : List Text → Asked → Type 0
 IsLine words (on_blocks task blocks) = (words ≡ task_name task ∷ task_flags task ++ blocks) × AreFiles blocks
 IsLine words (drive way script blocks) =
     (words ≡ codes "drive" ∷ way_flags way ++ script ∷ blocks) × (is_dashed script ≡ false) × AreFiles blocks
+IsLine words (audit step script history blocks) =
+    (words ≡ codes "audit" ∷ flag_words (codes "--step") step ++ script ∷ history ∷ blocks) × (is_dashed script ≡ false)
+    × (is_dashed history ≡ false) × AreFiles blocks
 IsLine words (generate count) = (word : Text) × (words ≡ codes "generate" ∷ word ∷ []) × IsCount word count
 
 -- # Plain words: those whose flags may stand anywhere behind the first word
@@ -84,7 +89,8 @@ IsLine words (generate count) = (word : Text) × (words ≡ codes "generate" ∷
 -- the flags of the command that the word names, in the order of its line of the table
 abbrev pub flags_of : Text → List Text
 flags_of word = if bytes_eq word (codes "show") then codes "--json" ∷ []
-    else (if bytes_eq word (codes "drive") then codes "--serial" ∷ codes "--step" ∷ [] else [])
+    else (if bytes_eq word (codes "drive") then codes "--serial" ∷ codes "--step" ∷ []
+    else (if bytes_eq word (codes "audit") then codes "--step" ∷ [] else []))
 
 -- the word is one of these
 abbrev pub is_among : List Text → Text → Bool
@@ -125,13 +131,18 @@ SayWay rows way = (is_used (codes "serial") rows ≡ way.serial) × (is_used (co
 abbrev pub command_name : Asked → Text
 command_name (on_blocks task blocks) = task_name task
 command_name (drive way script blocks) = codes "drive"
+command_name (audit step script history blocks) = codes "audit"
 command_name (generate count) = codes "generate"
 
--- the matches of the subcommand have what is asked for: the task or the way, and the names of the files; or the number of clusters
+-- The matches of the subcommand have what is asked for: the task, the way or whether `--step` was given, and the names of the files;
+-- or the number of clusters.
 abbrev pub Say : List Row → Asked → Type 0
 Say rows (on_blocks task blocks) = SayTask rows task × (all_of (codes "blocks") rows ≡ Some blocks)
 Say rows (drive way script blocks) =
     SayWay rows way × (first_of (codes "script") rows ≡ Some script) × (all_of (codes "blocks") rows ≡ Some blocks)
+Say rows (audit step script history blocks) =
+    (is_used (codes "step") rows ≡ step) × (first_of (codes "script") rows ≡ Some script)
+    × (first_of (codes "history") rows ≡ Some history) × (all_of (codes "blocks") rows ≡ Some blocks)
 Say rows (generate count) = (word : Text) × (first_of (codes "count") rows ≡ Some word) × IsCount word count
 
 -- `clap` takes the words, and states this of them: the subcommand, its flags and its arguments.

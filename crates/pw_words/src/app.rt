@@ -1,8 +1,9 @@
 ghost use Rattle.std.specs.Prelude.{◌≡◌, IfOk, false};
 ghost use Rattle.clap.specs.Words.{app_of, rule_of, with_subcommand};
 ghost use Rattle.clap.specs.declared.builder.command.Command.TheViews.{out-Command as fields_of};
-ghost use Rattle.pw_words.specs.App.{bare_app, blocks_app, blocks_rule, drive_app, flag_rule};
-ghost use Rattle.pw_words.specs.App.{generate_app, line_app, show_app, way_app, word_rule};
+ghost use Rattle.pw_words.specs.App.{audit_app, bare_app, blocks_app, blocks_rule, drive_app};
+ghost use Rattle.pw_words.specs.App.{flag_rule, generate_app, line_app, show_app, step_app, way_app};
+ghost use Rattle.pw_words.specs.App.{word_rule};
 
 use clap::{Arg, ArgAction, Command};
 use std::alloc::{AllocError, Global};
@@ -64,6 +65,23 @@ fn drive<'a>(alloc: Global) -> Result<Command<'a>, AllocError>
         .arg(blocks(alloc))
 }
 
+/// `audit [--step] SCRIPT`, with no further names yet.
+fn audit_script<'a>(alloc: Global) -> Result<Command<'a>, AllocError>
+    ensures { IfOk result (λ c. (app_of c ≡ step_app) × ((fields_of c).has_globals ≡ false)) }
+{
+    Command::new(alloc, "audit")
+        .arg(flag(alloc, "step"))?
+        .arg(word(alloc, "script"))
+}
+
+/// `audit [--step] SCRIPT HISTORY BLOCK..`.
+fn audit<'a>(alloc: Global) -> Result<Command<'a>, AllocError>
+    ensures { IfOk result (λ c. (app_of c ≡ audit_app) × ((fields_of c).has_globals ≡ false)) }
+{
+    let command = audit_script(alloc)?.arg(word(alloc, "history"))?;
+    command.arg(blocks(alloc))
+}
+
 /// `generate N`.
 fn generate<'a>(alloc: Global) -> Result<Command<'a>, AllocError>
     ensures { IfOk result (λ c. (app_of c ≡ generate_app)
@@ -104,5 +122,6 @@ pub(crate) fn line<'a>(alloc: Global) -> Result<Command<'a>, AllocError>
     let command = with(command, on_blocks(alloc, "rewrite")?)?;
     let command = with(command, on_blocks(alloc, "check")?)?;
     let command = with(command, drive(alloc)?)?;
+    let command = with(command, audit(alloc)?)?;
     with(command, generate(alloc)?)
 }

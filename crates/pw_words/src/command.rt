@@ -46,6 +46,14 @@ pub enum Command<'a> {
         script: &'a str,
         blocks: Vec<&'a str>,
     },
+    /// `audit [--step] SCRIPT HISTORY BLOCK..`: the history in a file checked against the script
+    /// and the blocks in 1 to 64 files.
+    Audit {
+        step: bool,
+        script: &'a str,
+        history: &'a str,
+        blocks: Vec<&'a str>,
+    },
     /// `generate N`: a machine of N clusters and a load for it, driven; a summary is printed. N is
     /// 1 to 32.
     Generate {

@@ -1,12 +1,13 @@
 ghost use Rattle.std.specs.Prelude.{◌≡◌, ◌≤◌, ◌↔◌, ◌∷◌, ◌++◌, ◌⊎◌, [], ℕ, false, true, codes};
-ghost use Rattle.std.specs.Prelude.{List, decimal, length, reverse};
+ghost use Rattle.std.specs.Prelude.{Bool, List, decimal, length, reverse};
 ghost use Rattle.std.specs.List.{filter};
 ghost use Rattle.std.specs.List.Sorted.{IsPermutation};
 ghost use Rattle.clap.specs.Words.{Text};
 ghost use Rattle.pw_words.specs.Stated.{IsTaken};
-ghost use Rattle.pw_words.specs.Words.{AreFiles, AreMiscounted, AskFor, Asked, IsCommand, is_bare};
-ghost use Rattle.pw_words.specs.Words.{is_dashed, is_plain, moved, task_flags, task_name, way_flags};
-ghost use Rattle.pw_words.specs.Words.Asked.{drive, generate, on_blocks};
+ghost use Rattle.pw_words.specs.Words.{AreFiles, AreMiscounted, AskFor, Asked, IsCommand};
+ghost use Rattle.pw_words.specs.Words.{flag_words, is_bare, is_dashed, is_plain, moved, task_flags};
+ghost use Rattle.pw_words.specs.Words.{task_name, way_flags};
+ghost use Rattle.pw_words.specs.Words.Asked.{audit, drive, generate, on_blocks};
 ghost use Rattle.pw_words.specs.declared.command.Task.{Task as task_type};
 ghost use Rattle.pw_words.specs.declared.command.Task.TheVariants.{Show, ShowAsJson};
 ghost use Rattle.pw_words.specs.declared.command.Way.{Way as way_type};
@@ -22,6 +23,9 @@ pub fn few_blocks()
         AskFor words (on_blocks task blocks) → (1 ≤ length blocks) × (length blocks ≤ 64) }
     ensures drive { (words : List Text) (way : way_type) (script : Text) (blocks : List Text) →
         AskFor words (drive way script blocks) → (1 ≤ length blocks) × (length blocks ≤ 64) }
+    ensures audit { (words : List Text) (step : Bool) (script history : Text) (blocks : List Text) →
+        AskFor words (audit step script history blocks) →
+        (1 ≤ length blocks) × (length blocks ≤ 64) }
 {}
 
 /// A machine to generate has 1 to 32 clusters.
@@ -45,6 +49,15 @@ pub fn usual_line()
         AreFiles blocks → filter is_bare rest ≡ script ∷ blocks →
         (filter is_dashed rest ≡ way_flags way) ⊎ (filter is_dashed rest ≡ reverse (way_flags way)) →
         AskFor (codes "drive" ∷ rest) (drive way script blocks) }
+    ensures audit { (step : Bool) (script history : Text) (blocks : List Text) →
+        is_dashed script ≡ false → is_dashed history ≡ false → AreFiles blocks →
+        AskFor (codes "audit" ∷ flag_words (codes "--step") step ++ script ∷ history ∷ blocks)
+        (audit step script history blocks) }
+    // Wherever its flag stands among the names.
+    ensures step { (step : Bool) (script history : Text) (blocks rest : List Text) →
+        AreFiles blocks → filter is_bare rest ≡ script ∷ history ∷ blocks →
+        filter is_dashed rest ≡ flag_words (codes "--step") step →
+        AskFor (codes "audit" ∷ rest) (audit step script history blocks) }
     ensures generate { (count : ℕ) → 1 ≤ count → count ≤ 32 →
         AskFor (codes "generate" ∷ decimal count ∷ []) (generate count) }
 {}

@@ -114,6 +114,26 @@ fn drive_in<'a>(alloc: Global, matches: &ArgMatches<'a>) -> Result<Command<'a>, 
     })
 }
 
+/// A history to check, by the matches of `audit`.
+fn audit_in<'a>(alloc: Global, matches: &ArgMatches<'a>) -> Result<Command<'a>, AllocError>
+    requires script { is_some (first_of (codes "script") (rows_of (found_of matches.now))) ≡ true }
+    requires history { is_some (first_of (codes "history") (rows_of (found_of matches.now))) ≡ true }
+    requires blocks { is_some (all_of (codes "blocks") (rows_of (found_of matches.now))) ≡ true }
+    ensures { IfOk result (λ c. (command_name (asked_of c) ≡ codes "audit")
+        × Say (rows_of (found_of matches.now)) (asked_of c)) }
+{
+    let step = was_given(matches, "step");
+    let script = word_in(matches, "script");
+    let history = word_in(matches, "history");
+    let blocks = blocks_in(alloc, matches)?;
+    Ok(Command::Audit {
+        step,
+        script,
+        history,
+        blocks,
+    })
+}
+
 /// A machine to generate, by the matches of `generate`.
 fn generate_in<'a>(matches: &ArgMatches<'a>) -> Result<Command<'a>, WordsFault>
     requires { is_some (first_of (codes "count") (rows_of (found_of matches.now))) ≡ true }
@@ -141,6 +161,7 @@ fn command_in<'a>(
 {
     match name {
         "drive" => Ok(drive_in(alloc, matches)?),
+        "audit" => Ok(audit_in(alloc, matches)?),
         "generate" => generate_in(matches),
         _ => Ok(on_blocks_in(alloc, name, matches)?),
     }

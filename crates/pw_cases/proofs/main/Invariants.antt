@@ -5,7 +5,7 @@ use Rattle.pw_cases.proofs.main.Given as goal
 
 -- says that each `&str` the loop changes is text: keep it, and add clauses with ×
 abbrev pub invariant-loop-line : goal.invariant-loop-line
-invariant-loop-line l =
-    (goal.iterator-loop-line).can_next l.line-iterator ×
-    (goal.iterator-loop-line).is_finite l.line-iterator ×
+invariant-loop-line g l =
+    (goal.iterator-loop-line g).can_next l.line-iterator ×
+    (goal.iterator-loop-line g).is_finite l.line-iterator ×
     shadow (Utf8 l.case_name)

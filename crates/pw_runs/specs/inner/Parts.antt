@@ -21,7 +21,7 @@ use Rattle.pw_load.specs.Steps.{AreHeldBy, IsNoPlanOf, IsOneUnread, IsUnspelled}
 use Rattle.pw_runs.specs.declared.script.Missing.{Missing}
 use Rattle.pw_runs.specs.declared.script.Missing.TheVariants.{Unread, Fault}
 use Rattle.pw_runs.specs.Scripts.{HoldsNoScript, IsNoScript, script_line}
-use Rattle.pw_runs.specs.Runs.{IsRun, PrintsRun, register_line}
+use Rattle.pw_runs.specs.Runs.{IsSerialRun, PrintsRun, register_line}
 
 -- # The plan
 
@@ -93,7 +93,7 @@ failed_line k (Err outs.Sink) = register_line k
 failed_line k (Err outs.Memory) = codes "no memory\n"
 
 -- What came of the lines, and what was printed: nothing for want of memory, or a run.
-pub data Runs (P : Plan) (lines : List line) (before after : Outputs) (old new : RegistersSeen) : ℕ → List ℕ → List ℕ → Type 0 where
-  undone : new ≡ old → Runs P lines before after old new 6 [] (codes "no memory\n")
-  ran : {status : ℕ} {written text : List ℕ} {opening : Option ℕ} {es : List HistoryEntry} → IsRun P lines opening es old new
-      → PrintsRun P opening es before after status written text → Runs P lines before after old new status written text
+pub data RunsSerially (P : Plan) (lines : List line) (before after : Outputs) (old new : RegistersSeen) : ℕ → List ℕ → List ℕ → Type 0 where
+  undone : new ≡ old → RunsSerially P lines before after old new 6 [] (codes "no memory\n")
+  ran : {status : ℕ} {written text : List ℕ} {opening : Option ℕ} {es : List HistoryEntry} → IsSerialRun P lines opening es old new
+      → PrintsRun P opening es before after status written text → RunsSerially P lines before after old new status written text

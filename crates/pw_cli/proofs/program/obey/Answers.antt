@@ -3,4 +3,9 @@ use Rattle.pw_ends.proofs.Outcomes.{ended_as}
 use Rattle.pw_cli.proofs.program.obey.Goals as goal
 
 pub returns-in-OnBlocks-clause-obeyed : goal.returns-in-OnBlocks-clause-obeyed
-returns-in-OnBlocks-clause-obeyed g c = rw c.in-OnBlocks.is (ended_as (λ text line way. (way, refl)) (rw c.as_slice.ensures.value at c.do_on_blocks-status.ensures.did))
+returns-in-OnBlocks-clause-obeyed g c =
+    rw c.in-OnBlocks.is (ended_as (λ text line way. (way, refl, refl)) (rw c.as_slice.ensures.value at c.do_on_blocks-status.ensures.did))
+
+pub returns-in-Audit-clause-obeyed : goal.returns-in-Audit-clause-obeyed
+returns-in-Audit-clause-obeyed g c =
+    rw c.in-Audit.is (ended_as (λ text line way. (way, refl, refl)) (rw c.as_slice-in-Audit.ensures.value at c.audit-status.ensures.did))

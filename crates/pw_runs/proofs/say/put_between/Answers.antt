@@ -8,7 +8,7 @@ returns-in_err-put g c = stop_at_first (decimal c.args.number) c.args.after.now 
 pub returns-in_err-put_number : goal.returns-in_err-put_number
 returns-in_err-put_number g c =
     PutsText-stop c.args.after.now c.from_residual-in_err-put_number.result c.from_residual-in_err-put_number.ensures.0
-    (PutsText-then c.in_ok-put.ensures (rw c.from.ensures at c.in_err-put_number.ensures))
+    (PutsText-then c.in_ok-put.ensures c.in_err-put_number.ensures)
 
 pub returns : goal.returns
-returns g c = PutsText-then (PutsText-then c.in_ok-put.ensures (rw c.from.ensures at c.in_ok-put_number.ensures)) c.put-2.ensures
+returns g c = PutsText-then (PutsText-then c.in_ok-put.ensures c.in_ok-put_number.ensures) c.put-2.ensures

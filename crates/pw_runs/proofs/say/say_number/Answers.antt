@@ -7,5 +7,5 @@ use Rattle.pw_runs.proofs.say.say_number.Goals as goal
 pub returns-then-is_ok-clause-line : goal.returns-then-is_ok-clause-line
 returns-then-is_ok-clause-line g c =
     let ok : is_ok c.put_between.result ≡ true = sym c.is_ok.ensures.value ∙ c.if-is_ok.true in
-    let put = rw ok at c.put_between.ensures in
+    let put = rw (ok, c.from.ensures) at c.put_between.ensures in
     sent_line c.flush.result c.requires c.flush.ensures.empty (PutsText-as _ (append-nil _) (PutsText-then put c.flush.ensures.puts))

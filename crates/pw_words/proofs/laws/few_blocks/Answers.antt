@@ -1,4 +1,4 @@
-use Rattle.pw_words.proofs.Asking.{few_asked, few_driven}
+use Rattle.pw_words.proofs.Asking.{few_asked, few_audited, few_driven}
 use Rattle.pw_words.proofs.laws.few_blocks.Goals as goal
 
 pub returns-clause-task : goal.returns-clause-task
@@ -6,3 +6,6 @@ returns-clause-task c = few_asked
 
 pub returns-clause-drive : goal.returns-clause-drive
 returns-clause-drive c = few_driven
+
+pub returns-clause-audit : goal.returns-clause-audit
+returns-clause-audit c = few_audited

@@ -1,4 +1,4 @@
-use Rattle.pw_words.proofs.Usual.{drive_asks, flag_asks, flags_ask, generate_asks, usual_asks}
+use Rattle.pw_words.proofs.Usual.{audit_asks, drive_asks, flag_asks, flags_ask, generate_asks, step_asks, usual_asks}
 use Rattle.pw_words.proofs.laws.usual_line.Goals as goal
 
 pub returns-clause-line : goal.returns-clause-line
@@ -12,6 +12,12 @@ returns-clause-drive c = λ way script blocks bare are. drive_asks way script bl
 
 pub returns-clause-flags : goal.returns-clause-flags
 returns-clause-flags c = λ way script blocks rest are. flags_ask way script blocks are rest
+
+pub returns-clause-audit : goal.returns-clause-audit
+returns-clause-audit c = λ step script history blocks first second are. audit_asks step script history blocks are first second
+
+pub returns-clause-step : goal.returns-clause-step
+returns-clause-step c = λ step script history blocks rest are. step_asks step script history blocks are rest
 
 pub returns-clause-generate : goal.returns-clause-generate
 returns-clause-generate c = generate_asks

@@ -3,9 +3,9 @@ use Rattle.pw_blocks.specs.Held.{names_of}
 use Rattle.pw_ends.specs.Ends.Stops.{without_memory}
 use Rattle.pw_ends.specs.Seen.{all_seen}
 use Rattle.pw_ends.proofs.Outcomes.{ended_as, ended_saying}
-use Rattle.pw_runs.specs.Runs.Drives.{stopped}
+use Rattle.pw_runs.specs.Runs.DrivesSerially.{stopped}
 use Rattle.pw_runs.proofs.Steps.{runs_drive}
-use Rattle.pw_runs.proofs.running.drive.Goals as goal
+use Rattle.pw_runs.proofs.running.drive_serially.Goals as goal
 
 pub returns-in_default-clause-did : goal.returns-in_default-clause-did
 returns-in_default-clause-did g c =

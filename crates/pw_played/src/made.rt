@@ -1,0 +1,43 @@
+ghost use Rattle.std.specs.Prelude.{◌≤◌, All, IfSome};
+ghost use Rattle.aml_block.specs.Written.{IsWritableBlock};
+ghost use Rattle.pw_generate.specs.declared.tables.TheConstants.{MOST_CONTAINERS};
+
+use acpi_build::{blocks_are_countable, plan};
+use acpi_space::Space;
+use aml_block::{Block, encode_block, parse};
+use pw_generate::{MOST_CONTAINERS, generate_block, generate_script};
+use pw_plan::Plan;
+use pw_script::Script;
+use std::alloc::Global;
+
+/// The block of so many containers, written and read again.
+fn block_of(alloc: Global, n: u32) -> Option<Block>
+    requires { n ≤ MOST_CONTAINERS }
+    ensures { IfSome result IsWritableBlock }
+{
+    let made = generate_block(alloc, n).ok()?;
+    let bytes = encode_block(alloc, &made).ok()?;
+    parse(alloc, bytes.as_slice()).ok()
+}
+
+/// The plan of these blocks.
+fn plan_of(alloc: Global, blocks: &[Block]) -> Option<Plan>
+    requires { All IsWritableBlock blocks.now }
+{
+    blocks_are_countable();
+    let space = Space::build(alloc, blocks).ok()?;
+    let (plan, _) = plan(alloc, &space).ok()?;
+    Some(plan)
+}
+
+/// The plan of the machine that is generated with so many containers, and the load for it. None where there
+/// are more than a machine may have, and for want of memory.
+pub fn machine_of(alloc: Global, n: u32) -> Option<(Plan, Script)> {
+    if n > MOST_CONTAINERS {
+        return None;
+    }
+    let blocks = [block_of(alloc, n)?];
+    let plan = plan_of(alloc, &blocks)?;
+    let script = generate_script(alloc, n).ok()?;
+    Some((plan, script))
+}

@@ -1,0 +1,79 @@
+ghost use Rattle.std.specs.Prelude.{◌≤◌, length, IsTrue};
+ghost use Rattle.std.specs.List.{AllByRecursion};
+ghost use Rattle.pw_plan.specs.Requests.{Has};
+ghost use Rattle.pw_script.specs.declared.script.Line.{Line as asked};
+ghost use Rattle.pw_script.specs.declared.script.TheConstants.{MOST_LINES};
+
+use crate::telling::{Played, told};
+use pw_base::Gate;
+use pw_drive::{Driven, serial};
+use pw_plan::Plan;
+use pw_regs::FailingRegisters;
+use pw_script::{Line, MOST_LINES, Script};
+use pw_workers::{Drove, drive};
+use std::alloc::Global;
+use std::sync::Wait;
+use std::thread::Threads;
+
+/// Whether each line is of a processor of the plan.
+fn are_of(plan: &Plan, lines: &[Line]) -> bool
+    ensures { IsTrue result → AllByRecursion (λ (l : asked). Has plan.now l.request) lines.now }
+{
+    let mut left = lines;
+    while let [line, rest @ ..] = left {
+        if !plan.has(&line.request) {
+            return false;
+        }
+        left = rest;
+    }
+    true
+}
+
+/// Whether these are no more lines than a script may have, each of a processor of the plan.
+fn can_be_asked(plan: &Plan, lines: &[Line]) -> bool
+    ensures few { IsTrue result → length lines.now ≤ MOST_LINES }
+    ensures has { IsTrue result → AllByRecursion (λ (l : asked). Has plan.now l.request) lines.now }
+{
+    lines.len() <= MOST_LINES as usize && are_of(plan, lines)
+}
+
+/// What comes of a script by one worker for each processor that it names. None where a line can't be asked of
+/// the plan, and for want of memory.
+pub fn play<T: Threads + Wait + Sync, G: Gate + Sync>(
+    rt: &T,
+    alloc: Global,
+    plan: Plan,
+    script: &Script,
+    regs: FailingRegisters,
+    gate: &G,
+) -> Option<Played> {
+    if !can_be_asked(&plan, script.lines.as_slice()) {
+        return None;
+    }
+    match drive(rt, alloc, plan, script, regs, gate).ok()? {
+        Drove::Closed(closed) => {
+            let sealed = closed.sealed();
+            told(alloc, sealed.plan(), None, sealed.entries(), closed.regs())
+        }
+        Drove::Opening { done, plan, regs } => told(alloc, &plan, Some(done), &[], &regs),
+    }
+}
+
+/// The same by one caller, in the order of the lines.
+pub fn play_alone(
+    alloc: Global,
+    plan: Plan,
+    script: &Script,
+    regs: FailingRegisters,
+) -> Option<Played> {
+    if !can_be_asked(&plan, script.lines.as_slice()) {
+        return None;
+    }
+    let Driven {
+        plan,
+        opening,
+        entries,
+        regs,
+    } = serial(alloc, plan, script, regs).ok()?;
+    told(alloc, &plan, opening, entries.as_slice(), &regs)
+}

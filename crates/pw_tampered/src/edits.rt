@@ -1,0 +1,104 @@
+use crate::trial::left_alone;
+use pw_audit::{Audit, AuditFault, audit};
+use pw_machines::{u32_at, word_at};
+use pw_played::machine_of;
+use std::alloc::Global;
+use std::str::from_utf8;
+
+/// The machine of edited texts has so many containers.
+const CONTAINERS: u32 = 1;
+
+/// What an edit makes of a line, without its end; None where it says nothing of it.
+fn replaced<'a>(edit: &'a str, number: usize) -> Option<&'a str> {
+    let rest = edit.strip_prefix("put ")?;
+    let (place, line) = rest.split_once(" ")?;
+    if place.parse::<usize>().ok()? == number {
+        Some(line)
+    } else {
+        None
+    }
+}
+
+/// Whether an edit takes a line out: `drop FROM TO`.
+fn is_dropped(edit: &str, number: usize) -> bool {
+    let (first, last) = (u32_at(edit, 1), u32_at(edit, 2));
+    match (first, last) {
+        (Some(first), Some(last)) => {
+            word_at(edit, 0) == Some("drop") && first as usize <= number && number <= last as usize
+        }
+        _ => false,
+    }
+}
+
+/// What edits make of the line of this number.
+fn shown<'a>(edits: &'a str, number: usize, line: &'a str) -> &'a str {
+    for edit in edits.lines() {
+        if let Some(other) = replaced(edit, number) {
+            return other;
+        }
+    }
+    line
+}
+
+/// Whether this is among edits.
+fn is_asked(edits: &str, word: &str) -> bool {
+    edits.lines().any(|edit| edit == word)
+}
+
+/// Appends what edits make of the line of this number.
+fn put_edited(out: &mut Vec<u8>, edits: &str, number: usize, line: &str) -> Option<()> {
+    if edits.lines().any(|edit| is_dropped(edit, number)) {
+        return Some(());
+    }
+    let end = if is_asked(edits, "returns") {
+        "\r\n"
+    } else {
+        "\n"
+    };
+    out.extend_from_slice(shown(edits, number, line).as_bytes())
+        .ok()?;
+    out.extend_from_slice(end.as_bytes()).ok()
+}
+
+/// A text as edits change it: `put LINE TEXT`, `drop FROM TO`, `returns` for a carriage return before each line feed,
+/// and `unended` without the last line feed.
+fn edited(alloc: Global, text: &str, edits: &str) -> Option<Vec<u8>> {
+    let mut out = Vec::new(alloc);
+    let mut number = 0usize;
+    for line in text.lines() {
+        number = number.saturating_add(1);
+        put_edited(&mut out, edits, number, line)?;
+    }
+    if is_asked(edits, "unended") {
+        out.pop()?;
+    }
+    Some(out)
+}
+
+/// What the audit says.
+fn put_answer(text: &mut String, answer: &Result<Audit, AuditFault>) -> Option<()> {
+    match answer {
+        Ok(shown) => {
+            let count = shown.entries.as_slice().len();
+            match shown.opening {
+                None => write!(text, "lawful entries {count}").ok(),
+                Some(done) => write!(text, "opening ended after {done}, entries {count}").ok(),
+            }
+        }
+        Err(AuditFault::Wrong { line }) => write!(text, "line {line}").ok(),
+        Err(AuditFault::Unfinished { lines }) => write!(text, "ends after {lines} lines").ok(),
+        Err(AuditFault::TooLong { bound }) => write!(text, "longer than {bound}").ok(),
+        Err(AuditFault::Memory) => None,
+    }
+}
+
+/// What the audit says of the text of one caller, after these edits.
+pub fn tell_edited(alloc: Global, edits: &str) -> Option<String> {
+    let played = left_alone(alloc, CONTAINERS)?;
+    let changed = edited(alloc, from_utf8(played.text.written()).ok()?, edits)?;
+    let (plan, script) = machine_of(alloc, CONTAINERS)?;
+    let answer = audit(alloc, &plan, &script, changed.as_slice());
+    let mut text = String::new(alloc);
+    put_answer(&mut text, &answer)?;
+    Some(text)
+}
