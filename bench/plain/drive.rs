@@ -1,14 +1,18 @@
-//! `drive`: the requests of a script on a machine, over a record for each container and each domain, each of which changes by
-//! what was asked, and the votes for C states; a register file in memory; and the history, printed at the end.
+//! `drive --serial`: the requests of a script on a machine, over a record for each container and each domain, each of which changes
+//! by what was asked, and the votes for C states; a register file in memory; and the history, printed at the end. By workers the
+//! records have locks (`workers`). `audit` walks over a history with these records.
 
+use crate::audit::{Said, audit};
 use crate::machine;
 use crate::plan::{self, Sort};
 use crate::script::{
     Chain, Child, Container, Coord, Cpu, Domain, Entry, Kind, Line, Machine, Op, RUNNING, Register, Reply, Request, Row, Scale, Vote,
     entered, follow, put_number, put_ops, put_path, put_reply, put_request, script, set_each, step,
 };
+use crate::shared::Asked as Entered;
 use crate::space::Space;
 use crate::tables;
+use crate::workers;
 use std::io::{self, Write};
 
 const MOST_OPERATIONS: usize = 1_048_576;
@@ -221,7 +225,7 @@ impl Places {
     }
 }
 
-struct Records<'a> {
+pub struct Records<'a> {
     machine: &'a Machine,
     c_states: &'a CStates,
     /// Which processors have C states, and what each of those votes.
@@ -369,7 +373,7 @@ impl<'a> Records<'a> {
         Reply::Stands(stands)
     }
 
-    fn serve(&mut self, request: Request, ops: &mut Vec<Op>) -> Reply {
+    pub fn serve(&mut self, request: Request, ops: &mut Vec<Op>) -> Reply {
         match request {
             Request::Idle { cpu, state, tolerance } => self.idle(cpu, state, tolerance, ops),
             Request::Wake { cpu } => {
@@ -385,7 +389,7 @@ impl<'a> Records<'a> {
     }
 
     /// The operations at the start.
-    fn opening(&self, ops: &mut Vec<Op>) {
+    pub fn opening(&self, ops: &mut Vec<Op>) {
         for (place, domain) in self.machine.domains.iter().enumerate().filter(|(_, domain)| domain.unfit == 0) {
             match domain.coord {
                 Coord::SwAll => set_each(self.machine, domain.kind, &domain.members, self.standing(place, 0), ops),
@@ -402,14 +406,7 @@ impl<'a> Records<'a> {
 
 // # A run
 
-/// What was asked and answered, and how many operations the registers had seen when it was done.
-struct Done {
-    request: Request,
-    reply: Reply,
-    seen: usize,
-}
-
-fn print(machine: &Machine, opened: usize, done: &[Done], registers: &[Op], mut out: impl Write) -> io::Result<()> {
+fn print(machine: &Machine, opened: usize, done: &[Entered], registers: &[Op], mut out: impl Write) -> io::Result<()> {
     out.write_all(b"open\n")?;
     put_ops(&mut out, machine, &registers[..opened])?;
     let mut seen = opened;
@@ -428,20 +425,20 @@ fn print(machine: &Machine, opened: usize, done: &[Done], registers: &[Op], mut 
 }
 
 /// The summary of a run that is over: what doesn't depend on which processor asked first.
-fn summarize(records: &Records, done: &[Done], mut out: impl Write) -> io::Result<()> {
+fn summarize(machine: &Machine, nodes: &[Node], levels: &[Levels], done: &[Entered], mut out: impl Write) -> io::Result<()> {
     let count = |test: fn(&Reply) -> bool| done.iter().filter(|entry| test(&entry.reply)).count();
     let (entered, running) = (count(|reply| matches!(reply, Reply::Entered(_))), count(|reply| matches!(reply, Reply::Running)));
     let stands = count(|reply| matches!(reply, Reply::Stands(_)));
-    writeln!(out, "processors {}", records.machine.cpus.len())?;
+    writeln!(out, "processors {}", machine.cpus.len())?;
     writeln!(out, "lines {}", done.len())?;
     writeln!(out, "entered {entered}\nrunning {running}\nstands {stands}\nrefused {}", done.len() - entered - running - stands)?;
     out.write_all(b"containers")?;
-    for node in &records.nodes {
+    for node in nodes {
         write!(out, " {}", node.vote.state)?;
     }
     out.write_all(b"\nstanding")?;
-    for (place, _) in records.machine.domains.iter().enumerate().filter(|(_, domain)| matches!(domain.kind, Kind::Perf)) {
-        write!(out, " {}", records.standing(place, 0))?;
+    for (domain, levels) in machine.domains.iter().zip(levels).filter(|(domain, _)| matches!(domain.kind, Kind::Perf)) {
+        write!(out, " {}", levels.standing(domain.coord, 0))?;
     }
     out.write_all(b"\n")?;
     out.flush()
@@ -449,32 +446,71 @@ fn summarize(records: &Records, done: &[Done], mut out: impl Write) -> io::Resul
 
 /// What is asked of a machine, and what is printed of the run.
 pub enum Asked<'a> {
-    /// The history of a script, whose notifications each move a limit by one state or set it.
-    Script { text: &'a [u8], steps: bool },
+    /// The history of a script, whose notifications each move a limit by one state or set it, on one thread or by workers.
+    Script { text: &'a [u8], steps: bool, serial: bool },
+    /// What is to be said of a history of a script.
+    History { script: &'a [u8], steps: bool, text: &'a [u8] },
     /// The summary of a load.
     Load(Vec<Line>),
 }
 
-pub fn drive(space: &Space, machine: machine::Machine, plan: plan::Plan, asked: Asked, out: impl Write) -> io::Result<()> {
-    let c_states = c_states(&plan, machine.cpus.len());
-    let has_c = machine.cpus.iter().map(|cpu| cpu.idle.kind == machine::Kind::Cst).collect();
-    let machine = planned(space, machine, plan, &c_states);
-    let is_load = matches!(asked, Asked::Load(_));
-    let lines = match asked {
-        Asked::Load(lines) => lines,
-        Asked::Script { text, steps } => {
-            let handler = if steps { step } else { follow };
-            script(&machine, text, [handler, handler])
-        }
-    };
-    let mut records = Records::new(&machine, &c_states, has_c);
+/// One thread makes all requests.
+fn serial(machine: &Machine, mut records: Records, lines: &[Line], out: impl Write) -> io::Result<()> {
     let mut registers = Vec::with_capacity(MOST_OPERATIONS);
     let mut done = Vec::with_capacity(lines.len());
     records.opening(&mut registers);
     let opened = registers.len();
-    for line in &lines {
+    for line in lines {
         let reply = records.serve(line.request, &mut registers);
-        done.push(Done { request: line.request, reply, seen: registers.len() });
+        done.push(Entered { seat: 0, request: line.request, reply, seen: registers.len() });
     }
-    if is_load { summarize(&records, &done, out) } else { print(&machine, opened, &done, &registers, out) }
+    print(machine, opened, &done, &registers, out)
+}
+
+/// Workers make the requests, each those of a processor.
+fn by_workers(machine: Machine, lines: &[Line], is_load: bool, out: impl Write) -> io::Result<()> {
+    let (coordinator, opened) = workers::drive(machine, lines, MOST_OPERATIONS);
+    let (machine, nodes, levels, journal) = coordinator.end();
+    if is_load {
+        summarize(&machine, &nodes, &levels, &journal.entries, out)
+    } else {
+        print(&machine, opened, &journal.entries, &journal.registers, out)
+    }
+}
+
+/// Tells what is said of a history: the line, and the status.
+fn tell(said: Said, mut out: impl Write) -> io::Result<u8> {
+    match said {
+        Said::Lawful(entries) => writeln!(out, "lawful entries {entries}").and(Ok(0)),
+        Said::Wrong(line) => writeln!(io::stderr(), "history: line {line}").and(Ok(8)),
+        Said::Ends(lines) => writeln!(io::stderr(), "history: ends after {lines} lines").and(Ok(8)),
+        Said::Long => writeln!(io::stderr(), "history: longer than 67108864").and(Ok(8)),
+    }
+}
+
+/// Does what is asked, and tells the status. Machines with C states are driven by one thread.
+pub fn drive(space: &Space, machine: machine::Machine, plan: plan::Plan, asked: Asked, out: impl Write) -> io::Result<u8> {
+    let c_states = c_states(&plan, machine.cpus.len());
+    let has_c: Vec<bool> = machine.cpus.iter().map(|cpu| cpu.idle.kind == machine::Kind::Cst).collect();
+    let machine = planned(space, machine, plan, &c_states);
+    let lines_of = |text, steps| {
+        let handler = if steps { step } else { follow };
+        script(&machine, text, [handler, handler])
+    };
+    match asked {
+        Asked::Load(lines) => by_workers(machine, &lines, true, out)?,
+        Asked::Script { text, steps, serial: is_serial } => {
+            let lines = lines_of(text, steps);
+            if is_serial || has_c.contains(&true) {
+                serial(&machine, Records::new(&machine, &c_states, has_c), &lines, out)?;
+            } else {
+                by_workers(machine, &lines, false, out)?;
+            }
+        }
+        Asked::History { script, steps, text } => {
+            let lines = lines_of(script, steps);
+            return tell(audit(&machine, &mut Records::new(&machine, &c_states, has_c), &lines, text), out);
+        }
+    }
+    Ok(0)
 }

@@ -5,15 +5,18 @@
 //! before; `show` prints each, and `check` reads the tables of processors and prints the plan of
 //! the machine. Which fault a block has it doesn't tell; that of a table it does.
 //! `--json` makes values first, as the program does, and `--json --direct` writes the text without.
-//! `drive` makes the requests of a script on the machine, and prints their history. `generate` makes a block of so many
-//! clusters, reads it again, makes the requests of a load on its machine, and prints their summary. `shared` makes requests of
-//! one coordinator by several threads.
+//! `drive` makes the requests of a script on the machine, and prints their history: by a thread for each processor, or on one
+//! thread. `audit` tells whether a history is one that a script allows. `generate` makes a block of so many
+//! clusters, reads it again, makes the requests of a load on its machine by threads, and prints their summary. `shared` makes
+//! requests of one coordinator by several threads.
 //! usage: plain show|rewrite|check [--json [--direct]] FILE..
 //!        plain drive [--serial] [--step] SCRIPT FILE..
+//!        plain audit [--step] SCRIPT HISTORY FILE..
 //!        plain generate N
 //!        plain read|print SCRIPT ROUNDS
 //!        plain shared one-lock|each-lock one-cluster|eight-clusters|domains THREADS ROUNDS
 
+mod audit;
 mod check;
 mod drive;
 mod generate;
@@ -27,6 +30,7 @@ mod show;
 mod space;
 mod tables;
 mod values;
+mod workers;
 mod written;
 
 use drive::Asked;
@@ -65,16 +69,22 @@ fn drive(blocks: &[(Vec<u8>, Vec<Term>)], asked: Asked) -> io::Result<ExitCode> 
     let space = Space::of(blocks).expect("no place is given twice");
     let mut machine = machine::machine(&space).unwrap_or_else(|_| panic!("the objects make a machine"));
     let plan = plan::plan(&mut machine).unwrap_or_else(|_| panic!("the machine has a plan"));
-    drive::drive(&space, machine, plan, asked, BufWriter::with_capacity(1 << 16, io::stdout()))?;
+    let status = drive::drive(&space, machine, plan, asked, BufWriter::with_capacity(1 << 16, io::stdout()))?;
     std::mem::forget(space);
-    Ok(ExitCode::SUCCESS)
+    Ok(ExitCode::from(status))
 }
 
 /// Drives the machine of the blocks by a script.
 fn drive_script(script: &str, flags: &[String], blocks: &[(Vec<u8>, Vec<Term>)]) -> io::Result<ExitCode> {
     let text = std::fs::read(script)?;
-    let steps = flags.iter().any(|flag| flag == "--step");
-    drive(blocks, Asked::Script { text: &text, steps })
+    let has = |named: &str| flags.iter().any(|flag| flag == named);
+    drive(blocks, Asked::Script { text: &text, steps: has("--step"), serial: has("--serial") })
+}
+
+/// Tells whether a history is one that a script allows on the machine of the blocks.
+fn audit(script: &str, history: &str, flags: &[String], blocks: &[(Vec<u8>, Vec<Term>)]) -> io::Result<ExitCode> {
+    let (script, text) = (std::fs::read(script)?, std::fs::read(history)?);
+    drive(blocks, Asked::History { script: &script, steps: !flags.is_empty(), text: &text })
 }
 
 /// Makes a machine of so many clusters and a load, and drives it.
@@ -119,7 +129,7 @@ fn main() -> ExitCode {
     let (flags, words): (Vec<String>, Vec<String>) =
         std::env::args().skip(1).partition(|word| word.starts_with("--"));
     let Some((command, files)) = words.split_first() else {
-        panic!("usage: plain show|rewrite|check|drive|generate|read|print|shared [FLAG..] FILE..");
+        panic!("usage: plain show|rewrite|check|drive|audit|generate|read|print|shared [FLAG..] FILE..");
     };
     if let ("read" | "print", [file, rounds]) = (command.as_str(), files) {
         script::rounds(command, file, rounds.parse().expect("a number of rounds"));
@@ -133,7 +143,11 @@ fn main() -> ExitCode {
     if let ("generate", [clusters]) = (command.as_str(), files) {
         return generate(clusters.parse().expect("a number of clusters")).expect("the output can be written");
     }
-    let (scripts, files) = files.split_at(usize::from(command == "drive"));
+    let (scripts, files) = files.split_at(match command.as_str() {
+        "drive" => 1,
+        "audit" => 2,
+        _ => 0,
+    });
     let Some(blocks) = read_all(files) else {
         eprintln!("block: refused");
         return ExitCode::from(1);
@@ -141,6 +155,7 @@ fn main() -> ExitCode {
     let done = match command.as_str() {
         "rewrite" => rewrite(&blocks, io::stdout().lock()),
         "drive" => drive_script(&scripts[0], &flags, &blocks),
+        "audit" => audit(&scripts[0], &scripts[1], &flags, &blocks),
         command => on_objects(command, &flags, &blocks),
     };
     std::mem::forget(blocks);

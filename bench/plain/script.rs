@@ -427,6 +427,7 @@ pub struct Chain {
     pub states: [u8; 9],
 }
 
+#[derive(Clone, Copy)]
 pub enum Reply {
     Entered(Chain),
     Running,

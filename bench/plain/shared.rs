@@ -1,10 +1,11 @@
-//! `shared`: requests of several threads on one coordinator, over and over, as `bench/shared_program` makes them: with one lock
-//! round the whole coordinator, or with one for each record, taken in the order of the climb, and one for the journal.
+//! A coordinator that threads share, with one lock round the whole of it, or with one for each record, taken in the order of the
+//! climb, and one for the journal. `shared` makes requests of several threads on it, over and over, as `bench/shared_program`
+//! does. Machines with C states aren't coordinated here.
 
 use crate::drive::{Levels, Node, Places};
 use crate::script::{
-    ANY_LATENCY, Chain, Child, Container, Coord, Cpu, Domain, Entry, Kind, Machine, RUNNING, Register, Reply, Request, Row, Scale, Vote,
-    entered,
+    ANY_LATENCY, Chain, Child, Container, Coord, Cpu, Domain, Entry, Kind, Machine, Op, RUNNING, Register, Reply, Request, Row, Scale, Vote,
+    entered, set_each,
 };
 use std::sync::Mutex;
 use std::thread;
@@ -94,64 +95,53 @@ impl Load {
 
 // # The journal
 
+/// Who asked for what, the reply, and how many operations the registers had seen when it was done.
 #[allow(dead_code)]
-enum Op {
-    Set { cpu: u32, register: Register, value: u64 },
-    Enter { cpu: u32, register: Register, states: Chain },
-}
-
-/// Which seat asked for what, and after how many operations less one it failed, 0 where it didn't.
-#[allow(dead_code)]
-struct Asked {
-    seat: u32,
-    request: Request,
-    fault: u32,
+pub struct Asked {
+    pub seat: u32,
+    pub request: Request,
+    pub reply: Reply,
+    pub seen: usize,
 }
 
 /// The entries and the registers, in memory that is taken at the start.
-struct Journal {
-    entries: Vec<Asked>,
-    registers: Vec<Op>,
+pub struct Journal {
+    pub entries: Vec<Asked>,
+    pub registers: Vec<Op>,
     stopped: bool,
 }
 
 /// What a request was told that wasn't answered.
 #[derive(Debug)]
-enum Unanswered {
+pub enum Unanswered {
     Full,
     Stopped,
     Fault,
 }
 
-type Told = Result<Reply, Unanswered>;
+pub type Told = Result<Reply, Unanswered>;
 
 impl Journal {
-    fn open(opening: &mut Vec<Op>) -> Journal {
-        let mut registers = Vec::with_capacity(2 * REQUESTS as usize);
+    fn open(opening: &mut Vec<Op>, entries: usize, operations: usize) -> Journal {
+        let mut registers = Vec::with_capacity(operations);
         registers.append(opening);
-        Journal { entries: Vec::with_capacity(REQUESTS as usize), registers, stopped: false }
+        Journal { entries: Vec::with_capacity(entries), registers, stopped: false }
     }
 
     fn may_append(&self) -> Result<(), Unanswered> {
         if self.stopped {
             return Err(Unanswered::Stopped);
         }
-        if self.entries.len() == REQUESTS as usize { Err(Unanswered::Full) } else { Ok(()) }
+        if self.entries.len() == self.entries.capacity() { Err(Unanswered::Full) } else { Ok(()) }
     }
 
     /// Does the operations, up to the first that finds no room, and appends the entry.
-    fn append(&mut self, seat: u32, request: Request, ops: &mut Vec<Op>) -> Result<(), Unanswered> {
-        let mut fault = 0;
-        for (done, op) in (1..).zip(ops.drain(..)) {
-            if self.registers.len() == self.registers.capacity() {
-                fault = done;
-                break;
-            }
-            self.registers.push(op);
-        }
-        self.entries.push(Asked { seat, request, fault });
-        self.stopped = fault > 0;
-        if self.stopped { Err(Unanswered::Fault) } else { Ok(()) }
+    fn append(&mut self, seat: u32, request: Request, reply: Reply, ops: &mut Vec<Op>) -> Told {
+        let room = self.registers.capacity() - self.registers.len();
+        self.stopped = ops.len() > room;
+        self.registers.extend(ops.drain(..).take(room));
+        self.entries.push(Asked { seat, request, reply, seen: self.registers.len() });
+        if self.stopped { Err(Unanswered::Fault) } else { Ok(reply) }
     }
 }
 
@@ -167,14 +157,19 @@ struct Climb {
 }
 
 /// What doesn't change.
-struct Plan {
-    machine: Machine,
+pub struct Plan {
+    pub machine: Machine,
     places: Places,
 }
 
+/// What a request changed in the record of a domain.
+struct Old {
+    is_limit: bool,
+    level: u8,
+}
+
 impl Plan {
-    fn new(load: Load) -> Plan {
-        let machine = load.machine();
+    pub fn new(machine: Machine) -> Plan {
         let places = Places::new(&machine);
         Plan { machine, places }
     }
@@ -227,45 +222,41 @@ impl Plan {
         let (Request::Idle { cpu, .. }, chain) = (request, climb.chain) else {
             return Reply::Running;
         };
-        ops.push(Op::Enter { cpu, register: entered(&self.machine, cpu, chain), states: chain });
+        ops.push(Op::Enter { cpu, register: entered(&self.machine, cpu, chain) });
         Reply::Entered(chain)
     }
 
-    /// The states and the member of a processor that may ask for this state.
-    fn scale(&self, cpu: u32, index: u32) -> Result<(&Scale, usize), Reply> {
-        let scale = self.machine.scale_of(Kind::Perf, cpu).ok_or(Reply::NoTable)?;
-        let domain = &self.machine.domains[scale.domain];
-        if domain.unfit > 0 {
-            return Err(Reply::Unfit { domain: scale.domain, why: domain.unfit });
+    /// The states and the member of a processor that asks, or whose limit moves.
+    fn scale(&self, kind: Kind, cpu: u32) -> Result<(&Scale, usize), Reply> {
+        let scale = self.machine.scale_of(kind, cpu).ok_or(Reply::NoTable)?;
+        match self.machine.domains[scale.domain].unfit {
+            0 => Ok((scale, self.places.member[cpu as usize][kind as usize])),
+            why => Err(Reply::Unfit { domain: scale.domain, why }),
         }
-        if index as usize >= scale.controls.len() {
-            return Err(Reply::NoState(scale.controls.len() as u32));
-        }
-        Ok((scale, self.places.member[cpu as usize][Kind::Perf as usize]))
     }
 
-    /// Makes an ask in the record of a domain, and answers what was asked for before.
-    fn ask(&self, levels: &mut Levels, scale: &Scale, member: usize, index: u32, ops: &mut Vec<Op>) -> Result<(u8, Reply), Reply> {
+    /// Makes an ask or moves a limit in the record of a domain, and answers what stood there before.
+    fn change(&self, levels: &mut Levels, (scale, member): (&Scale, usize), request: Request, ops: &mut Vec<Op>) -> Result<(Old, Reply), Reply> {
         let domain = &self.machine.domains[scale.domain];
-        if index < u32::from(levels.limits[member]) {
-            return Err(Reply::AboveLimit(levels.limits[member]));
-        }
         let before = levels.standing(domain.coord, member);
-        let old = std::mem::replace(&mut levels.asks[member], index as u8);
+        let old = match request {
+            Request::Ask { index, .. } if index as usize >= scale.controls.len() => return Err(Reply::NoState(scale.controls.len() as u32)),
+            Request::Ask { index, .. } if index < u32::from(levels.limits[member]) => return Err(Reply::AboveLimit(levels.limits[member])),
+            Request::Ask { index, .. } => Old { is_limit: false, level: std::mem::replace(&mut levels.asks[member], index as u8) },
+            Request::Limit { n, .. } => {
+                let limit = n.min(scale.controls.len() as u32 - 1) as u8;
+                Old { is_limit: true, level: std::mem::replace(&mut levels.limits[member], limit) }
+            }
+            Request::Idle { .. } | Request::Wake { .. } => unreachable!(),
+        };
         let stands = levels.standing(domain.coord, member);
         if stands != before {
-            self.set_all(domain, stands, ops);
-        }
-        Ok((old, Reply::Stands(stands)))
-    }
-
-    fn set_all(&self, domain: &Domain, stands: u8, ops: &mut Vec<Op>) {
-        for cpu in &domain.members {
-            if let Some(scale) = self.machine.scale_of(domain.kind, *cpu) {
-                let value = u64::from(scale.controls[stands as usize]);
-                ops.push(Op::Set { cpu: *cpu, register: scale.register, value });
+            match domain.coord {
+                Coord::SwAll => set_each(&self.machine, domain.kind, &domain.members, stands, ops),
+                Coord::SwAny | Coord::HwAll => set_each(&self.machine, domain.kind, &[request.cpu()], stands, ops),
             }
         }
+        Ok((old, Reply::Stands(stands)))
     }
 
     fn nodes(&self) -> impl Iterator<Item = Node> + '_ {
@@ -278,17 +269,23 @@ impl Plan {
 
     /// The operations at the start.
     fn opening(&self) -> Vec<Op> {
-        let mut ops = Vec::with_capacity(MOST_OF_A_REQUEST);
-        for (domain, levels) in self.machine.domains.iter().zip(self.levels()) {
-            self.set_all(domain, levels.standing(domain.coord, 0), &mut ops);
+        let mut ops = Vec::new();
+        for (domain, levels) in self.machine.domains.iter().zip(self.levels()).filter(|(domain, _)| domain.unfit == 0) {
+            let mut set = |members: &[u32], member| set_each(&self.machine, domain.kind, members, levels.standing(domain.coord, member), &mut ops);
+            match domain.coord {
+                Coord::SwAll => set(&domain.members, 0),
+                Coord::SwAny => set(&domain.members[..1], 0),
+                Coord::HwAll => (0..).zip(&domain.members).for_each(|(member, cpu)| set(&[*cpu], member)),
+            }
         }
         ops
     }
 }
 
 /// A coordinator that threads share.
-trait Shared: Sized + Sync {
-    fn open(plan: Plan) -> Self;
+pub trait Shared: Sized + Sync {
+    /// With room for so many entries and operations.
+    fn open(plan: Plan, entries: usize, operations: usize) -> Self;
 
     fn request(&self, seat: u32, request: Request, ops: &mut Vec<Op>) -> Told;
 
@@ -310,9 +307,9 @@ struct OneLock {
 
 impl All {
     fn serve(&mut self, plan: &Plan, request: Request, ops: &mut Vec<Op>) -> Result<Reply, Reply> {
-        if let Request::Ask { cpu, index, .. } = request {
-            let (scale, member) = plan.scale(cpu, index)?;
-            return plan.ask(&mut self.levels[scale.domain], scale, member, index, ops).map(|(_, reply)| reply);
+        if let Request::Ask { kind, cpu, .. } | Request::Limit { kind, cpu, .. } = request {
+            let scale = plan.scale(kind, cpu)?;
+            return plan.change(&mut self.levels[scale.0.domain], scale, request, ops).map(|(_, reply)| reply);
         }
         let mut climb = plan.begin(request)?;
         while let Some(number) = climb.next {
@@ -324,8 +321,9 @@ impl All {
 }
 
 impl Shared for OneLock {
-    fn open(plan: Plan) -> OneLock {
-        let all = All { nodes: plan.nodes().collect(), levels: plan.levels().collect(), journal: Journal::open(&mut plan.opening()) };
+    fn open(plan: Plan, entries: usize, operations: usize) -> OneLock {
+        let journal = Journal::open(&mut plan.opening(), entries, operations);
+        let all = All { nodes: plan.nodes().collect(), levels: plan.levels().collect(), journal };
         OneLock { plan, all: Mutex::new(all) }
     }
 
@@ -333,8 +331,7 @@ impl Shared for OneLock {
         let mut all = self.all.lock().unwrap();
         all.journal.may_append()?;
         let reply = all.serve(&self.plan, request, ops).unwrap_or_else(|refusal| refusal);
-        all.journal.append(seat, request, ops)?;
-        Ok(reply)
+        all.journal.append(seat, request, reply, ops)
     }
 
     fn close(self) -> Journal {
@@ -344,7 +341,7 @@ impl Shared for OneLock {
 
 // # A lock for each record
 
-struct EachLock {
+pub struct EachLock {
     plan: Plan,
     nodes: Vec<Mutex<Node>>,
     levels: Vec<Mutex<Levels>>,
@@ -352,18 +349,30 @@ struct EachLock {
 }
 
 impl EachLock {
+    /// How many operations were done so far.
+    pub fn operations(&self) -> usize {
+        self.journal.lock().unwrap().registers.len()
+    }
+
+    /// The machine, and what each container and each domain of it came to, and the journal.
+    pub fn end(self) -> (Machine, Vec<Node>, Vec<Levels>, Journal) {
+        let nodes = self.nodes.into_iter().map(|node| node.into_inner().unwrap()).collect();
+        let levels = self.levels.into_iter().map(|levels| levels.into_inner().unwrap()).collect();
+        (self.plan.machine, nodes, levels, self.journal.into_inner().unwrap())
+    }
+
     /// Appends the entry: the records of the request are locked.
-    fn finish(&self, seat: u32, request: Request, ops: &mut Vec<Op>) -> Result<(), Unanswered> {
+    fn finish(&self, seat: u32, request: Request, reply: Reply, ops: &mut Vec<Op>) -> Told {
         let mut journal = self.journal.lock().unwrap();
         journal.may_append()?;
-        journal.append(seat, request, ops)
+        journal.append(seat, request, reply, ops)
     }
 
     /// Goes on with a climb, each container's record being locked until the request is answered; where it isn't, sets votes back.
     fn climb(&self, seat: u32, request: Request, mut climb: Climb, ops: &mut Vec<Op>) -> Told {
         let Some(number) = climb.next else {
             let reply = self.plan.over(request, &climb, ops);
-            return self.finish(seat, request, ops).map(|()| reply);
+            return self.finish(seat, request, reply, ops);
         };
         let mut node = self.nodes[number as usize].lock().unwrap();
         let (machine, place) = (&self.plan.machine, climb.place);
@@ -377,14 +386,16 @@ impl EachLock {
         told
     }
 
-    fn ask(&self, seat: u32, request: Request, (scale, member): (&Scale, usize), index: u32, ops: &mut Vec<Op>) -> Told {
-        let mut levels = self.levels[scale.domain].lock().unwrap();
-        match self.plan.ask(&mut levels, scale, member, index, ops) {
-            Err(refusal) => self.finish(seat, request, ops).map(|()| refusal),
+    /// Changes a domain's record, which is locked until the request is answered; where it isn't, sets it back.
+    fn change(&self, seat: u32, request: Request, scale: (&Scale, usize), ops: &mut Vec<Op>) -> Told {
+        let mut levels = self.levels[scale.0.domain].lock().unwrap();
+        match self.plan.change(&mut levels, scale, request, ops) {
+            Err(refusal) => self.finish(seat, request, refusal, ops),
             Ok((old, reply)) => {
-                let told = self.finish(seat, request, ops).map(|()| reply);
+                let told = self.finish(seat, request, reply, ops);
                 if told.is_err() {
-                    levels.asks[member] = old;
+                    let of = if old.is_limit { &mut levels.limits } else { &mut levels.asks };
+                    of[scale.1] = old.level;
                 }
                 told
             }
@@ -393,24 +404,24 @@ impl EachLock {
 }
 
 impl Shared for EachLock {
-    fn open(plan: Plan) -> EachLock {
+    fn open(plan: Plan, entries: usize, operations: usize) -> EachLock {
         let nodes = plan.nodes().map(Mutex::new).collect();
         let levels = plan.levels().map(Mutex::new).collect();
-        let journal = Mutex::new(Journal::open(&mut plan.opening()));
+        let journal = Mutex::new(Journal::open(&mut plan.opening(), entries, operations));
         EachLock { plan, nodes, levels, journal }
     }
 
     fn request(&self, seat: u32, request: Request, ops: &mut Vec<Op>) -> Told {
         let begun = match request {
-            Request::Ask { cpu, index, .. } => match self.plan.scale(cpu, index) {
-                Ok(scale) => return self.ask(seat, request, scale, index, ops),
+            Request::Ask { kind, cpu, .. } | Request::Limit { kind, cpu, .. } => match self.plan.scale(kind, cpu) {
+                Ok(scale) => return self.change(seat, request, scale, ops),
                 Err(refusal) => Err(refusal),
             },
             _ => self.plan.begin(request),
         };
         match begun {
             Ok(climb) => self.climb(seat, request, climb, ops),
-            Err(refusal) => self.finish(seat, request, ops).map(|()| refusal),
+            Err(refusal) => self.finish(seat, request, refusal, ops),
         }
     }
 
@@ -435,7 +446,7 @@ fn drive(coordinator: &impl Shared, load: Load, thread: u32, requests: u32) -> u
 
 /// Opens a coordinator, makes the requests by so many threads, and closes it; tells how many entries and operations it left.
 fn round<S: Shared>(load: Load, threads: u32) -> (usize, usize) {
-    let coordinator = S::open(Plan::new(load));
+    let coordinator = S::open(Plan::new(load.machine()), REQUESTS as usize, 2 * REQUESTS as usize);
     let requests = REQUESTS / threads;
     let answered: u32 = thread::scope(|scope| {
         let shared = &coordinator;
