@@ -19,7 +19,7 @@ from machine import busy, processor
 from measure import SCOPE, block, clusters, holder
 from measure_scripts import FORMS
 
-RUNS = 9
+RUNS = 21
 SIZES = ((256, 16384), (256, 32768), (256, 65536), (8, 65536), (64, 65536))
 
 

@@ -17,7 +17,7 @@ from pathlib import Path
 from machine import busy, processor
 from measure_drive import machine, milliseconds, peak, script
 
-RUNS = 7
+RUNS = 25
 PROCESSORS = (1, 2, 4)
 
 
