@@ -95,6 +95,11 @@ impl Load {
 
 // # The journal
 
+/// What the journal keeps of a request.
+pub trait Kept: Send {
+    fn new(seat: u32, request: Request, reply: Reply, seen: usize) -> Self;
+}
+
 /// Who asked for what, the reply, and how many operations the registers had seen when it was done.
 #[allow(dead_code)]
 pub struct Asked {
@@ -104,9 +109,28 @@ pub struct Asked {
     pub seen: usize,
 }
 
+impl Kept for Asked {
+    fn new(seat: u32, request: Request, reply: Reply, seen: usize) -> Asked {
+        Asked { seat, request, reply, seen }
+    }
+}
+
+/// Who asked for what.
+#[allow(dead_code)]
+pub struct Bare {
+    seat: u32,
+    request: Request,
+}
+
+impl Kept for Bare {
+    fn new(seat: u32, request: Request, _reply: Reply, _seen: usize) -> Bare {
+        Bare { seat, request }
+    }
+}
+
 /// The entries and the registers, in memory that is taken at the start.
-pub struct Journal {
-    pub entries: Vec<Asked>,
+pub struct Journal<E> {
+    pub entries: Vec<E>,
     pub registers: Vec<Op>,
     stopped: bool,
 }
@@ -121,8 +145,8 @@ pub enum Unanswered {
 
 pub type Told = Result<Reply, Unanswered>;
 
-impl Journal {
-    fn open(opening: &mut Vec<Op>, entries: usize, operations: usize) -> Journal {
+impl<E: Kept> Journal<E> {
+    fn open(opening: &mut Vec<Op>, entries: usize, operations: usize) -> Journal<E> {
         let mut registers = Vec::with_capacity(operations);
         registers.append(opening);
         Journal { entries: Vec::with_capacity(entries), registers, stopped: false }
@@ -140,7 +164,7 @@ impl Journal {
         let room = self.registers.capacity() - self.registers.len();
         self.stopped = ops.len() > room;
         self.registers.extend(ops.drain(..).take(room));
-        self.entries.push(Asked { seat, request, reply, seen: self.registers.len() });
+        self.entries.push(E::new(seat, request, reply, self.registers.len()));
         if self.stopped { Err(Unanswered::Fault) } else { Ok(reply) }
     }
 }
@@ -283,29 +307,29 @@ impl Plan {
 }
 
 /// A coordinator that threads share.
-pub trait Shared: Sized + Sync {
+pub trait Shared<E>: Sized + Sync {
     /// With room for so many entries and operations.
     fn open(plan: Plan, entries: usize, operations: usize) -> Self;
 
     fn request(&self, seat: u32, request: Request, ops: &mut Vec<Op>) -> Told;
 
-    fn close(self) -> Journal;
+    fn close(self) -> Journal<E>;
 }
 
 // # One lock round all
 
-struct All {
+struct All<E> {
     nodes: Vec<Node>,
     levels: Vec<Levels>,
-    journal: Journal,
+    journal: Journal<E>,
 }
 
-struct OneLock {
+struct OneLock<E> {
     plan: Plan,
-    all: Mutex<All>,
+    all: Mutex<All<E>>,
 }
 
-impl All {
+impl<E> All<E> {
     fn serve(&mut self, plan: &Plan, request: Request, ops: &mut Vec<Op>) -> Result<Reply, Reply> {
         if let Request::Ask { kind, cpu, .. } | Request::Limit { kind, cpu, .. } = request {
             let scale = plan.scale(kind, cpu)?;
@@ -320,8 +344,8 @@ impl All {
     }
 }
 
-impl Shared for OneLock {
-    fn open(plan: Plan, entries: usize, operations: usize) -> OneLock {
+impl<E: Kept> Shared<E> for OneLock<E> {
+    fn open(plan: Plan, entries: usize, operations: usize) -> OneLock<E> {
         let journal = Journal::open(&mut plan.opening(), entries, operations);
         let all = All { nodes: plan.nodes().collect(), levels: plan.levels().collect(), journal };
         OneLock { plan, all: Mutex::new(all) }
@@ -334,28 +358,28 @@ impl Shared for OneLock {
         all.journal.append(seat, request, reply, ops)
     }
 
-    fn close(self) -> Journal {
+    fn close(self) -> Journal<E> {
         self.all.into_inner().unwrap().journal
     }
 }
 
 // # A lock for each record
 
-pub struct EachLock {
+pub struct EachLock<E> {
     plan: Plan,
     nodes: Vec<Mutex<Node>>,
     levels: Vec<Mutex<Levels>>,
-    journal: Mutex<Journal>,
+    journal: Mutex<Journal<E>>,
 }
 
-impl EachLock {
+impl<E: Kept> EachLock<E> {
     /// How many operations were done so far.
     pub fn operations(&self) -> usize {
         self.journal.lock().unwrap().registers.len()
     }
 
     /// The machine, and what each container and each domain of it came to, and the journal.
-    pub fn end(self) -> (Machine, Vec<Node>, Vec<Levels>, Journal) {
+    pub fn end(self) -> (Machine, Vec<Node>, Vec<Levels>, Journal<E>) {
         let nodes = self.nodes.into_iter().map(|node| node.into_inner().unwrap()).collect();
         let levels = self.levels.into_iter().map(|levels| levels.into_inner().unwrap()).collect();
         (self.plan.machine, nodes, levels, self.journal.into_inner().unwrap())
@@ -403,8 +427,8 @@ impl EachLock {
     }
 }
 
-impl Shared for EachLock {
-    fn open(plan: Plan, entries: usize, operations: usize) -> EachLock {
+impl<E: Kept> Shared<E> for EachLock<E> {
+    fn open(plan: Plan, entries: usize, operations: usize) -> EachLock<E> {
         let nodes = plan.nodes().map(Mutex::new).collect();
         let levels = plan.levels().map(Mutex::new).collect();
         let journal = Mutex::new(Journal::open(&mut plan.opening(), entries, operations));
@@ -425,7 +449,7 @@ impl Shared for EachLock {
         }
     }
 
-    fn close(self) -> Journal {
+    fn close(self) -> Journal<E> {
         self.journal.into_inner().unwrap()
     }
 }
@@ -433,7 +457,7 @@ impl Shared for EachLock {
 // # Rounds
 
 /// Makes a thread's requests, and tells how many were answered.
-fn drive(coordinator: &impl Shared, load: Load, thread: u32, requests: u32) -> u32 {
+fn drive(coordinator: &impl Shared<Bare>, load: Load, thread: u32, requests: u32) -> u32 {
     let mut ops = Vec::with_capacity(MOST_OF_A_REQUEST);
     let mut answered = 0;
     for step in 0..requests {
@@ -445,7 +469,7 @@ fn drive(coordinator: &impl Shared, load: Load, thread: u32, requests: u32) -> u
 }
 
 /// Opens a coordinator, makes the requests by so many threads, and closes it; tells how many entries and operations it left.
-fn round<S: Shared>(load: Load, threads: u32) -> (usize, usize) {
+fn round<S: Shared<Bare>>(load: Load, threads: u32) -> (usize, usize) {
     let coordinator = S::open(Plan::new(load.machine()), REQUESTS as usize, 2 * REQUESTS as usize);
     let requests = REQUESTS / threads;
     let answered: u32 = thread::scope(|scope| {
@@ -464,8 +488,8 @@ pub fn rounds(locks: &str, machine: &str, threads: u32, rounds: u32) {
     assert!((1..=THREADS).contains(&threads));
     let load = Load::named(machine);
     let one = match locks {
-        "one-lock" => round::<OneLock>,
-        "each-lock" => round::<EachLock>,
+        "one-lock" => round::<OneLock<Bare>>,
+        "each-lock" => round::<EachLock<Bare>>,
         _ => panic!("no such locks"),
     };
     let mut left = (0, 0);
