@@ -3,7 +3,7 @@
 //! gate at once. Of each is told the text of the history, how many operations the registers saw, and what the
 //! audit says of the text.
 //!
-//! Then come runs of machines and loads that are generated, each with a history of its own: 20 of two containers, and 200
+//! Then come runs of machines and loads that are generated, each with a history of its own: 200 of two containers, and 200
 //! of eight, which take 64 workers and 4,096 requests each. The audit must accept all with an entry for each line, the
 //! registers must have seen the operations of the text, and all must have the summary of one caller's run. At last registers
 //! fail amid such runs: each must be lawful, and its last operation that before the one that failed.
@@ -27,7 +27,7 @@ const FAILS: [u32; 12] = [1, 8, 16, 17, 18, 20, 25, 30, 40, 50, 60, 70];
 /// What comes of the machines that are generated.
 fn generated<R: Threads + Wait + Sync>(rt: &R, alloc: Global) -> Option<String> {
     let mut text = String::new(alloc);
-    put_runs(rt, &mut text, alloc, 2, 20)?;
+    put_runs(rt, &mut text, alloc, 2, 200)?;
     put_runs(rt, &mut text, alloc, 8, 200)?;
     put_faults(rt, &mut text, alloc, 2, &FAILS)?;
     Some(text)
