@@ -18,7 +18,7 @@ use pw_core::{Ops, open_all};
 use pw_journal::Journal;
 use pw_plan::Plan;
 use pw_regs::Registers;
-use pw_rule::{Limit, Load};
+use pw_rule::{Held, Limit, Load};
 use std::alloc::Global;
 use std::marker::Brand;
 use std::snapshot::Snapshot;
@@ -42,6 +42,26 @@ fn opening_list(alloc: Global, plan: &Plan) -> Result<Ops, Memory>
     let mut ops = Ops::new(alloc, most)?;
     open_all(plan, &mut ops);
     Ok(ops)
+}
+
+/// An empty journal with room for so many entries, over these registers. Where there is no memory for it, it
+/// gives the registers back.
+fn open_journal<R>(alloc: Global, capacity: u32, regs: R) -> Result<Held<Journal<R>>, R>
+    ensures opened { IfOk result (λ j. j ≡ record {
+      entries = [];
+      capacity = capacity;
+      regs = regs;
+    }) }
+    ensures given_back { IfErr result (λ back. back ≡ regs) }
+{
+    match Held::new(alloc, Journal::open(alloc, capacity, regs)?) {
+        Ok(journal) => Ok(journal),
+        Err(journal) => {
+            let (entries, regs) = journal.finish();
+            drop(entries);
+            Err(regs)
+        }
+    }
 }
 
 impl<R: Registers> Coordinator<R> {
@@ -138,7 +158,7 @@ impl<R: Registers> Coordinator<R> {
     }
 
     /// Puts the journal into its slot, and frees its turn for the first time.
-    fn open_journal<Q: Asked>(&self, raw: &mut Raw<R>, journal: Journal<R>)
+    fn open_journal<Q: Asked>(&self, raw: &mut Raw<R>, journal: Held<Journal<R>>)
         requires id { raw.old.table_id ≡ self.now.table.shared.table_id }
         requires last { Q.last ≡ record_count self.now.plan }
         requires count { Q.count ≡ R.faults journal.regs }
@@ -159,7 +179,7 @@ impl<R: Registers> Coordinator<R> {
     }
 
     /// Frees each turn, and gives the first seat.
-    fn first_seat(&self, mut raw: Raw<R>, journal: Journal<R>, mut ops: Ops) -> Seat
+    fn first_seat(&self, mut raw: Raw<R>, journal: Held<Journal<R>>, mut ops: Ops) -> Seat
         requires id { raw.table_id ≡ self.now.table.shared.table_id }
         requires view { raw.me ≡ (first_of self.now.table.shared.key, []) }
         requires begun { let key = self.now.table.shared.key in
@@ -208,17 +228,17 @@ impl<R: Registers> Coordinator<R> {
             return Err(OpenFault::Memory { regs });
         };
         let before = Snapshot::of(&regs);
-        let mut journal = match Journal::open(alloc, capacity, regs) {
+        let mut journal = match open_journal(alloc, capacity, regs) {
             Ok(journal) => journal,
             Err(regs) => return Err(OpenFault::Memory { regs }),
         };
         let Ok((coordinator, raw)) = Coordinator::begin(alloc, plan, capacity, before) else {
-            let (_, regs) = journal.finish();
+            let (_, regs) = journal.into_inner().finish();
             return Err(OpenFault::Memory { regs });
         };
-        if let Err(done) = journal.operate(ops.list()) {
+        if let Err(done) = journal.get_mut().operate(ops.list()) {
             let plan = coordinator.give_up(raw);
-            let (_, regs) = journal.finish();
+            let (_, regs) = journal.into_inner().finish();
             return Err(OpenFault::RegisterFault { done, plan, regs });
         }
         let seat = coordinator.first_seat(raw, journal, ops);

@@ -93,8 +93,8 @@ impl<R: Registers> Coordinator<R> {
                 };
             }
         };
-        *seen = journal.len();
-        if let Some(at) = journal.fault_at() {
+        *seen = journal.get().len();
+        if let Some(at) = journal.get().fault_at() {
             self.leave_for(raw, journal);
             return Try::Stopped { at };
         }
@@ -105,7 +105,7 @@ impl<R: Registers> Coordinator<R> {
             };
         }
         *seen += 1;
-        match journal.append(number, request, ops) {
+        match journal.get_mut().append(number, request, ops) {
             Ok(()) => {
                 self.put_for(raw, journal, request, 0);
                 Try::Answer(reply)

@@ -19,11 +19,24 @@ use pw_journal::Journal;
 use pw_machine::View;
 use pw_plan::Plan;
 use pw_regs::Registers;
-use pw_rule::{Limit, Load, Turns};
+use pw_rule::{Held, Limit, Load, Turns};
 use std::alloc::Global;
 
 /// A table of a plan's records and of a journal.
 pub(crate) type Shelf<R> = Table<Option<Load<R>>, View, Limit<R>, Turns<R>, Global>;
+
+/// A record in a block of its own.
+fn hold<T: Drop>(alloc: Global, value: T) -> Result<Held<T>, Memory>
+    ensures { IfOk result (λ held. held ≡ value) }
+{
+    match Held::new(alloc, value) {
+        Ok(held) => Ok(held),
+        Err(value) => {
+            drop(value);
+            Err(Memory)
+        }
+    }
+}
 
 /// The record of a turn, as it opens.
 fn opened_record<R>(
@@ -37,14 +50,14 @@ fn opened_record<R>(
     ensures { IfOk result (λ load. IsRecordOf plan.now turn (opening_part plan.now (record_at plan.now turn)) load) }
 {
     if turn < counts.containers {
-        return Ok(Load::Node(NodeRec::open(alloc, plan, turn)?));
+        return Ok(Load::Node(hold(alloc, NodeRec::open(alloc, plan, turn)?)?));
     }
     let place = turn - counts.containers;
     if place < counts.scaled {
-        return Ok(Load::Domain(DomainRec::open(alloc, plan, place)?));
+        return Ok(Load::Domain(hold(alloc, DomainRec::open(alloc, plan, place)?)?));
     }
     let group = place - counts.scaled;
-    Ok(Load::Group(GroupRec::open(alloc, plan, group)?))
+    Ok(Load::Group(hold(alloc, GroupRec::open(alloc, plan, group)?)?))
 }
 
 /// Lets slots go of which none has the journal.
@@ -133,7 +146,7 @@ fn clear<R>(closed: &mut Closed<Option<Load<R>>, Global>, records: usize)
 }
 
 /// The journal, out of its slot.
-pub(crate) fn journal_in<R>(slot: Option<Load<R>>) -> Journal<R>
+pub(crate) fn journal_in<R>(slot: Option<Load<R>>) -> Held<Journal<R>>
     requires { (j : Journaled R) × (slot ≡ Some (Log j)) }
     ensures { slot ≡ Some (Log result) }
 {

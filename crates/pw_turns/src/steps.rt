@@ -15,7 +15,7 @@ use crate::plays::{Asked, Give, Lead, Leave, Put, Take};
 use pw_journal::Journal;
 use pw_plan::Request;
 use pw_regs::Registers;
-use pw_rule::Load;
+use pw_rule::{Held, Load};
 use std::marker::Brand;
 
 impl<R: Registers> Coordinator<R> {
@@ -81,7 +81,7 @@ impl<R: Registers> Coordinator<R> {
         raw: &mut Raw<R>,
         number: u32,
         _request: Request,
-    ) -> Result<Journal<R>, u32>
+    ) -> Result<Held<Journal<R>>, u32>
         requires id { raw.old.table_id ≡ self.now.table.shared.table_id }
         requires given { Q.given ≡ Some (given_of R.Registers self.now.table.shared.key) }
         requires promise { Q.promise ≡ promise_of R.Registers self.now.table.shared.key }
@@ -117,7 +117,7 @@ impl<R: Registers> Coordinator<R> {
         raw: &mut Raw<R>,
         number: u32,
         request: Request,
-    ) -> Result<Journal<R>, u32>
+    ) -> Result<Held<Journal<R>>, u32>
         requires id { raw.old.table_id ≡ self.now.table.shared.table_id }
         requires asks { Asks self.now.plan raw.old.me.0 request }
         requires next { TellsNext self.now.plan raw.old.me.0 request (record_count self.now.plan) }
@@ -136,7 +136,7 @@ impl<R: Registers> Coordinator<R> {
     pub(crate) fn put<Q: Asked>(
         &self,
         raw: &mut Raw<R>,
-        journal: Journal<R>,
+        journal: Held<Journal<R>>,
         _request: Request,
         _fault: u32,
     )
@@ -170,7 +170,7 @@ impl<R: Registers> Coordinator<R> {
     pub(crate) fn put_for(
         &self,
         raw: &mut Raw<R>,
-        journal: Journal<R>,
+        journal: Held<Journal<R>>,
         request: Request,
         fault: u32,
     )
@@ -191,7 +191,7 @@ impl<R: Registers> Coordinator<R> {
     }
 
     /// Gives the journal back as it was.
-    pub(crate) fn leave<Q: Asked>(&self, raw: &mut Raw<R>, journal: Journal<R>)
+    pub(crate) fn leave<Q: Asked>(&self, raw: &mut Raw<R>, journal: Held<Journal<R>>)
         requires id { raw.old.table_id ≡ self.now.table.shared.table_id }
         requires count { Q.count ≡ R.faults journal.regs }
         requires out { IsOut (record_count self.now.plan) raw.old.me }
@@ -211,7 +211,7 @@ impl<R: Registers> Coordinator<R> {
     }
 
     /// The same with what it is about picked.
-    pub(crate) fn leave_for(&self, raw: &mut Raw<R>, journal: Journal<R>)
+    pub(crate) fn leave_for(&self, raw: &mut Raw<R>, journal: Held<Journal<R>>)
         requires id { raw.old.table_id ≡ self.now.table.shared.table_id }
         requires out { IsOut (record_count self.now.plan) raw.old.me }
         requires found { let key = self.now.table.shared.key in

@@ -82,8 +82,8 @@ impl<R: Registers> Coordinator<R> {
     {
         gate.reached(request.cpu(), 0);
         let mut journal = self.lead_on(rt, raw, met, number, request);
-        *seen = journal.len();
-        if let Some(at) = journal.fault_at() {
+        *seen = journal.get().len();
+        if let Some(at) = journal.get().fault_at() {
             self.leave_for(raw, journal);
             return Done::Stopped { at };
         }
@@ -94,7 +94,7 @@ impl<R: Registers> Coordinator<R> {
             };
         }
         *seen += 1;
-        match journal.append(number, request, ops) {
+        match journal.get_mut().append(number, request, ops) {
             Ok(()) => {
                 self.put_for(raw, journal, request, 0);
                 Done::Answer(reply)

@@ -11,7 +11,7 @@ use crate::coordinator::{Coordinator, Raw};
 use pw_journal::Journal;
 use pw_plan::Request;
 use pw_regs::Registers;
-use pw_rule::Load;
+use pw_rule::{Held, Load};
 use std::marker::Brand;
 use std::sync::Wait;
 
@@ -56,7 +56,7 @@ impl<R: Registers> Coordinator<R> {
         met: &mut Option<(u32, u32)>,
         number: u32,
         request: Request,
-    ) -> Journal<R>
+    ) -> Held<Journal<R>>
         requires id { raw.old.table_id ≡ self.now.table.shared.table_id }
         requires asks { Asks self.now.plan raw.old.me.0 request }
         requires next { TellsNext self.now.plan raw.old.me.0 request (record_count self.now.plan) }

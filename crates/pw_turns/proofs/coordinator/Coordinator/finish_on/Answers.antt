@@ -1,7 +1,7 @@
 use Rattle.std.proofs.Common.{rules, refl, sym, ap, ◌∙◌, ◌≡◌, ◌∷◌, [], subst, arith, ◌+◌, ◌≤◌, ◌<◌, ◌++◌, length, take, List}
 use Rattle.acpi_values.specs.declared.operation.Op.{Op}
 use Rattle.pw_plan.specs.Requests.{Has}
-use Rattle.pw_model.specs.History.{replay}
+use Rattle.pw_model.specs.History.{Faultless, replay}
 use Rattle.pw_machine.specs.declared.view.View.{View}
 use Rattle.pw_parts.specs.Records.{record_count}
 use Rattle.pw_rule.specs.Rule.{given_of, promise_of}
@@ -33,7 +33,7 @@ returns-then-seen-self-clause-told g c =
     let m : Mine g.row.R.Denot = (met_on on.pair on.count c.args.raw.now.me.0, c.args.raw.now.me.1) in
     let f = found g.R.Registers (promise_of g.R.Registers key) (given_of g.R.Registers key) _ c.args.request m c.lead_on-journal.result c.lead_on-journal.new.raw.me
     on.led c.leave_for-then-seen-self.new.raw.me.0 (ap (λ m. m.0) c.leave_for-then-seen-self.ensures.view) in
-    record { pair = on.pair; count = on.count; told = (f, search rules, search rules, c.fault_at.ensures.none.0 c.in_default.is) }
+    record { pair = on.pair; count = on.count; told = (f, search rules, search rules, subst (λ j. Faultless j.entries) c.get-2.ensures (c.fault_at.ensures.none.0 c.in_default.is)) }
 
 pub put_for-requires-clause-grown : goal.put_for-requires-clause-grown
 put_for-requires-clause-grown g c =
@@ -44,8 +44,8 @@ put_for-requires-clause-grown g c =
     let has = subst (λ P. Has P q) (sym self.planned) c.requires.asks.0.of_plan in
     let number : n.0.number ≡ m.0.number = ap (λ (v : View). v.number) (is_led by promise given _ q m j n l) in
     let own : c.args.number ≡ n.0.number = c.requires.number.0 ∙ sym number in
-    let a = c.in-Ok.ensures in
-    grown_is by promise given _ q m j n l n.0.number 0 number has c.requires.asks.1 (c.fault_at.ensures.none.0 c.in_default.is) (omega arith) c.append.new.self (λ z. absurd (z refl))
+    let a = rw c.get_mut.ensures.value at c.in-Ok.ensures in
+    grown_is by promise given _ q m j n l n.0.number 0 number has c.requires.asks.1 (subst (λ j. Faultless j.entries) c.get-2.ensures (c.fault_at.ensures.none.0 c.in_default.is)) (omega arith) c.append.new.self (λ z. absurd (z refl))
     (search rules) (a.entry ∙ ap (λ e. j.entries ++ e ∷ []) (entry_without_fault c.args.number q ∙ ap (λ n. entry_as n q 0) own)) a.capacity a.keeps.count a.keeps.same_told
     (λ t. a.done t ∙ ap (λ x. g.R.Registers.log j.regs ++ x) (ops ∙ sym (ops_done given.plan (replay given.plan j.entries) n.0.number q)))
     c.args.ops.now ops a.left a.steady (λ z. absurd (z refl))
@@ -59,9 +59,9 @@ put_for-requires-in-Err-clause-grown g c =
     let has = subst (λ P. Has P q) (sym self.planned) c.requires.asks.0.of_plan in
     let number : n.0.number ≡ m.0.number = ap (λ (v : View). v.number) (is_led by promise given _ q m j n l) in
     let own : c.args.number ≡ n.0.number = c.requires.number.0 ∙ sym number in
-    let a = c.in-Err.ensures in let k = c.in-Err.done in
+    let a = rw c.get_mut.ensures.value at c.in-Err.ensures in let k = c.in-Err.done in
     let less : k + 1 ≤ length c.args.ops.now = let w = a.within in omega (arith, w) in
-    grown_is by promise given _ q m j n l n.0.number (k + 1) number has c.requires.asks.1 (c.fault_at.ensures.none.0 c.in_default.is) (subst (λ (x : List Op). k + 1 ≤ length x) ops less)
+    grown_is by promise given _ q m j n l n.0.number (k + 1) number has c.requires.asks.1 (subst (λ j. Faultless j.entries) c.get-2.ensures (c.fault_at.ensures.none.0 c.in_default.is)) (subst (λ (x : List Op). k + 1 ≤ length x) ops less)
     c.append.new.self (λ z. a.failed) (search rules) (a.fault ∙ ap (λ n. j.entries ++ entry_as n q (k + 1) ∷ []) own) a.capacity a.keeps.count a.keeps.same_told
     (λ t. a.part t ∙ ap (λ x. g.R.Registers.log j.regs ++ x) (ap (take k) ops ∙ sym (ops_failed given.plan (replay given.plan j.entries) n.0.number q k)))
     c.args.ops.now ops a.left a.steady (λ z. a.promised)
@@ -76,7 +76,7 @@ returns-in-Ok-clause-told g c =
       pair = on.pair;
       count = on.count;
       told = (
-        made by promise given _ q m j n l n.0.number 0 number has c.requires.asks.1 (c.fault_at.ensures.none.0 c.in_default.is) (omega arith) c.append.new.self (λ z. absurd (z refl))
+        made by promise given _ q m j n l n.0.number 0 number has c.requires.asks.1 (subst (λ j. Faultless j.entries) c.get-2.ensures (c.fault_at.ensures.none.0 c.in_default.is)) (omega arith) c.append.new.self (λ z. absurd (z refl))
             self.plan self.planned c.put_for.new.raw.me.0 (ap (λ m. m.0) c.put_for.ensures.view),
         reply_is by promise given _ q m j n l self.plan c.args.reply c.args.ops.now self.planned c.requires.asks.0.of_plan c.requires.over,
       );
@@ -90,12 +90,12 @@ returns-in-Err-clause-told g c =
     let ops = ops_are by promise given _ q m j n l self.plan c.args.reply c.args.ops.now self.planned c.requires.asks.0.of_plan c.requires.over in
     let has = subst (λ P. Has P q) (sym self.planned) c.requires.asks.0.of_plan in
     let number : n.0.number ≡ m.0.number = ap (λ (v : View). v.number) (is_led by promise given _ q m j n l) in
-    let a = c.in-Err.ensures in let k = c.in-Err.done in
+    let a = rw c.get_mut.ensures.value at c.in-Err.ensures in let k = c.in-Err.done in
     let less : k + 1 ≤ length c.args.ops.now = let w = a.within in omega (arith, w) in record {
       pair = on.pair;
       count = on.count;
       told = (
-        made by promise given _ q m j n l n.0.number (k + 1) number has c.requires.asks.1 (c.fault_at.ensures.none.0 c.in_default.is) (subst (λ (x : List Op). k + 1 ≤ length x) ops less)
+        made by promise given _ q m j n l n.0.number (k + 1) number has c.requires.asks.1 (subst (λ j. Faultless j.entries) c.get-2.ensures (c.fault_at.ensures.none.0 c.in_default.is)) (subst (λ (x : List Op). k + 1 ≤ length x) ops less)
             c.append.new.self (λ z. a.failed) self.plan self.planned c.put_for-in-Err.new.raw.me.0 (ap (λ m. m.0) c.put_for-in-Err.ensures.view),
         subst (λ (x : List Op). k < length x) ops a.within,
       );
