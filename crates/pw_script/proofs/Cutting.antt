@@ -2,8 +2,7 @@
 use Rattle.std.proofs.Common.{◌≡◌, ◌≢◌, ◌<◌, ◌+◌, ◌==◌, ℕ, zero, suc, Bool, true, false, cond, List, [], ◌∷◌, length, get_or, take, drop, refl, arith, eq-eqb, add-one}
 use Rattle.std.specs.List.{onto_first}
 use Rattle.std.proofs.lemmas.Bool.{ne_eqb}
-use Rattle.pw_script.specs.Lines.{parts, ended, without_return, fields_of}
-use Rattle.pw_script.specs.inner.Cuts.{onto_fields}
+use Rattle.pw_script.specs.Lines.{parts, ended, without_return, fields_of, onto_fields}
 
 pub cut_none : (b : ℕ) (xs : List ℕ) → ((k : ℕ) → k < length xs → get_or xs k 0 ≢ b) → parts b xs ≡ xs ∷ []
 cut_none b [] none = refl

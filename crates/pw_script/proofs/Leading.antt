@@ -1,36 +1,35 @@
--- A map that leads to the processors from n on leads to those from n - 1 on, once it has that one.
-use Rattle.std.proofs.Common.{◌≡◌, ◌<◌, ◌≤◌, ◌+◌, ◌-◌, ◌∙◌, ℕ, suc, Bool, true, false, List, [], ◌∷◌, length, drop, get_or, cond, refl, ap, arith, zero-add, drop-cons, Vec, Global, Some}
-use Rattle.std.specs.HashMap.{HashMap, get_by}
-use Rattle.std.specs.Prelude.{bytes_eq, IfSome, Option, None}
+-- A map that leads to the elements from n on leads to those from n - 1 on, once it leads to that one too.
+use Rattle.std.proofs.Common.{◌≡◌, ◌<◌, ◌≤◌, ◌+◌, ◌-◌, ◌∙◌, ℕ, suc, Bool, true, false, List, [], ◌∷◌, length, drop, get_or, cond, refl, arith, zero-add, drop-cons, Vec, Global}
+use Rattle.std.specs.HashMap.{HashMap}
+use Rattle.std.specs.Prelude.{bytes_eq, IfSome, Option, Some, None}
 use Rattle.aml_data.specs.Segment.{joined}
-use Rattle.pw_plan.specs.declared.parts.CpuParts.{CpuParts}
 use Rattle.pw_plan.specs.declared.plan.Plan.{Plan}
-use Rattle.pw_script.specs.Forms.{cpu_from, cpu_named}
-use Rattle.pw_script.specs.inner.Looking.{LeadsTo}
+use Rattle.pw_script.specs.Forms.{cpu_named, named_from, segs_of}
+use Rattle.pw_script.specs.Looking.{LeadsAlso, LeadsTo, led_by}
 
-pub leads_on : {S : Type 0} (cpus : List CpuParts) (n : ℕ) (c : CpuParts) (key : Vec ℕ Global) (old new : HashMap (Vec ℕ Global) ℕ S)
-    → 0 < n → n ≤ length cpus → key.items ≡ joined (get_or cpus (n - 1) c).path.segs → LeadsTo n (drop n cpus) old
-    → ((q : Vec ℕ Global) → get_by (λ k. bytes_eq q.items k.items) new ≡ cond (bytes_eq key.items q.items) (Some (n - 1)) (get_by (λ k. bytes_eq q.items k.items) old))
-    → LeadsTo (n - 1) (drop (n - 1) cpus) new
-leads_on cpus n c key old new some within named leads puts = λ q.
-    let lt : n - 1 < length cpus = omega arith in
+pub leads_on : {X S : Type 0} (segs : X → List (List ℕ)) (xs : List X) (n : ℕ) (x : X) (old new : HashMap (Vec ℕ Global) ℕ S)
+    → 0 < n → n ≤ length xs → LeadsTo segs n (drop n xs) old → LeadsAlso (segs (get_or xs (n - 1) x)) (n - 1) old new → LeadsTo segs (n - 1) (drop (n - 1) xs) new
+leads_on segs xs n x old new some within leads also = λ q.
+    let lt : n - 1 < length xs = omega arith in
     let next : suc (n - 1) ≡ n = omega arith in
-    let split : drop (n - 1) cpus ≡ get_or cpus (n - 1) c ∷ drop (suc (n - 1)) cpus = drop-cons cpus (n - 1) c lt in
-    let test : bytes_eq key.items q.items ≡ bytes_eq (joined (get_or cpus (n - 1) c).path.segs) q.items = ap (λ (k : List ℕ). bytes_eq k q.items) named in
-    let later : get_by (λ k. bytes_eq q.items k.items) old ≡ cpu_from (suc (n - 1)) (drop (suc (n - 1)) cpus) q.items = rw next (leads q) in
-    puts q ∙ rw (test, later, split) refl
+    let split : drop (n - 1) xs ≡ get_or xs (n - 1) x ∷ drop (suc (n - 1)) xs = drop-cons xs (n - 1) x lt in
+    let later : led_by old q ≡ named_from segs (suc (n - 1)) (drop (suc (n - 1)) xs) q.items = rw next (leads q) in
+    also q ∙ rw (later, split) refl
 
-from_below : (n : ℕ) (cs : List CpuParts) (name : List ℕ) → IfSome (cpu_from n cs name) (λ p. p < n + length cs)
-from_below n [] name = tt
-from_below n (c ∷ cs) name = step (bytes_eq (joined c.path.segs) name) (cpu_from (suc n) cs name) (from_below (suc n) cs name)
+from_below : {X : Type 0} (segs : X → List (List ℕ)) (n : ℕ) (xs : List X) (name : List ℕ) → IfSome (named_from segs n xs name) (λ p. p < n + length xs)
+from_below segs n [] name = tt
+from_below segs n (x ∷ xs) name = step (bytes_eq (joined (segs x)) name) (named_from segs (suc n) xs name) (from_below segs (suc n) xs name)
   where
-    later : (o : Option ℕ) → IfSome o (λ p. p < suc n + length cs) → IfSome o (λ p. p < n + length (c ∷ cs))
+    later : (o : Option ℕ) → IfSome o (λ p. p < suc n + length xs) → IfSome o (λ p. p < n + length (x ∷ xs))
     later None h = tt
     later (Some p) h = omega arith
 
-    step : (b : Bool) (o : Option ℕ) → IfSome o (λ p. p < suc n + length cs) → IfSome (cond b (Some n) o) (λ p. p < n + length (c ∷ cs))
+    step : (b : Bool) (o : Option ℕ) → IfSome o (λ p. p < suc n + length xs) → IfSome (cond b (Some n) o) (λ p. p < n + length (x ∷ xs))
     step true o h = omega arith
     step false o h = later o h
 
+pub name_within : {X : Type 0} (segs : X → List (List ℕ)) (xs : List X) (name : List ℕ) → IfSome (named_from segs 0 xs name) (λ p. p < length xs)
+name_within segs xs name = rw zero-add at (from_below segs 0 xs name)
+
 pub named_exists : (P : Plan) (name : List ℕ) → IfSome (cpu_named P name) (λ p. p < length P.cpus)
-named_exists P name = rw zero-add at (from_below 0 P.cpus name)
+named_exists P name = name_within segs_of P.cpus name

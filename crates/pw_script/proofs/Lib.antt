@@ -10,6 +10,7 @@ pub mod Making
 pub mod Naming
 pub mod Noticing
 pub mod Orders
+pub mod Pathed
 pub mod Printed
 pub mod Shorts
 pub mod Spacing

@@ -1,5 +1,5 @@
 -- One request, or one line, more.
-use Rattle.std.proofs.Common.{◌≡◌, ◌∙◌, ◌+◌, ℕ, suc, List, [], ◌∷◌, ◌++◌, refl, sym, ap, Ok, Err, Option, Some, None, append_assoc, add-one, length, arith}
+use Rattle.std.proofs.Common.{◌≡◌, ◌∙◌, ◌+◌, ℕ, suc, List, [], ◌∷◌, ◌++◌, refl, sym, ap, Ok, Err, Option, Some, None, Result, append_assoc, add-one, length, arith}
 use Rattle.pw_plan.specs.declared.plan.Plan.{Plan}
 use Rattle.pw_plan.specs.declared.request.Request.{Request}
 use Rattle.pw_model.specs.declared.state.State.{State}
@@ -14,7 +14,7 @@ use Rattle.pw_script.specs.Forms.{wish_in}
 use Rattle.pw_script.specs.Lines.{lines_of}
 use Rattle.std.proofs.lemmas.List.{map-append}
 use Rattle.pw_notice.specs.Limits.{made_from}
-use Rattle.pw_script.specs.Reading.{AreLines, IsAsked, first_bad, requests_of}
+use Rattle.pw_script.specs.Reading.{AreLines, IsAsked, first_bad_by, requests_of}
 
 pub made_more : (P : Plan) (S : State) (qs : List Request) (q : Request) → made_from P S (qs ++ q ∷ []) ≡ after P (made_from P S qs) q
 made_more P S [] q = refl
@@ -32,11 +32,13 @@ pub lines_none : (P : Plan) (c : IdleTable → ℕ → ℕ → ℕ → Type 0) (
     → AreLines P c m before n texts more
 lines_none P c m before n texts text rest more e w h = rw (e, w) h
 
-pub bad_past : (P : Plan) (n : ℕ) (texts : List (List ℕ)) (text : List ℕ) (rest : List (List ℕ)) (wish : Option Wish) → texts ≡ text ∷ rest → wish_in P text ≡ Ok wish → first_bad P n texts ≡ first_bad P (suc n) rest
-bad_past P n texts text rest wish e w = rw (e, w) refl
+pub bad_past : {W : Type 0} (asks : List ℕ → Result (Option W) LineWhy) (n : ℕ) (texts : List (List ℕ)) (text : List ℕ) (rest : List (List ℕ)) (wish : Option W)
+    → texts ≡ text ∷ rest → asks text ≡ Ok wish → first_bad_by asks n texts ≡ first_bad_by asks (suc n) rest
+bad_past asks n texts text rest wish e w = rw (e, w) refl
 
-pub bad_here : (P : Plan) (n : ℕ) (texts : List (List ℕ)) (text : List ℕ) (rest : List (List ℕ)) (why : LineWhy) → texts ≡ text ∷ rest → wish_in P text ≡ Err why → first_bad P n texts ≡ Some (faults.Line n why)
-bad_here P n texts text rest why e w = rw (e, w) refl
+pub bad_here : {W : Type 0} (asks : List ℕ → Result (Option W) LineWhy) (n : ℕ) (texts : List (List ℕ)) (text : List ℕ) (rest : List (List ℕ)) (why : LineWhy)
+    → texts ≡ text ∷ rest → asks text ≡ Err why → first_bad_by asks n texts ≡ Some (faults.Line n why)
+bad_here asks n texts text rest why e w = rw (e, w) refl
 
 -- # A loop over the lines, one line further
 

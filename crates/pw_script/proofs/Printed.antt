@@ -21,12 +21,12 @@ use Rattle.pw_model.specs.declared.entry.HistoryEntry.{HistoryEntry}
 use Rattle.pw_model.specs.declared.state.State.{State}
 use Rattle.pw_model.specs.States.{opening}
 use Rattle.pw_model.specs.History.{StatesRequest, after_entry, request_of}
-use Rattle.pw_model.specs.Operations.{opening_ops}
 use Rattle.pw_model.proofs.Staying.{request_has}
 use Rattle.pw_text.specs.Lines.{text_of}
-use Rattle.pw_script.specs.HistoryText.{entry_lines, history_lines, history_text, lines_from, op_line, opening_lines, path_of, request_line, request_words}
-use Rattle.pw_script.specs.inner.Behind.{behind, head_text}
-use Rattle.pw_script.specs.inner.Openings.{opened, opening_line}
+use Rattle.pw_script.specs.Behind.{asked_head, behind}
+use Rattle.pw_script.specs.HistoryText.{asked_line, entry_lines, history_lines, history_text, lines_from, op_line, opened_lines, opening_lines, path_of, request_line, request_words}
+use Rattle.pw_script.specs.Openings.{opened, opening_line}
+use Rattle.pw_script.specs.inner.Behind.{head_text}
 use Rattle.pw_script.proofs.Spacing.{behind_append, behind_more, spaced_behind}
 
 -- # How many operations a request has
@@ -74,32 +74,30 @@ entry_has P e is = request_has P e is
 
 -- # Entries
 
-abbrev op_text : Plan → Op → List ℕ
-op_text P o = op_line P o ++ (10 ∷ [])
-
 four : (a b r s o : List ℕ) → (a ++ (b ++ (r ++ s))) ++ o ≡ a ++ (b ++ (r ++ (s ++ o)))
 four a b r s o = append_assoc a (b ++ (r ++ s)) o ∙ ap (λ (l : List ℕ). a ++ l) (append_assoc b (r ++ s) o ∙ ap (λ (l : List ℕ). b ++ l) (append_assoc r s o))
 
-line_parts : (P : Plan) (n : ℕ) (q : Request) (out : List (List ℕ))
-    → request_line P n (cpu_of q) q out ≡ head_text P n q ++ behind out
-line_parts P n q out =
-    let p = cpu_of q in
+pub asked_parts : (n : ℕ) (path : List ℕ) (asked out : List (List ℕ)) → asked_line n path asked out ≡ asked_head n path asked ++ behind out
+asked_parts n path asked out =
     let arrow : behind (codes "->" ∷ out) ≡ codes " ->" ++ behind out = behind_more (codes "->") out in
-    let asked : behind (request_words q ++ (codes "->" ∷ out)) ≡ behind (request_words q) ++ (codes " ->" ++ behind out) = behind_append (request_words q) (codes "->" ∷ out) ∙ ap (λ (l : List ℕ). behind (request_words q) ++ l) arrow in
-    let named : behind (path_of P p ∷ (request_words q ++ (codes "->" ∷ out))) ≡ (32 ∷ path_of P p) ++ (behind (request_words q) ++ (codes " ->" ++ behind out)) = behind_more (path_of P p) (request_words q ++ (codes "->" ∷ out)) ∙ ap (λ (l : List ℕ). (32 ∷ path_of P p) ++ l) asked in
-    spaced_behind (decimal n) (path_of P p ∷ (request_words q ++ (codes "->" ∷ out))) ∙ ap (λ (l : List ℕ). decimal n ++ l) named
-    ∙ sym (four (decimal n) (32 ∷ path_of P p) (behind (request_words q)) (codes " ->") (behind out))
+    let words : behind (asked ++ (codes "->" ∷ out)) ≡ behind asked ++ (codes " ->" ++ behind out) = behind_append asked (codes "->" ∷ out) ∙ ap (λ (l : List ℕ). behind asked ++ l) arrow in
+    let named : behind (path ∷ (asked ++ (codes "->" ∷ out))) ≡ (32 ∷ path) ++ (behind asked ++ (codes " ->" ++ behind out)) = behind_more path (asked ++ (codes "->" ∷ out)) ∙ ap (λ (l : List ℕ). (32 ∷ path) ++ l) words in
+    spaced_behind (decimal n) (path ∷ (asked ++ (codes "->" ∷ out))) ∙ ap (λ (l : List ℕ). decimal n ++ l) named
+    ∙ sym (four (decimal n) (32 ∷ path) (behind asked) (codes " ->") (behind out))
+
+pub asked_text : (line : Op → List ℕ) (n : ℕ) (path : List ℕ) (asked out : List (List ℕ)) (ops : List Op)
+    → asked_head n path asked ++ (behind out ++ (10 ∷ flat_map (λ o. line o ++ (10 ∷ [])) ops)) ≡ text_of (asked_line n path asked out ∷ map line ops)
+asked_text line n path asked out ops =
+    let head = asked_head n path asked in
+    let done = flat_map (λ (o : Op). line o ++ (10 ∷ [])) ops in
+    sym (append_assoc head (behind out) (10 ∷ done))
+    ∙ ap (λ (l : List ℕ). l ++ (10 ∷ done)) (sym (asked_parts n path asked out))
+    ∙ sym (append_assoc (asked_line n path asked out) (10 ∷ []) done)
+    ∙ ap (λ (l : List ℕ). (asked_line n path asked out ++ (10 ∷ [])) ++ l) (sym (flat_map-map (λ (l : List ℕ). l ++ (10 ∷ [])) line ops))
 
 pub entry_text : (P : Plan) (n : ℕ) (q : Request) (out : List (List ℕ)) (ops : List Op)
-    → head_text P n q ++ (behind out ++ (10 ∷ flat_map (op_text P) ops)) ≡ text_of (request_line P n (cpu_of q) q out ∷ map (op_line P) ops)
-entry_text P n q out ops =
-    let p = cpu_of q in
-    let head = head_text P n q in
-    let done = flat_map (op_text P) ops in
-    sym (append_assoc head (behind out) (10 ∷ done))
-    ∙ ap (λ (l : List ℕ). l ++ (10 ∷ done)) (sym (line_parts P n q out))
-    ∙ sym (append_assoc (request_line P n p q out) (10 ∷ []) done)
-    ∙ ap (λ (l : List ℕ). (request_line P n p q out ++ (10 ∷ [])) ++ l) (sym (flat_map-map (λ (l : List ℕ). l ++ (10 ∷ [])) (op_line P) ops))
+    → head_text P n q ++ (behind out ++ (10 ∷ flat_map (λ o. op_line P o ++ (10 ∷ [])) ops)) ≡ text_of (request_line P n (cpu_of q) q out ∷ map (op_line P) ops)
+entry_text P n q out ops = asked_text (op_line P) n (path_of P (cpu_of q)) (request_words q) out ops
 
 pub lines_step : (P : Plan) (S : State) (n : ℕ) (es : List HistoryEntry) (d : HistoryEntry) → 1 ≤ length es
     → text_of (entry_lines P S n (get_or es 0 d)) ++ text_of (lines_from P (after_entry P S (get_or es 0 d)) (n + 1) (drop 1 es)) ≡ text_of (lines_from P S n es)
@@ -116,14 +114,14 @@ others_state P (e ∷ es) le h = h.1
 
 -- # The opening, and the whole
 
-pub opening_text : (P : Plan) (fault : Option ℕ)
-    → opening_line fault ++ (10 ∷ flat_map (op_text P) (opened fault (opening_ops P))) ≡ text_of (opening_lines P fault)
-opening_text P None = ap (λ (l : List ℕ). codes "open" ++ (10 ∷ l)) (sym (flat_map-map (λ (l : List ℕ). l ++ (10 ∷ [])) (op_line P) (opening_ops P)))
-opening_text P (Some k) =
-    let ops = take k (opening_ops P) in
+pub opened_text : (line : Op → List ℕ) (ops : List Op) (fault : Option ℕ)
+    → opening_line fault ++ (10 ∷ flat_map (λ o. line o ++ (10 ∷ [])) (opened fault ops)) ≡ text_of (opened_lines line ops fault)
+opened_text line ops None = ap (λ (l : List ℕ). codes "open" ++ (10 ∷ l)) (sym (flat_map-map (λ (l : List ℕ). l ++ (10 ∷ [])) line ops))
+opened_text line ops (Some k) =
+    let done = take k ops in
     let lead = codes "open -> register fault after " in
-    ap (λ (l : List ℕ). (lead ++ decimal k) ++ (10 ∷ l)) (sym (flat_map-map (λ (l : List ℕ). l ++ (10 ∷ [])) (op_line P) ops))
-    ∙ sym (append_assoc (lead ++ decimal k) (10 ∷ []) (text_of (map (op_line P) ops)))
+    ap (λ (l : List ℕ). (lead ++ decimal k) ++ (10 ∷ l)) (sym (flat_map-map (λ (l : List ℕ). l ++ (10 ∷ [])) line done))
+    ∙ sym (append_assoc (lead ++ decimal k) (10 ∷ []) (text_of (map line done)))
 
 pub whole_text : (P : Plan) (fault : Option ℕ) (es : List HistoryEntry)
     → text_of (opening_lines P fault) ++ (text_of (lines_from P (opening P) 1 es) ++ []) ≡ history_text P fault es

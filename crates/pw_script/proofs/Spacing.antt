@@ -7,7 +7,7 @@ use Rattle.std.proofs.lemmas.List.{append-nil, get_or_default}
 use Rattle.pw_text.proofs.Joined.{flat_map-in_parts, flat_map-take-suc}
 use Rattle.acpi_values.specs.declared.operation.Op.{Op}
 use Rattle.pw_text.specs.Lines.{spaced}
-use Rattle.pw_script.specs.inner.Behind.{behind}
+use Rattle.pw_script.specs.Behind.{behind}
 
 pub behind_more : (word : List ℕ) (words : List (List ℕ)) → behind (word ∷ words) ≡ (32 ∷ word) ++ behind words
 behind_more word [] = ap (λ (l : List ℕ). 32 ∷ l) (sym (append-nil word))

@@ -52,6 +52,12 @@ abbrev pub name_of : List ℕ → Option (List ℕ)
 name_of [] = None
 name_of (b ∷ bytes) = if b == 92 then names_of (parts 46 bytes) else None
 
+-- the first element whose segments are these, one behind the other; the elements are numbered from n on. A segment has
+-- four bytes, so that one behind the other they tell the path
+abbrev pub named_from : {X : Type 0} → (X → List (List ℕ)) → ℕ → List X → List ℕ → Option ℕ
+named_from segs n [] name = None
+named_from segs n (x ∷ xs) name = if bytes_eq (joined (segs x)) name then Some n else named_from segs (suc n) xs name
+
 -- # Forms
 
 abbrev pub verb_alone : List ℕ → Option Verb
@@ -92,11 +98,13 @@ said _ = None
 
 -- # What a form asks for
 
--- the first processor with these segments; the processors are numbered from n on. A segment has four bytes, so that
--- one behind the other they tell the path
+-- the segments of a processor's path
+abbrev pub segs_of : CpuParts → List (List ℕ)
+segs_of c = c.path.segs
+
+-- the first processor with these segments; the processors are numbered from n on
 abbrev pub cpu_from : ℕ → List CpuParts → List ℕ → Option ℕ
-cpu_from n [] name = None
-cpu_from n (c ∷ cs) name = if bytes_eq (joined c.path.segs) name then Some n else cpu_from (suc n) cs name
+cpu_from n cs name = named_from segs_of n cs name
 
 abbrev pub cpu_named : Plan → List ℕ → Option ℕ
 cpu_named P name = cpu_from 0 P.cpus name

@@ -66,13 +66,21 @@ register_text r = 91 ∷ (join_with_byte 44 (decimal r.space ∷ decimal r.width
 
 -- # Lines
 
+-- an operation, where each processor has this path
+abbrev pub op_line_by : (ℕ → List ℕ) → Op → List ℕ
+op_line_by path (Set p r v) = spaced ([] ∷ [] ∷ codes "set" ∷ path p ∷ register_text r ∷ hex_text v ∷ [])
+op_line_by path (Enter p composite) = spaced ([] ∷ [] ∷ codes "enter" ∷ path p ∷ register_text composite.register ∷ [])
+
 abbrev pub op_line : Plan → Op → List ℕ
-op_line P (Set p r v) = spaced ([] ∷ [] ∷ codes "set" ∷ path_of P p ∷ register_text r ∷ hex_text v ∷ [])
-op_line P (Enter p composite) = spaced ([] ∷ [] ∷ codes "enter" ∷ path_of P p ∷ register_text composite.register ∷ [])
+op_line P = op_line_by (path_of P)
+
+-- entry n: the path of who asked, the words of what was asked, and those of what came of it
+abbrev pub asked_line : ℕ → List ℕ → List (List ℕ) → List (List ℕ) → List ℕ
+asked_line n path asked outcome = spaced (decimal n ∷ path ∷ (asked ++ (codes "->" ∷ outcome)))
 
 -- request n, of processor p, and what came of it
 abbrev pub request_line : Plan → ℕ → ℕ → Request → List (List ℕ) → List ℕ
-request_line P n p q outcome = spaced (decimal n ∷ path_of P p ∷ (request_words q ++ (codes "->" ∷ outcome)))
+request_line P n p q outcome = asked_line n (path_of P p) (request_words q) outcome
 
 -- entry n, asked in state S, and the operations that were done
 abbrev pub entry_lines : Plan → State → ℕ → HistoryEntry → List (List ℕ)
@@ -83,10 +91,13 @@ abbrev pub lines_from : Plan → State → ℕ → List HistoryEntry → List (L
 lines_from P S n [] = []
 lines_from P S n (e ∷ es) = entry_lines P S n e ++ lines_from P (after_entry P S e) (n + 1) es
 
--- the opening, which a fault may end after k operations
+-- an opening of these operations, each with its line, which a fault may end after k of them
+abbrev pub opened_lines : (Op → List ℕ) → List Op → Option ℕ → List (List ℕ)
+opened_lines line ops None = codes "open" ∷ map line ops
+opened_lines line ops (Some k) = spaced (codes "open" ∷ codes "->" ∷ fault_words k) ∷ map line (take k ops)
+
 abbrev pub opening_lines : Plan → Option ℕ → List (List ℕ)
-opening_lines P None = codes "open" ∷ map (op_line P) (opening_ops P)
-opening_lines P (Some k) = spaced (codes "open" ∷ codes "->" ∷ fault_words k) ∷ map (op_line P) (take k (opening_ops P))
+opening_lines P fault = opened_lines (op_line P) (opening_ops P) fault
 
 unfoldable pub history_lines : Plan → Option ℕ → List HistoryEntry → List (List ℕ)
 history_lines P fault es = opening_lines P fault ++ lines_from P (opening P) 1 es

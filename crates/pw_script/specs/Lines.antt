@@ -27,3 +27,8 @@ lines_of bytes = ended (parts 10 bytes)
 -- The fields of a line: what spaces separate.
 abbrev pub fields_of : List ℕ → List (List ℕ)
 fields_of line = filter (λ field. not (is_empty field)) (parts 32 line)
+
+-- The field that was found first, empty where there is none, and those of the rest.
+abbrev pub onto_fields : List ℕ → List (List ℕ) → List (List ℕ)
+onto_fields [] fields = []
+onto_fields (b ∷ field) fields = (b ∷ field) ∷ fields

@@ -49,14 +49,17 @@ asker (Notice p kind value) = p
 
 -- # Lines one after the other, numbered from n on
 
-abbrev pub fault_or : ℕ → Result (Option Wish) LineWhy → Option ScriptFault → Option ScriptFault
+abbrev pub fault_or : {W : Type 0} → ℕ → Result (Option W) LineWhy → Option ScriptFault → Option ScriptFault
 fault_or n (Err why) rest = Some (faults.Line n why)
 fault_or n (Ok wish) rest = rest
 
--- the first bad line
+-- the first bad line, by what a line asks for
+abbrev pub first_bad_by : {W : Type 0} → (List ℕ → Result (Option W) LineWhy) → ℕ → List (List ℕ) → Option ScriptFault
+first_bad_by asks n [] = None
+first_bad_by asks n (text ∷ texts) = fault_or n (asks text) (first_bad_by asks (suc n) texts)
+
 abbrev pub first_bad : Plan → ℕ → List (List ℕ) → Option ScriptFault
-first_bad P n [] = None
-first_bad P n (text ∷ texts) = fault_or n (wish_in P text) (first_bad P (suc n) texts)
+first_bad P = first_bad_by (wish_in P)
 
 abbrev pub requests_of : List line → List Request
 requests_of lines = map (λ l. l.request) lines
@@ -76,12 +79,23 @@ AreLines P chooses answers before n (text ∷ texts) lines = GivesLines P choose
 
 -- # The whole script
 
--- why bytes are no script, whatever is answered: too many bytes or lines, or a bad line
-abbrev pub refused : Plan → List ℕ → Option ScriptFault
-refused P bytes =
+-- why bytes are too long: they are too many, or have too many lines
+abbrev pub too_long : List ℕ → Option ScriptFault
+too_long bytes =
     if nat_lt MOST_BYTES (length bytes) then Some (faults.TooLong MOST_BYTES) else
     if nat_lt MOST_LINES (length (lines_of bytes)) then Some (faults.TooLong MOST_LINES) else
-    first_bad P 1 (lines_of bytes)
+    None
+
+-- why bytes are no script, by what a line asks for: too many bytes or lines, or a bad line
+abbrev pub refused_by : {W : Type 0} → (List ℕ → Result (Option W) LineWhy) → List ℕ → Option ScriptFault
+refused_by asks bytes =
+    if nat_lt MOST_BYTES (length bytes) then Some (faults.TooLong MOST_BYTES) else
+    if nat_lt MOST_LINES (length (lines_of bytes)) then Some (faults.TooLong MOST_LINES) else
+    first_bad_by asks 1 (lines_of bytes)
+
+-- why bytes are no script, whatever is answered
+abbrev pub refused : Plan → List ℕ → Option ScriptFault
+refused P = refused_by (wish_in P)
 
 -- how many operations there are at most, with those at the start
 abbrev pub operations : Plan → List line → ℕ

@@ -1,7 +1,7 @@
 ghost use Rattle.std.specs.Prelude.{◌≡◌, ◌<◌, length, bytes_eq, IfOk, IfSome};
 ghost use Rattle.pw_script.specs.Lines.{fields_of};
-ghost use Rattle.pw_script.specs.Forms.{said, verb_alone, verb_of_one, verb_of_two, wish_by, wish_in};
-ghost use Rattle.pw_script.specs.inner.Looking.{LeadsTo};
+ghost use Rattle.pw_script.specs.Forms.{said, segs_of, verb_alone, verb_of_one, verb_of_two, wish_by, wish_in};
+ghost use Rattle.pw_script.specs.Looking.{LeadsTo};
 ghost use Rattle.pw_script.specs.Reading.{asker};
 
 use crate::index::find;
@@ -149,7 +149,7 @@ pub(crate) fn wish_in(
     name: &mut Vec<u8>,
     line: &[u8],
 ) -> Result<Result<Option<Wish>, LineWhy>, Memory>
-    requires { LeadsTo 0 plan.now.cpus index.now }
+    requires { LeadsTo segs_of 0 plan.now.cpus index.now }
     ensures wish { IfOk result (λ wish. wish ≡ wish_in plan.now line.now) }
     ensures exists { IfOk result (λ wish. IfOk wish (λ some. IfSome some (λ w. asker w < length plan.now.cpus))) }
 {

@@ -1,6 +1,8 @@
-ghost use Rattle.std.specs.Prelude.{◌≡◌, ◌∷◌, ◌<◌, ◌≤◌, length, IfSome, IfNone, option_copied};
-ghost use Rattle.pw_script.specs.Lines.{parts, lines_of, fields_of, without_return};
-ghost use Rattle.pw_script.specs.inner.Cuts.{parts_after, onto_fields};
+ghost use Rattle.std.specs.Prelude.{◌≡◌, ◌==◌, ◌∷◌, ◌<◌, ◌≤◌, length, IfSome, IfNone, option_copied};
+ghost use Rattle.std.specs.List.{count_by};
+ghost use Rattle.pw_script.specs.Lines.{parts, lines_of, fields_of, onto_fields, without_return};
+ghost use Rattle.pw_script.specs.inner.Cuts.{parts_after};
+ghost use Rattle.pw_script.specs.inner.Feeds.{is_open};
 
 /// The part up to the first byte that is `at`, and what stands behind that byte.
 pub(crate) fn cut(bytes: &[u8], at: u8) -> (&[u8], Option<&[u8]>)
@@ -27,7 +29,7 @@ fn without_return(line: &[u8]) -> &[u8]
 }
 
 /// The first line, and what stands behind its ending.
-pub(crate) fn first_line(bytes: &[u8]) -> (&[u8], &[u8])
+pub fn first_line(bytes: &[u8]) -> (&[u8], &[u8])
     requires { 0 < length bytes.now }
     ensures value { lines_of bytes.now ≡ result.0.now ∷ lines_of result.1.now }
     ensures shorter { length result.1.now < length bytes.now }
@@ -40,7 +42,7 @@ pub(crate) fn first_line(bytes: &[u8]) -> (&[u8], &[u8])
 }
 
 /// The first field, empty where there is none, and what stands behind it.
-pub(crate) fn first_field(line: &[u8]) -> (&[u8], &[u8])
+pub fn first_field(line: &[u8]) -> (&[u8], &[u8])
     ensures { fields_of line.now ≡ onto_fields result.0.now (fields_of result.1.now) }
 {
     let mut left = line;
@@ -56,4 +58,32 @@ pub(crate) fn first_field(line: &[u8]) -> (&[u8], &[u8])
             }
         }
     }
+}
+
+/// How many line feeds there are.
+fn count_feeds(bytes: &[u8]) -> usize
+    ensures { result ≡ count_by (λ b. b == 10) bytes.now }
+{
+    let mut feeds = 0;
+    for byte in bytes {
+        if *byte == b'\n' {
+            feeds += 1;
+        }
+    }
+    feeds
+}
+
+/// Whether the last line has no line feed.
+fn is_open(bytes: &[u8]) -> bool
+    ensures { result ≡ is_open bytes.now }
+{
+    !bytes.is_empty() && bytes[bytes.len() - 1] != b'\n'
+}
+
+/// How many lines there are.
+pub fn count_lines(bytes: &[u8]) -> usize
+    ensures { result ≡ length (lines_of bytes.now) }
+{
+    let feeds = count_feeds(bytes);
+    if is_open(bytes) { feeds + 1 } else { feeds }
 }

@@ -70,7 +70,7 @@ fn put_segments(name: &mut Vec<u8>, text: &[u8]) -> Result<bool, Memory>
 }
 
 /// Writes the segments of a path over the name. False where it is no path.
-pub(crate) fn write_name(name: &mut Vec<u8>, text: &[u8]) -> Result<bool, Memory>
+pub fn write_name(name: &mut Vec<u8>, text: &[u8]) -> Result<bool, Memory>
     ensures { IfOk result (λ ok. name_of text.now ≡ (if ok then Some name.new.items else None)) }
 {
     name.clear();

@@ -1,11 +1,9 @@
-ghost use Rattle.std.specs.Prelude.{◌≡◌, ◌∷◌, ◌++◌, map, IfOk, OnOk};
-ghost use Rattle.std.specs.List.{flat_map};
-ghost use Rattle.pw_text.specs.Text.{place_text, segments_text};
+ghost use Rattle.std.specs.Prelude.{◌≡◌, IfOk};
 ghost use Rattle.pw_script.specs.HistoryText.{path_of};
 ghost use Rattle.pw_script.specs.inner.Paths.{paths_of};
 
-use aml_data::Seg;
-use pw_base::{List, Memory};
+use crate::paths::PathTexts;
+use pw_base::Memory;
 use pw_plan::Plan;
 use std::alloc::Global;
 use std::marker::Model;
@@ -14,7 +12,7 @@ use std::marker::Model;
 #[derive(Drop)]
 pub(crate) struct NamedPlan<'a> {
     plan: &'a Plan,
-    paths: List<List<u8>>,
+    paths: PathTexts,
 }
 
 impl<'a> Model for NamedPlan<'a> {
@@ -47,71 +45,30 @@ impl<'a> NamedPlan<'a> {
         self.plan
     }
 
+    /// The texts of the processors' paths, by their numbers.
+    pub(crate) fn paths(&self) -> &PathTexts
+        ensures { result.now ≡ paths_of self.now }
+    {
+        &self.paths
+    }
+
     /// The text of a processor's path.
-    #[tactic(auto, unfolding(pw_plan::specs::Parts::no_cpu))]
+    #[tactic(auto, using(crate::proofs::Pathed::path_text))]
     #[inline]
     pub(crate) fn path(&self, cpu: u32) -> &[u8]
         ensures { result.now ≡ path_of self.now cpu }
     {
-        match self.paths.as_slice().get(cpu as usize) {
-            None => b"\\",
-            Some(text) => text.as_slice(),
-        }
+        self.paths.path(cpu)
     }
 }
 
 /// The texts of the processors' paths, by their numbers.
-fn path_texts(alloc: Global, plan: &Plan) -> Result<List<List<u8>>, Memory>
+fn path_texts(alloc: Global, plan: &Plan) -> Result<PathTexts, Memory>
     ensures { IfOk result (λ paths. paths ≡ paths_of plan.now) }
 {
-    let mut paths = Vec::new(alloc);
+    let mut paths = PathTexts::new(alloc);
     for cpu in plan.cpus.as_slice() {
-        paths.push(place_bytes(alloc, cpu.path.segs.as_slice())?)?;
+        paths.push(alloc, cpu.path.segs.as_slice())?;
     }
-    Ok(List::from_vec(paths))
-}
-
-/// The text of the place of these segments, counted from the root.
-fn place_bytes(alloc: Global, segs: &[Seg]) -> Result<List<u8>, Memory>
-    ensures { IfOk result (λ text. text ≡ place_text segs.now) }
-{
-    let mut text = Vec::new(alloc);
-    text.push(b'\\')?;
-    push_segments(&mut text, segs)?;
-    Ok(List::from_vec(text))
-}
-
-fn push_segments(text: &mut Vec<u8>, segs: &[Seg]) -> Result<(), Memory>
-    ensures { OnOk result (text.new.items ≡ text.old.items ++ segments_text segs.now) }
-{
-    match segs.split_first() {
-        None => Ok(()),
-        Some((first, rest)) => {
-            push_seg(text, *first)?;
-            push_behind_dots(text, rest)
-        }
-    }
-}
-
-fn push_behind_dots(text: &mut Vec<u8>, segs: &[Seg]) -> Result<(), Memory>
-    ensures { OnOk result (text.new.items ≡ text.old.items ++ flat_map (λ seg. 46 ∷ seg) segs.now) }
-{
-    for seg in segs {
-        push_behind_dot(text, *seg)?;
-    }
-    Ok(())
-}
-
-fn push_behind_dot(text: &mut Vec<u8>, seg: Seg) -> Result<(), Memory>
-    ensures { OnOk result (text.new.items ≡ text.old.items ++ 46 ∷ seg) }
-{
-    text.push(b'.')?;
-    push_seg(text, seg)
-}
-
-fn push_seg(text: &mut Vec<u8>, seg: Seg) -> Result<(), Memory>
-    ensures { OnOk result (text.new.items ≡ text.old.items ++ seg) }
-{
-    text.extend_from_slice(&seg.bytes())?;
-    Ok(())
+    Ok(paths)
 }

@@ -3,7 +3,7 @@ ghost use Rattle.std.specs.List.{list_all};
 ghost use Rattle.pw_script.specs.Forms.{is_digit, is_number, number_of};
 
 /// Whether it is one or more digits.
-pub(crate) fn is_number(text: &[u8]) -> bool
+pub fn is_number(text: &[u8]) -> bool
     ensures { result ≡ is_number text.now }
 {
     let mut left = text;
@@ -17,7 +17,7 @@ pub(crate) fn is_number(text: &[u8]) -> bool
 }
 
 /// The number that the digits say, unless it is above 4294967295. No digits say 0.
-pub(crate) fn value_of(text: &[u8]) -> Option<u32>
+pub fn value_of(text: &[u8]) -> Option<u32>
     requires { list_all is_digit text.now ≡ true }
     ensures { result ≡ number_of text.now }
 {

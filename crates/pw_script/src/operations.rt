@@ -2,26 +2,27 @@ ghost use Rattle.std.specs.Prelude.{◌∷◌, ◌++◌, [], codes, decimal, is_
 ghost use Rattle.std.specs.List.{flat_map, join_with_byte};
 ghost use Rattle.pw_text.specs.Puts.{PutsText};
 ghost use Rattle.pw_text.specs.Text.{hex_text};
-ghost use Rattle.pw_script.specs.HistoryText.{op_line, path_of, register_text};
+ghost use Rattle.pw_script.specs.HistoryText.{op_line_by, register_text};
+ghost use Rattle.pw_script.specs.Paths.{text_at};
 
 use crate::digits::{put_decimal, put_hexadecimal};
-use crate::named::NamedPlan;
+use crate::paths::PathTexts;
 use crate::words::put_labelled;
 use acpi_values::{Op, Register};
 use pw_base::{Failed, Sink};
 use pw_text::Page;
 
-/// Puts a processor's path.
-pub(crate) fn put_cpu<K: Sink>(
+/// Puts the path at a number.
+pub fn put_path<K: Sink>(
     page: &mut Page,
     sink: &mut K,
-    plan: &NamedPlan,
+    paths: &PathTexts,
     cpu: u32,
 ) -> Result<(), Failed>
     ensures { PutsText K.Sink sink.old sink.new page.old page.new
-        (path_of plan.now cpu) (is_ok result) }
+        (text_at paths.now cpu) (is_ok result) }
 {
-    page.put(sink, plan.path(cpu))
+    page.put(sink, paths.path(cpu))
 }
 
 /// Puts a number in hexadecimal behind a text.
@@ -65,16 +66,16 @@ fn put_register<K: Sink>(page: &mut Page, sink: &mut K, register: &Register) -> 
 fn put_target<K: Sink>(
     page: &mut Page,
     sink: &mut K,
-    plan: &NamedPlan,
+    paths: &PathTexts,
     verb: &[u8],
     cpu: u32,
     register: &Register,
 ) -> Result<(), Failed>
     ensures { PutsText K.Sink sink.old sink.new page.old page.new
-        (verb.now ++ (path_of plan.now cpu ++ (32 ∷ register_text register.now))) (is_ok result) }
+        (verb.now ++ (text_at paths.now cpu ++ (32 ∷ register_text register.now))) (is_ok result) }
 {
     page.put(sink, verb)?;
-    put_cpu(page, sink, plan, cpu)?;
+    put_path(page, sink, paths, cpu)?;
     page.put(sink, b" ")?;
     put_register(page, sink, register)
 }
@@ -83,34 +84,34 @@ fn put_target<K: Sink>(
 fn put_set<K: Sink>(
     page: &mut Page,
     sink: &mut K,
-    plan: &NamedPlan,
+    paths: &PathTexts,
     cpu: u32,
     register: &Register,
     value: u64,
 ) -> Result<(), Failed>
     ensures { PutsText K.Sink sink.old sink.new page.old page.new
-        ((codes "  set " ++ (path_of plan.now cpu ++ (32 ∷ register_text register.now))) ++ (32 ∷ hex_text value))
+        ((codes "  set " ++ (text_at paths.now cpu ++ (32 ∷ register_text register.now))) ++ (32 ∷ hex_text value))
         (is_ok result) }
 {
-    put_target(page, sink, plan, b"  set ", cpu, register)?;
+    put_target(page, sink, paths, b"  set ", cpu, register)?;
     put_labelled_hex(page, sink, b" ", value)
 }
 
 /// Puts an operation, without a line feed.
-fn put_op<K: Sink>(page: &mut Page, sink: &mut K, plan: &NamedPlan, op: &Op) -> Result<(), Failed>
+fn put_op<K: Sink>(page: &mut Page, sink: &mut K, paths: &PathTexts, op: &Op) -> Result<(), Failed>
     ensures { PutsText K.Sink sink.old sink.new page.old page.new
-        (op_line plan.now op.now) (is_ok result) }
+        (op_line_by (text_at paths.now) op.now) (is_ok result) }
 {
     match op {
         Op::Set {
             cpu,
             register,
             value,
-        } => put_set(page, sink, plan, *cpu, register, *value),
+        } => put_set(page, sink, paths, *cpu, register, *value),
         Op::Enter { cpu, composite } => put_target(
             page,
             sink,
-            plan,
+            paths,
             b"  enter ",
             *cpu,
             &composite.register,
@@ -122,28 +123,28 @@ fn put_op<K: Sink>(page: &mut Page, sink: &mut K, plan: &NamedPlan, op: &Op) -> 
 fn put_op_line<K: Sink>(
     page: &mut Page,
     sink: &mut K,
-    plan: &NamedPlan,
+    paths: &PathTexts,
     op: &Op,
 ) -> Result<(), Failed>
     ensures { PutsText K.Sink sink.old sink.new page.old page.new
-        (op_line plan.now op.now ++ (10 ∷ [])) (is_ok result) }
+        (op_line_by (text_at paths.now) op.now ++ (10 ∷ [])) (is_ok result) }
 {
-    put_op(page, sink, plan, op)?;
+    put_op(page, sink, paths, op)?;
     page.put(sink, b"\n")
 }
 
-/// Puts the lines of operations, in order.
-pub(crate) fn put_ops<K: Sink>(
+/// Puts the lines of operations, in order, with the paths at their processors' numbers.
+pub fn put_ops<K: Sink>(
     page: &mut Page,
     sink: &mut K,
-    plan: &NamedPlan,
+    paths: &PathTexts,
     ops: &[Op],
 ) -> Result<(), Failed>
     ensures { PutsText K.Sink sink.old sink.new page.old page.new
-        (flat_map (λ o. op_line plan.now o ++ (10 ∷ [])) ops.now) (is_ok result) }
+        (flat_map (λ o. op_line_by (text_at paths.now) o ++ (10 ∷ [])) ops.now) (is_ok result) }
 {
     for op in ops {
-        put_op_line(page, sink, plan, op)?;
+        put_op_line(page, sink, paths, op)?;
     }
     Ok(())
 }

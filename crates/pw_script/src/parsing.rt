@@ -1,6 +1,5 @@
-ghost use Rattle.std.specs.Prelude.{◌≡◌, ◌≢◌, ◌<◌, ◌≤◌, ◌==◌, ◌⊎◌, [], List as list, None, Some};
+ghost use Rattle.std.specs.Prelude.{◌≡◌, ◌≢◌, ◌<◌, ◌≤◌, ◌⊎◌, [], List as list, None, Some};
 ghost use Rattle.std.specs.Prelude.{length, nat_lt, IfOk, IfErr};
-ghost use Rattle.std.specs.List.{count_by};
 ghost use Rattle.pw_governor.specs.Choices.{Chooses};
 ghost use Rattle.pw_notice.specs.Handling.{Handles};
 ghost use Rattle.pw_notice.specs.Limits.{AnsweredBy};
@@ -10,13 +9,12 @@ ghost use Rattle.pw_script.specs.declared.script.ScriptFault.TheVariants as faul
 ghost use Rattle.pw_script.specs.Lines.{lines_of};
 ghost use Rattle.pw_script.specs.Asking.{CanBeAsked};
 ghost use Rattle.pw_script.specs.Reading.{AreLines, Fit, LawfullyChosen, first_bad, operations, refused};
-ghost use Rattle.pw_script.specs.Reading.{requests_of};
-ghost use Rattle.pw_script.specs.inner.Feeds.{is_open};
+ghost use Rattle.pw_script.specs.Reading.{requests_of, too_long};
 
 use crate::asking::request_of;
 use crate::index::index_of;
 use crate::line::wish_in;
-use crate::lines::first_line;
+use crate::lines::{count_lines, first_line};
 use crate::script::{Line, MOST_BYTES, MOST_LINES, MOST_OPERATIONS, Script, ScriptFault};
 use acpi_values::IdleTable;
 use pw_base::List;
@@ -26,32 +24,17 @@ use pw_notice::Handlers;
 use pw_plan::Plan;
 use std::alloc::Global;
 
-/// How many line feeds there are.
-fn count_feeds(bytes: &[u8]) -> usize
-    ensures { result ≡ count_by (λ b. b == 10) bytes.now }
+/// The fault of bytes of which there are too many, or that have too many lines.
+pub fn too_long(bytes: &[u8]) -> Option<ScriptFault>
+    ensures { result ≡ too_long bytes.now }
 {
-    let mut feeds = 0;
-    for byte in bytes {
-        if *byte == b'\n' {
-            feeds += 1;
-        }
+    if bytes.len() > MOST_BYTES as usize {
+        return Some(ScriptFault::TooLong { bound: MOST_BYTES });
     }
-    feeds
-}
-
-/// Whether the last line has no line feed.
-fn is_open(bytes: &[u8]) -> bool
-    ensures { result ≡ is_open bytes.now }
-{
-    !bytes.is_empty() && bytes[bytes.len() - 1] != b'\n'
-}
-
-/// How many lines there are.
-fn count_lines(bytes: &[u8]) -> usize
-    ensures { result ≡ length (lines_of bytes.now) }
-{
-    let feeds = count_feeds(bytes);
-    if is_open(bytes) { feeds + 1 } else { feeds }
+    if count_lines(bytes) > MOST_LINES as usize {
+        return Some(ScriptFault::TooLong { bound: MOST_LINES });
+    }
+    None
 }
 
 /// Whether the lines have too many operations, with those at the start.
@@ -147,11 +130,8 @@ pub fn parse<
         (AnsweredBy (P.post handlers.now.0) (T.post handlers.now.1)) [] 1 (lines_of bytes.now) lines
         × (MOST_OPERATIONS < operations plan.now lines))) }
 {
-    if bytes.len() > MOST_BYTES as usize {
-        return Err(ScriptFault::TooLong { bound: MOST_BYTES });
-    }
-    if count_lines(bytes) > MOST_LINES as usize {
-        return Err(ScriptFault::TooLong { bound: MOST_LINES });
+    if let Some(fault) = too_long(bytes) {
+        return Err(fault);
     }
     let lines = read_lines(alloc, bytes, plan, governor, handlers)?;
     if has_too_many(plan, lines.as_slice()) {

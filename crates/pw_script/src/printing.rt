@@ -1,6 +1,6 @@
-ghost use Rattle.std.specs.Prelude.{◌≡◌, ◌≤◌, ◌∷◌, ◌++◌, [], is_ok, map, take, true};
+ghost use Rattle.std.specs.Prelude.{◌≡◌, ◌≤◌, ◌∷◌, ◌++◌, [], is_ok, map, true};
 ghost use Rattle.std.specs.Prelude.{Err, OnOk};
-ghost use Rattle.std.specs.List.{AllByRecursion};
+ghost use Rattle.std.specs.List.{AllByRecursion, flat_map};
 ghost use Rattle.pw_base.specs.Outside.{GrewByPart, KeepsSink, Rose};
 ghost use Rattle.pw_text.specs.Lines.{text_of};
 ghost use Rattle.pw_text.specs.Puts.{PutsText};
@@ -12,12 +12,11 @@ ghost use Rattle.pw_model.specs.Operations.{opening_ops};
 ghost use Rattle.pw_script.specs.HistoryText.{entry_lines, fault_words, history_text, lines_from, op_line};
 ghost use Rattle.pw_script.specs.HistoryText.{opening_lines, reply_words, request_line};
 ghost use Rattle.pw_script.specs.inner.Behind.{head_text};
-ghost use Rattle.pw_script.specs.inner.Openings.{opened, opening_line};
 
-use crate::digits::put_decimal;
 use crate::named::NamedPlan;
-use crate::operations::{put_cpu, put_ops};
-use crate::words::{put_fault, put_labelled, put_reply, put_request};
+use crate::openings::{first_of, put_opened};
+use crate::operations::put_ops;
+use crate::words::{put_asker, put_fault, put_reply, put_request};
 use acpi_values::Op;
 use pw_base::{Failed, Sink};
 use pw_core::{Ops, State};
@@ -28,6 +27,19 @@ use std::alloc::Global;
 
 /// How many operations a request has at most.
 const MOST_OF_A_REQUEST: u32 = 256;
+
+/// Puts the lines of operations that were done, in order.
+fn put_done<K: Sink>(
+    page: &mut Page,
+    sink: &mut K,
+    plan: &NamedPlan,
+    ops: &[Op],
+) -> Result<(), Failed>
+    ensures { PutsText K.Sink sink.old sink.new page.old page.new
+        (flat_map (λ o. op_line plan.now o ++ (10 ∷ [])) ops.now) (is_ok result) }
+{
+    put_ops(page, sink, plan.paths(), ops)
+}
 
 /// Puts the number of an entry, and what was asked.
 fn put_head<K: Sink>(
@@ -40,9 +52,7 @@ fn put_head<K: Sink>(
     ensures { PutsText K.Sink sink.old sink.new page.old page.new
         (head_text plan.now number request) (is_ok result) }
 {
-    put_decimal(page, sink, number)?;
-    page.put(sink, b" ")?;
-    put_cpu(page, sink, plan, request.cpu())?;
+    put_asker(page, sink, number, plan.path(request.cpu()))?;
     put_request(page, sink, request)?;
     page.put(sink, b" ->")
 }
@@ -64,7 +74,7 @@ fn put_answered<K: Sink>(
     put_head(page, sink, plan, number, request)?;
     put_reply(page, sink, reply)?;
     page.put(sink, b"\n")?;
-    put_ops(page, sink, plan, ops)
+    put_done(page, sink, plan, ops)
 }
 
 /// Puts the lines of an entry that a fault ended after so many operations.
@@ -84,7 +94,7 @@ fn put_faulted<K: Sink>(
     put_head(page, sink, plan, number, request)?;
     put_fault(page, sink, done)?;
     page.put(sink, b"\n")?;
-    put_ops(page, sink, plan, ops)
+    put_done(page, sink, plan, ops)
 }
 
 /// Puts the lines of an entry that was asked in this state, and leaves the state after it.
@@ -126,15 +136,6 @@ fn put_entry<K: Sink>(
     )
 }
 
-/// So many first operations, all where there are fewer.
-#[tactic(auto, using(crate::proofs::Spacing::take_of_least))]
-fn first_of(ops: &[Op], count: u32) -> &[Op]
-    ensures { result.now ≡ take count ops.now }
-{
-    let count = (count as usize).min(ops.len());
-    &ops[..count]
-}
-
 /// Puts the lines of entries, numbered from 1, of which the first was asked in this state.
 fn put_entries<K: Sink>(
     page: &mut Page,
@@ -160,27 +161,6 @@ fn put_entries<K: Sink>(
     Ok(())
 }
 
-/// Puts that the plan was opened, or how many operations were done when a register failed.
-fn put_open_line<K: Sink>(page: &mut Page, sink: &mut K, opening: Option<u32>) -> Result<(), Failed>
-    ensures { PutsText K.Sink sink.old sink.new page.old page.new
-        (opening_line opening) (is_ok result) }
-{
-    match opening {
-        None => page.put(sink, b"open"),
-        Some(done) => put_labelled(page, sink, b"open -> register fault after ", done),
-    }
-}
-
-/// The operations at the start that were done.
-fn opened(ops: &[Op], opening: Option<u32>) -> &[Op]
-    ensures { result.now ≡ opened opening ops.now }
-{
-    match opening {
-        None => ops,
-        Some(done) => first_of(ops, done),
-    }
-}
-
 /// Puts the lines of the opening, which has these operations.
 fn put_opening<K: Sink>(
     page: &mut Page,
@@ -193,9 +173,7 @@ fn put_opening<K: Sink>(
     ensures { PutsText K.Sink sink.old sink.new page.old page.new
         (text_of (opening_lines plan.now opening)) (is_ok result) }
 {
-    put_open_line(page, sink, opening)?;
-    page.put(sink, b"\n")?;
-    put_ops(page, sink, plan, opened(ops, opening))
+    put_opened(page, sink, plan.paths(), opening, ops)
 }
 
 /// Puts the text of a history, by way of a page, and hands all of it to the sink.

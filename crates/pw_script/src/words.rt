@@ -2,7 +2,7 @@ ghost use Rattle.std.specs.Prelude.{◌≡◌, ◌∷◌, ◌++◌, codes, decim
 ghost use Rattle.std.specs.List.{flat_map};
 ghost use Rattle.pw_text.specs.Puts.{PutsText};
 ghost use Rattle.pw_script.specs.HistoryText.{fault_words, reply_words, request_words, tolerance_words};
-ghost use Rattle.pw_script.specs.inner.Behind.{behind};
+ghost use Rattle.pw_script.specs.Behind.{behind};
 
 use crate::digits::put_decimal;
 use acpi_values::Chain;
@@ -15,7 +15,7 @@ use pw_text::Page;
 const ANY_LATENCY: u32 = u32::MAX;
 
 /// Puts a number behind a text.
-pub(crate) fn put_labelled<K: Sink>(
+pub fn put_labelled<K: Sink>(
     page: &mut Page,
     sink: &mut K,
     label: &[u8],
@@ -26,6 +26,21 @@ pub(crate) fn put_labelled<K: Sink>(
 {
     page.put(sink, label)?;
     put_decimal(page, sink, u64::from(number))
+}
+
+/// Puts the number of an entry, and the path of who asked.
+pub fn put_asker<K: Sink>(
+    page: &mut Page,
+    sink: &mut K,
+    number: u64,
+    path: &[u8],
+) -> Result<(), Failed>
+    ensures { PutsText K.Sink sink.old sink.new page.old page.new
+        (decimal number ++ 32 ∷ path.now) (is_ok result) }
+{
+    put_decimal(page, sink, number)?;
+    page.put(sink, b" ")?;
+    page.put(sink, path)
 }
 
 /// Puts the tolerance of an idle request, unless it bears any latency.
@@ -135,7 +150,7 @@ pub(crate) fn put_reply<K: Sink>(page: &mut Page, sink: &mut K, reply: Reply) ->
 }
 
 /// Puts that a register failed after so many operations.
-pub(crate) fn put_fault<K: Sink>(page: &mut Page, sink: &mut K, done: u32) -> Result<(), Failed>
+pub fn put_fault<K: Sink>(page: &mut Page, sink: &mut K, done: u32) -> Result<(), Failed>
     ensures { PutsText K.Sink sink.old sink.new page.old page.new
         (behind (fault_words done)) (is_ok result) }
 {

@@ -5,8 +5,3 @@ use Rattle.pw_script.specs.Lines.{parts}
 abbrev pub parts_after : ℕ → List ℕ → Option (List ℕ) → List (List ℕ)
 parts_after b part None = part ∷ []
 parts_after b part (Some rest) = part ∷ parts b rest
-
--- the field that was found first, empty where there is none, and those of the rest
-abbrev pub onto_fields : List ℕ → List (List ℕ) → List (List ℕ)
-onto_fields [] fields = []
-onto_fields (b ∷ field) fields = (b ∷ field) ∷ fields

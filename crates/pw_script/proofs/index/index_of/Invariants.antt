@@ -1,11 +1,12 @@
 use Rattle.std.proofs.Common.{◌≤◌, drop, length}
-use Rattle.pw_script.specs.inner.Looking.{LeadsTo}
+use Rattle.pw_script.specs.Forms.{segs_of}
+use Rattle.pw_script.specs.Looking.{LeadsTo}
 use Rattle.pw_script.proofs.index.index_of.Given as goal
 
 abbrev pub invariant-loop-number : goal.invariant-loop-number
 invariant-loop-number l = record {
   within : l.number ≤ length l.plan.cpus;
-  leads : LeadsTo l.number (drop l.number l.plan.cpus) l.index;
+  leads : LeadsTo segs_of l.number (drop l.number l.plan.cpus) l.index;
 }
 
 abbrev pub decreases-loop-number : goal.decreases-loop-number

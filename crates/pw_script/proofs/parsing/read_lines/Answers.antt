@@ -23,7 +23,7 @@ loop-left-preserved g c =
     let is = c.in_ok-push-in-Ok-Some.ensures.items in
     record {
       reads = reads_on P chooses moves (AreLines P chooses moves [] 1 (lines_of c.args.bytes.now)) items _ c.loop-left.number _ _ _ c.in-Ok-Some.wish q e w (c.request_of-request.ensures.asked (requests_of items) c.loop-left.invariant.state) is c.loop-left.invariant.reads;
-      bad = rw add-one (sym (bad_past P (suc c.loop-left.number) _ _ _ (Some c.in-Ok-Some.wish) e w) ∙ c.loop-left.invariant.bad);
+      bad = rw add-one (sym (bad_past (wish_in P) (suc c.loop-left.number) _ _ _ (Some c.in-Ok-Some.wish) e w) ∙ c.loop-left.invariant.bad);
       room = omega arith;
       state = made_on P (opening P) c.loop-left.state c.apply.new.self items _ _ q is c.loop-left.invariant.state c.apply.ensures.after;
       fits = c.apply.ensures.fits;
@@ -41,7 +41,7 @@ loop-left-preserved-in-Ok-None g c =
     let w : wish_in P c.first_line.result.0.now ≡ Ok None = grind (arith, common_steps, c.in_ok-why.ensures.wish, c.in-Ok-None.is, c.in-Ok-None.field-0-is) in
     record {
       reads = past_on P chooses moves (AreLines P chooses moves [] 1 (lines_of c.args.bytes.now)) items c.loop-left.number _ _ _ e w c.loop-left.invariant.reads;
-      bad = rw add-one (sym (bad_past P (suc c.loop-left.number) _ _ _ None e w) ∙ c.loop-left.invariant.bad);
+      bad = rw add-one (sym (bad_past (wish_in P) (suc c.loop-left.number) _ _ _ None e w) ∙ c.loop-left.invariant.bad);
       room = omega arith;
       state = c.loop-left.invariant.state;
       fits = c.loop-left.invariant.fits;

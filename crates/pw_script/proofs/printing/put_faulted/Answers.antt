@@ -13,4 +13,4 @@ pub returns-in_err-put : goal.returns-in_err-put
 returns-in_err-put g c = PutsText-as _ (entry_text c.args.plan.now c.args.number c.args.request (fault_words c.args.done) c.args.ops.now) (PutsText-then c.in_ok-put_head.ensures (PutsText-then c.in_ok-put_fault.ensures (PutsText-stop _ c.from_residual-in_err-put.result c.from_residual-in_err-put.ensures.0 c.in_err-put.ensures)))
 
 pub returns : goal.returns
-returns g c = PutsText-as _ (entry_text c.args.plan.now c.args.number c.args.request (fault_words c.args.done) c.args.ops.now) (PutsText-then c.in_ok-put_head.ensures (PutsText-then c.in_ok-put_fault.ensures (PutsText-then c.in_ok-put.ensures c.put_ops.ensures)))
+returns g c = PutsText-as _ (entry_text c.args.plan.now c.args.number c.args.request (fault_words c.args.done) c.args.ops.now) (PutsText-then c.in_ok-put_head.ensures (PutsText-then c.in_ok-put_fault.ensures (PutsText-then c.in_ok-put.ensures c.put_done.ensures)))

@@ -1,17 +1,25 @@
-use Rattle.pw_text.proofs.Putting.{PutsText-stop, PutsText-then}
+use Rattle.std.proofs.Common.{◌∷◌, ◌++◌, append_assoc, codes, decimal}
+use Rattle.pw_text.proofs.Putting.{PutsText-as, PutsText-stop, PutsText-then}
+use Rattle.pw_plan.specs.Requests.{cpu_of}
+use Rattle.pw_script.specs.Behind.{behind}
+use Rattle.pw_script.specs.HistoryText.{path_of, request_words}
 use Rattle.pw_script.proofs.printing.put_head.Goals as goal
 
-pub returns-in_err-put_decimal : goal.returns-in_err-put_decimal
-returns-in_err-put_decimal g c = PutsText-stop _ c.from_residual.result c.from_residual.ensures.0 c.in_err-put_decimal.ensures
-
-pub returns-in_err-put : goal.returns-in_err-put
-returns-in_err-put g c = PutsText-then c.in_ok-put_decimal.ensures (PutsText-stop _ c.from_residual-in_err-put.result c.from_residual-in_err-put.ensures.0 c.in_err-put.ensures)
-
-pub returns-in_err-put_cpu : goal.returns-in_err-put_cpu
-returns-in_err-put_cpu g c = PutsText-then c.in_ok-put_decimal.ensures (PutsText-then c.in_ok-put.ensures (PutsText-stop _ c.from_residual-in_err-put_cpu.result c.from_residual-in_err-put_cpu.ensures.0 (rw c.cpu.ensures at c.in_err-put_cpu.ensures)))
+pub returns-in_err-put_asker : goal.returns-in_err-put_asker
+returns-in_err-put_asker g c =
+    let path = path_of c.args.plan.now (cpu_of c.args.request) in
+    PutsText-as _ (append_assoc (decimal c.args.number) (32 ∷ path) (behind (request_words c.args.request) ++ codes " ->"))
+    (PutsText-stop _ c.from_residual.result c.from_residual.ensures.0 (rw (c.path.ensures, c.cpu.ensures) at c.in_err-put_asker.ensures))
 
 pub returns-in_err-put_request : goal.returns-in_err-put_request
-returns-in_err-put_request g c = PutsText-then c.in_ok-put_decimal.ensures (PutsText-then c.in_ok-put.ensures (PutsText-then (rw c.cpu.ensures at c.in_ok-put_cpu.ensures) (PutsText-stop _ c.from_residual-in_err-put_request.result c.from_residual-in_err-put_request.ensures.0 c.in_err-put_request.ensures)))
+returns-in_err-put_request g c =
+    let path = path_of c.args.plan.now (cpu_of c.args.request) in
+    PutsText-as _ (append_assoc (decimal c.args.number) (32 ∷ path) (behind (request_words c.args.request) ++ codes " ->"))
+    (PutsText-then (rw (c.path.ensures, c.cpu.ensures) at c.in_ok-put_asker.ensures)
+    (PutsText-stop _ c.from_residual-in_err-put_request.result c.from_residual-in_err-put_request.ensures.0 c.in_err-put_request.ensures))
 
 pub returns : goal.returns
-returns g c = PutsText-then c.in_ok-put_decimal.ensures (PutsText-then c.in_ok-put.ensures (PutsText-then (rw c.cpu.ensures at c.in_ok-put_cpu.ensures) (PutsText-then c.in_ok-put_request.ensures c.put-2.ensures)))
+returns g c =
+    let path = path_of c.args.plan.now (cpu_of c.args.request) in
+    PutsText-as _ (append_assoc (decimal c.args.number) (32 ∷ path) (behind (request_words c.args.request) ++ codes " ->"))
+    (PutsText-then (rw (c.path.ensures, c.cpu.ensures) at c.in_ok-put_asker.ensures) (PutsText-then c.in_ok-put_request.ensures c.put.ensures))

@@ -3,7 +3,7 @@ use Rattle.std.proofs.lemmas.Result.{on_ok_weaker}
 use Rattle.std.specs.List.{flat_map}
 use Rattle.pw_text.specs.Text.{segments_text}
 use Rattle.pw_text.proofs.Joined.{join-flat_map}
-use Rattle.pw_script.proofs.named.push_segments.Goals as goal
+use Rattle.pw_script.proofs.paths.push_segments.Goals as goal
 
 pub returns-in_ok-push_seg-in-Some : goal.returns-in_ok-push_seg-in-Some
 returns-in_ok-push_seg-in-Some c =
