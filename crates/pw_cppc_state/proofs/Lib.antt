@@ -1,0 +1,10 @@
+pub mod Accepting
+pub mod Appending
+pub mod Members
+pub mod Counting
+pub mod Software
+pub mod Starting
+pub mod Gathering
+pub mod Staying
+pub mod Joining
+pub mod Bounds
