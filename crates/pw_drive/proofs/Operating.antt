@@ -5,7 +5,7 @@ use Rattle.std.specs.Result.{result_err}
 use Rattle.acpi_values.specs.declared.operation.Op.{Op}
 use Rattle.pw_base.specs.Outside.{Rose}
 use Rattle.pw_regs.specs.Seen.{RegistersSeen}
-use Rattle.pw_drive.specs.inner.Running.{Did}
+use Rattle.pw_drive.specs.Doing.{Did}
 
 -- nothing was done
 pub did_nothing : (s : RegistersSeen) → Did 0 [] None s s

@@ -7,4 +7,5 @@ mod operating;
 mod recording;
 
 pub use journal::Journal;
+pub use operating::operate_all;
 pub use pw_model::HistoryEntry;

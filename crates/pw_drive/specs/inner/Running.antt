@@ -1,8 +1,7 @@
 -- A serial run as it goes: what each request does, and what the lines have come to.
-use Rattle.std.specs.Prelude.{◌≡◌, ◌≤◌, ◌+◌, ◌++◌, ◌∷◌, [], ℕ, true, List, take, Option, Some, None, is_some}
+use Rattle.std.specs.Prelude.{◌≡◌, ◌++◌, ◌∷◌, [], ℕ, List, take, Option, Some, None}
 use Rattle.std.specs.List.{AllByRecursion, sum_by}
 use Rattle.acpi_values.specs.declared.operation.Op.{Op}
-use Rattle.pw_base.specs.Outside.{Rose}
 use Rattle.pw_plan.specs.declared.plan.Plan.{Plan}
 use Rattle.pw_plan.specs.declared.request.Request.{Request}
 use Rattle.pw_plan.specs.Requests.{ops_bound}
@@ -10,21 +9,13 @@ use Rattle.pw_model.specs.declared.entry.HistoryEntry.{HistoryEntry}
 use Rattle.pw_model.specs.History.{Faultless, Legal, entry_ops, fault_at, history_ops, replay, request_of}
 use Rattle.pw_model.specs.Operations.{opening_ops}
 use Rattle.pw_parts.specs.Locality.{AllTold}
-use Rattle.pw_regs.specs.Seen.{Operated, RegistersSeen}
+use Rattle.pw_regs.specs.Seen.{RegistersSeen}
 use Rattle.pw_script.specs.declared.script.Line.{Line as line}
 use Rattle.pw_script.specs.Lawful.{IsSerialRunOf}
 use Rattle.pw_script.specs.Reading.{requests_of}
 use Rattle.pw_drive.specs.declared.records.Records.{Records}
+use Rattle.pw_drive.specs.Doing.{Did}
 use Rattle.pw_drive.specs.Keeping.{AreRecordsOf, part_in}
-
--- These operations, at most so many, were done on registers, up to one that failed where there is one.
-pub record Did (most : ℕ) (ops : List Op) (stopped : Option ℕ) (old new : RegistersSeen) : Type 0 where
-  pub same_told : new.told ≡ old.told
-  pub count : old.faults ≤ new.faults
-  pub log : Operated old new ops
-  pub fault : is_some stopped ≡ true → Rose old.faults new.faults
-  pub promised : most ≤ old.room → (stopped ≡ None) × (new.faults ≡ old.faults)
-  pub left : old.room ≤ new.room + most
 
 -- the operations at the start: of those that a fault ended the ones before it
 abbrev pub opening_done : Plan → Option ℕ → List Op
