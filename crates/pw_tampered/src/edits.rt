@@ -1,7 +1,6 @@
+use crate::said::put_said;
 use crate::trial::left_alone;
-use pw_audit::{Audit, AuditFault, audit};
 use pw_machines::{u32_at, word_at};
-use pw_played::machine_of;
 use std::alloc::Global;
 use std::str::from_utf8;
 
@@ -75,30 +74,11 @@ fn edited(alloc: Global, text: &str, edits: &str) -> Option<Vec<u8>> {
     Some(out)
 }
 
-/// What the audit says.
-fn put_answer(text: &mut String, answer: &Result<Audit, AuditFault>) -> Option<()> {
-    match answer {
-        Ok(shown) => {
-            let count = shown.entries.as_slice().len();
-            match shown.opening {
-                None => write!(text, "lawful entries {count}").ok(),
-                Some(done) => write!(text, "opening ended after {done}, entries {count}").ok(),
-            }
-        }
-        Err(AuditFault::Wrong { line }) => write!(text, "line {line}").ok(),
-        Err(AuditFault::Unfinished { lines }) => write!(text, "ends after {lines} lines").ok(),
-        Err(AuditFault::TooLong { bound }) => write!(text, "longer than {bound}").ok(),
-        Err(AuditFault::Memory) => None,
-    }
-}
-
 /// What the audit says of the text of one caller, after these edits.
 pub fn tell_edited(alloc: Global, edits: &str) -> Option<String> {
     let played = left_alone(alloc, CONTAINERS)?;
     let changed = edited(alloc, from_utf8(played.text.written()).ok()?, edits)?;
-    let (plan, script) = machine_of(alloc, CONTAINERS)?;
-    let answer = audit(alloc, &plan, &script, changed.as_slice());
     let mut text = String::new(alloc);
-    put_answer(&mut text, &answer)?;
+    put_said(&mut text, alloc, CONTAINERS, changed.as_slice())?;
     Some(text)
 }

@@ -18,38 +18,53 @@
 //!
 //! So nothing stays whole, and but for the last change it is known where the audit stops. Of the text of one caller
 //! it is printed how often it stops there, how often at a later line, and how often the text ends too early; of the text of
-//! workers, which is another each time, how often it is accepted. Of 2 containers all lines are changed, all bytes of one
-//! caller's text and each seventh of the workers'. Of 8, whose text is fifteen times as long, each 97th line, and each 97th byte of
-//! one caller's text and each 997th of the workers'.
+//! workers, which is another each time, how often it is accepted. The gate gives a program two minutes. So of 2 containers all
+//! lines are changed, all bytes of one caller's text and each seventh of the workers'. Of 8, whose text is fifteen times as long,
+//! each 97th line, and each 97th byte of one caller's text and each 997th of the workers'.
+//!
+//! Words ask for more. `N alone` and `N workers` print the text of N containers that one caller or workers leave.
+//! `N FILE FIRST STEP` takes the text in a file, and changes of its lines and of its bytes the one at FIRST, counted
+//! from 0, and behind it each of STEP; it prints what the audit says of the text as it is, and the counts of each change. With
+//! FIRST from 0 to STEP - 1 so many runs change all. `tools/tamper` makes them side by side, and adds up what they print.
 //!
 //! `data/edits.txt` lists texts that are changed by hand.
 #![tactic(auto)]
 
+mod asked;
 mod changes;
 mod edits;
 mod lines;
+mod picked;
+mod said;
 mod seen;
 mod trial;
 
+use asked::{print_left, print_part, words};
 use edits::tell_edited;
+use picked::Picked;
 use std::alloc::Global;
+use std::process::ExitCode;
 use std::sync::Wait;
 use std::thread::Threads;
 use std::{fs, io};
 use trial::{put_alone, put_workers};
 
+const USAGE: &str =
+    "usage: pw_tampered; pw_tampered N alone|workers; pw_tampered N FILE FIRST STEP, FIRST below STEP";
+
 /// What is told of the machines that are generated: which lines and bytes are changed, each of so many.
 fn generated<R: Threads + Wait + Sync>(rt: &R, alloc: Global) -> Option<String> {
     let mut text = String::new(alloc);
-    put_alone(&mut text, alloc, 2, 1, 1)?;
-    put_workers(rt, &mut text, alloc, 2, 1, 7)?;
-    put_alone(&mut text, alloc, 8, 97, 97)?;
-    put_workers(rt, &mut text, alloc, 8, 97, 997)?;
+    put_alone(&mut text, alloc, 2, Picked::each(1), Picked::each(1))?;
+    put_workers(rt, &mut text, alloc, 2, Picked::each(1), Picked::each(7))?;
+    put_alone(&mut text, alloc, 8, Picked::each(97), Picked::each(97))?;
+    put_workers(rt, &mut text, alloc, 8, Picked::each(97), Picked::each(997))?;
     Some(text)
 }
 
-fn main(rt: HostRuntime) -> io::Result<()> {
-    let list = fs::read_to_string(&rt, "edits.txt")?;
+/// Prints what is told of the texts of the list and of those that are generated.
+fn print_all<T: Threads + Wait + Sync>(rt: &HostRuntime, threads: &T) -> io::Result<()> {
+    let list = fs::read_to_string(rt, "edits.txt")?;
     for block in list.as_str().split("\ncase ").skip(1) {
         let (name, lines) = block.split_once("\n").unwrap_or((block, ""));
         match tell_edited(rt.alloc(), lines) {
@@ -57,8 +72,31 @@ fn main(rt: HostRuntime) -> io::Result<()> {
             Some(told) => println!(rt; "{name} -> {told}")?,
         }
     }
-    match generated(&rt, rt.alloc()) {
+    match generated(threads, rt.alloc()) {
         None => println!(rt; "want of memory"),
         Some(told) => print!(rt; "{told}"),
     }
+}
+
+/// Does what words ask for.
+fn obey<T: Threads + Wait + Sync>(rt: &HostRuntime, threads: &T, words: &[String]) -> Option<()> {
+    match words {
+        [] => print_all(rt, threads).ok(),
+        [n, way] => print_left(rt, threads, n.as_str().parse::<u32>().ok()?, way.as_str()),
+        [n, file, first, step] => {
+            let picked = Picked::read(first.as_str(), step.as_str())?;
+            print_part(rt, n.as_str().parse::<u32>().ok()?, file.as_str(), picked)
+        }
+        _ => None,
+    }
+}
+
+fn main(rt: HostRuntime) -> ExitCode {
+    if let Ok(words) = words(&rt) {
+        if obey(&rt, &rt, words.as_slice()).is_some() {
+            return ExitCode::SUCCESS;
+        }
+    }
+    let _ = eprintln!(rt; "{USAGE}; or no file, want of memory, or an output that fails");
+    ExitCode::FAILURE
 }

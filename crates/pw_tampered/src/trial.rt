@@ -1,5 +1,7 @@
 use crate::changes::{Change, Turn, change_line, line_of, turned};
 use crate::lines::lines_of;
+use crate::picked::Picked;
+use crate::said::put_said;
 use crate::seen::Seen;
 use pw_audit::audit;
 use pw_base::OpenGate;
@@ -22,10 +24,10 @@ struct Tampered<'a> {
     script: &'a Script,
     text: &'a str,
     lines: &'a [&'a str],
-    /// Of so many lines one is changed.
-    line_step: usize,
-    /// Of so many bytes one is changed.
-    byte_step: usize,
+    /// The lines that are changed.
+    picked_lines: Picked,
+    /// The bytes that are changed.
+    picked_bytes: Picked,
 }
 
 /// What is seen of each kind of change.
@@ -44,7 +46,7 @@ impl<'a> Tampered<'a> {
         let mut seen = Seen::none();
         let mut changed = Vec::new(alloc);
         for at in 0..self.lines.len().saturating_sub(last) {
-            if at.checked_rem(self.line_step) == Some(0) {
+            if self.picked_lines.has(at) {
                 change_line(&mut changed, self.lines, change, at)?;
                 let answer = audit(alloc, self.plan, self.script, changed.as_slice());
                 seen.note(&answer, line_of(change, at));
@@ -60,7 +62,7 @@ impl<'a> Tampered<'a> {
         let mut changed = Vec::new(alloc);
         changed.extend_from_slice(self.text.as_bytes()).ok()?;
         for (at, byte) in self.text.as_bytes().iter().enumerate() {
-            if at.checked_rem(self.byte_step) == Some(0) {
+            if self.picked_bytes.has(at) {
                 *changed.get_mut(at)? = turned(turn, *byte);
                 let answer = audit(alloc, self.plan, self.script, changed.as_slice());
                 seen.note(&answer, line);
@@ -121,7 +123,7 @@ pub fn left_alone(alloc: Global, containers: u32) -> Option<Played> {
 }
 
 /// What workers leave of it.
-fn left_by_workers<R: Threads + Wait + Sync>(
+pub fn left_by_workers<R: Threads + Wait + Sync>(
     rt: &R,
     alloc: Global,
     containers: u32,
@@ -130,14 +132,14 @@ fn left_by_workers<R: Threads + Wait + Sync>(
     play(rt, alloc, plan, &script, registers(alloc)?, &OpenGate)
 }
 
-/// Changes the lines and bytes of a text, each of so many.
+/// Changes the lines and bytes of a text that are picked.
 fn tamper(
     alloc: Global,
     containers: u32,
     text: &str,
     lines: &[&str],
-    line_step: usize,
-    byte_step: usize,
+    picked_lines: Picked,
+    picked_bytes: Picked,
 ) -> Option<Verdicts> {
     let (plan, script) = machine_of(alloc, containers)?;
     let tampered = Tampered {
@@ -145,8 +147,8 @@ fn tamper(
         script: &script,
         text,
         lines,
-        line_step,
-        byte_step,
+        picked_lines,
+        picked_bytes,
     };
     tampered.change_all(alloc)
 }
@@ -156,8 +158,8 @@ pub fn put_alone(
     text: &mut String,
     alloc: Global,
     containers: u32,
-    line_step: usize,
-    byte_step: usize,
+    picked_lines: Picked,
+    picked_bytes: Picked,
 ) -> Option<()> {
     let played = left_alone(alloc, containers)?;
     let whole = from_utf8(played.text.written()).ok()?;
@@ -167,8 +169,8 @@ pub fn put_alone(
         containers,
         whole,
         lines.as_slice(),
-        line_step,
-        byte_step,
+        picked_lines,
+        picked_bytes,
     )?;
     let (count, size) = (lines.len(), whole.len());
     writeln!(
@@ -185,8 +187,8 @@ pub fn put_workers<R: Threads + Wait + Sync>(
     text: &mut String,
     alloc: Global,
     containers: u32,
-    line_step: usize,
-    byte_step: usize,
+    picked_lines: Picked,
+    picked_bytes: Picked,
 ) -> Option<()> {
     let played = left_by_workers(rt, alloc, containers)?;
     let whole = from_utf8(played.text.written()).ok()?;
@@ -196,8 +198,8 @@ pub fn put_workers<R: Threads + Wait + Sync>(
         containers,
         whole,
         lines.as_slice(),
-        line_step,
-        byte_step,
+        picked_lines,
+        picked_bytes,
     )?;
     let accepted = all.accepted();
     writeln!(
@@ -205,4 +207,21 @@ pub fn put_workers<R: Threads + Wait + Sync>(
         "{containers} containers, workers: {accepted} accepted"
     )
     .ok()
+}
+
+/// What is said of a text of the load, as it is and where the lines and bytes that are picked are changed.
+pub fn put_part(
+    text: &mut String,
+    alloc: Global,
+    containers: u32,
+    whole: &str,
+    picked: Picked,
+) -> Option<()> {
+    let lines = lines_of(alloc, whole)?;
+    let all = tamper(alloc, containers, whole, lines.as_slice(), picked, picked)?;
+    let (count, size) = (lines.len(), whole.len());
+    write!(text, "{count} lines, {size} bytes, ").ok()?;
+    put_said(text, alloc, containers, whole.as_bytes())?;
+    text.push_str("\n").ok()?;
+    all.put(text)
 }
