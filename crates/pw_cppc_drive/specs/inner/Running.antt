@@ -1,0 +1,45 @@
+-- A run as it goes: what each request does, and what the lines have come to.
+use Rattle.std.specs.Prelude.{◌≡◌, ◌++◌, ◌∷◌, [], ℕ, List, take, Option, Some, None}
+use Rattle.std.specs.List.{AllByRecursion, sum_by}
+use Rattle.acpi_values.specs.declared.operation.Op.{Op}
+use Rattle.pw_regs.specs.Seen.{RegistersSeen}
+use Rattle.pw_drive.specs.Doing.{Did}
+use Rattle.pw_cppc.specs.declared.plan.CppcPlan.{CppcPlan}
+use Rattle.pw_cppc.specs.declared.request.CppcRequest.{CppcRequest}
+use Rattle.pw_cppc.specs.Requests.{ops_bound}
+use Rattle.pw_cppc_state.specs.declared.entry.CppcEntry.{CppcEntry}
+use Rattle.pw_cppc_state.specs.declared.numbers.CppcNumbers.{CppcNumbers}
+use Rattle.pw_cppc_state.specs.History.{Faultless, IsSerialRunOf, Legal, entry_ops, fault_at, history_ops, replay, request_of}
+use Rattle.pw_cppc_state.specs.Operations.{opening_ops}
+use Rattle.pw_cppc_script.specs.declared.script.CppcLine.{CppcLine as line}
+use Rattle.pw_cppc_script.specs.Reading.{requests_of}
+
+-- the operations at the start: of those that a fault ended the ones before it
+abbrev pub opening_done : CppcPlan → Option ℕ → List Op
+opening_done P (Some k) = take k (opening_ops P)
+opening_done P None = opening_ops P
+
+-- The numbers are those that this history leaves, in which no register failed.
+pub record Stands (P : CppcPlan) (es : List CppcEntry) (S : CppcNumbers) : Type 0 where
+  pub legal : Legal P es
+  pub faultless : Faultless es
+  pub left : S ≡ replay P es
+
+-- A request was made: its entry follows, and its operations were done.
+pub record Turned (P : CppcPlan) (q : CppcRequest) (es fs : List CppcEntry) (old new : RegistersSeen) : Type 0 where
+  pub entry : CppcEntry
+  pub is : fs ≡ es ++ entry ∷ []
+  pub seat : entry.seat ≡ 0
+  pub request : request_of entry ≡ q
+  pub legal : Legal P fs
+  pub did : Did (ops_bound P q) (entry_ops P (replay P es) entry) (fault_at fs) old new
+
+-- how many operations the requests of lines have at most
+abbrev pub lines_bound : CppcPlan → List line → ℕ
+lines_bound P lines = sum_by (λ (l : line). ops_bound P l.request) lines
+
+-- The requests of lines were made in their order, up to a fault.
+pub record Ran (P : CppcPlan) (lines : List line) (es : List CppcEntry) (old new : RegistersSeen) : Type 0 where
+  pub serial : IsSerialRunOf P (requests_of lines) es
+  pub seats : AllByRecursion (λ (e : CppcEntry). e.seat ≡ 0) es
+  pub did : Did (lines_bound P lines) (history_ops P es) (fault_at es) old new

@@ -1,0 +1,4 @@
+pub mod Making
+pub mod Pathed
+pub mod Printed
+pub mod Refusing
