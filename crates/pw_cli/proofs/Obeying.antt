@@ -4,7 +4,7 @@ use Rattle.std.proofs.lemmas.Bool.{false≢true}
 use Rattle.pw_base.specs.Outside.{Rose}
 use Rattle.pw_base.specs.Seen.{FilesSeen}
 use Rattle.pw_words.specs.Words.{AskFor, Asked}
-use Rattle.pw_words.specs.Words.Asked.{on_blocks, drive, audit, generate}
+use Rattle.pw_words.specs.Words.Asked.{on_blocks, drive, audit, cppc, generate}
 use Rattle.pw_words.proofs.Asking.{few_counted}
 use Rattle.pw_ends.specs.Seen.{Seen, NoneFailed}
 use Rattle.pw_ends.specs.Ends.{Does, Work}
@@ -20,6 +20,9 @@ use Rattle.pw_trial.proofs.One.{trying_is_one}
 use Rattle.pw_trial.proofs.One.{does_or_failed as tries_or_failed}
 use Rattle.pw_review.proofs.One.{refusal_is_1_7_or_8, reviewing_is_one}
 use Rattle.pw_review.proofs.One.{never_unread as never_unread_audit}
+use Rattle.pw_cppc_runs.proofs.Ending.{does_or_failed as steers_or_failed}
+use Rattle.pw_cppc_runs.proofs.One.{steer_is_one}
+use Rattle.pw_cppc_runs.proofs.One.{never_unread as never_unread_cppc, refusal_is_1_or_7 as cppc_refusal}
 use Rattle.pw_cli.specs.Runs.{DrivesBy, IsSettled, IsWithin, Obeys, RegistersHeld, driving_by, names_in, work_of}
 use Rattle.pw_cli.proofs.Driving.{does_or_failed}
 use Rattle.pw_cli.proofs.Working.{does_or_failed as worked_or_failed}
@@ -31,6 +34,7 @@ pub within_of : (words : List (List ℕ)) (asked : Asked) → AskFor words asked
 within_of words (on_blocks task names) is = tt
 within_of words (drive way script names) is = tt
 within_of words (audit step script history names) is = tt
+within_of words (cppc serial script names) is = tt
 within_of words (generate n) is = (few_counted words n is).1
 
 judged_by : (serial step : Bool) (script : List ℕ) (names : List (List ℕ)) (before after : FilesSeen) → before.told ≡ true
@@ -44,6 +48,7 @@ pub command_is_judged : (asked : Asked) (before after : FilesSeen) → before.to
 command_is_judged (on_blocks task names) before after tells = judged_of _ (task_is_one task names before after tells)
 command_is_judged (drive way script names) before after tells = judged_by way.serial way.step script names before after tells
 command_is_judged (audit step script history names) before after tells = judged_of _ (reviewing_is_one step script history names before after tells)
+command_is_judged (cppc serial script names) before after tells = judged_of _ (steer_is_one script names before after tells)
 command_is_judged (generate n) before after tells = judged_of _ (trying_is_one n)
 
 one_by : (serial step : Bool) (script : List ℕ) (names : List (List ℕ)) (before after : FilesSeen) → before.told ≡ true → serial ≡ true
@@ -57,6 +62,7 @@ pub settled_is_one : (asked : Asked) (before after : FilesSeen) → before.told 
 settled_is_one (on_blocks task names) before after tells is = (task_is_one task names before after tells).texts
 settled_is_one (drive way script names) before after tells is = one_by way.serial way.step script names before after tells is
 settled_is_one (audit step script history names) before after tells is = (reviewing_is_one step script history names before after tells).texts
+settled_is_one (cppc serial script names) before after tells is = (steer_is_one script names before after tells).texts
 settled_is_one (generate n) before after tells is = (trying_is_one n).texts
 
 unread_by : (serial step : Bool) (script : List ℕ) (names : List (List ℕ)) (before after : FilesSeen) → NoneFailed (script ∷ names) before after
@@ -68,6 +74,7 @@ pub none_unread : (asked : Asked) (before after : FilesSeen) → NoneFailed (nam
 none_unread (on_blocks task names) before after none u = never_unread names before after none u
 none_unread (drive way script names) before after none u = unread_by way.serial way.step script names before after none u
 none_unread (audit step script history names) before after none u = never_unread_audit step script history names before after none u
+none_unread (cppc serial script names) before after none u = never_unread_cppc script names before after none u
 none_unread (generate n) before after none u = u
 
 -- a register failed, and without that there is a text, where the files tell
@@ -105,6 +112,11 @@ did_or_lost (drive way script names) within sealed before after status text line
       | inr f ↦ inr (record { five = f.five; unheld = λ held. held f.rose; made = f.made })
     ]
 did_or_lost (audit step script history names) within sealed before after status text line o = inl o.0
+did_or_lost (cppc serial script names) within sealed before after status text line o =
+    elim (steers_or_failed script names before after status text line o.0) [
+      | inl did ↦ inl did
+      | inr f ↦ inr (record { five = f.five; unheld = λ held. held f.rose; made = λ tells. (f.text, f.made) })
+    ]
 did_or_lost (generate n) within sealed before after status text line o =
     elim (tries_or_failed n within sealed before.outputs after.outputs before.regs after.regs status text line o) [
       | inl did ↦ inl did
@@ -127,6 +139,10 @@ refusal_status (drive way script names) before after status line refusal = elim 
   | inr seven ↦ inr (inl seven)
 ]
 refusal_status (audit step script history names) before after status line refusal = refusal_is_1_7_or_8 step script history names before status line refusal
+refusal_status (cppc serial script names) before after status line refusal = elim (cppc_refusal script names before status line refusal) [
+  | inl one ↦ inl one
+  | inr seven ↦ inr (inl seven)
+]
 refusal_status (generate n) before after status line refusal = absurd refusal
 
 neither : (s k : ℕ) → (s ≡ 1) ⊎ (s ≡ 7) ⊎ (s ≡ 8) → (k ≡ 2) ⊎ (k ≡ 5) → s ≡ k → ⊥

@@ -4,7 +4,7 @@ use Rattle.pw_plan.specs.declared.plan.Plan.{Plan}
 use Rattle.pw_model.specs.declared.entry.HistoryEntry.{HistoryEntry}
 use Rattle.pw_regs.specs.Seen.{RegistersSeen}
 use Rattle.pw_words.specs.Words.{Asked}
-use Rattle.pw_words.specs.Words.Asked.{on_blocks, drive, audit, generate}
+use Rattle.pw_words.specs.Words.Asked.{on_blocks, drive, audit, cppc, generate}
 use Rattle.pw_script.specs.declared.script.Line.{Line as line}
 use Rattle.pw_script.specs.declared.script.TheConstants.{MOST_OPERATIONS}
 use Rattle.pw_script.specs.Reading.{operations}
@@ -23,6 +23,7 @@ use Rattle.pw_trial.specs.Trials.{Generates, PrintsSummary}
 use Rattle.pw_trial.specs.Trials.Generates.{undone, opened}
 use Rattle.pw_trial.specs.Trials.Generates.{drove as tried}
 use Rattle.pw_trial.specs.Trials.PrintsSummary.{whole as all_summed, unwritten as part_summed, failed as never_summed, without_memory as unsummed}
+use Rattle.pw_cppc_runs.proofs.Spared.{steers_counts, steers_not_5}
 use Rattle.pw_cli.specs.Runs.{DrivesBy, EndsBy, IsSpared, Obeys, Ran, driving_by}
 use Rattle.pw_cli.specs.Runs.EndsBy.{misworded, commanded}
 use Rattle.pw_cli.specs.Runs.EndsBy.{without_memory as without_memory_of}
@@ -104,6 +105,10 @@ module _ (before after : Seen) (room : MOST_OPERATIONS ≤ before.regs.room) whe
   obeyed_spared (audit step script history names) sealed status text said o = record {
     status_is = does_not 5 (inr refl) (audit step script history names) before after status text said o.0;
     count = counted before after o.1;
+  }
+  obeyed_spared (cppc serial script names) sealed status text said o = record {
+    status_is = steers_not_5 script names before after room status text said o.0;
+    count = steers_counts script names before after room status text said o.0;
   }
   obeyed_spared (generate n) sealed status text said o =
       record { status_is = generates_not_5 n sealed status text said o; count = generates_counts n sealed status text said o }

@@ -6,7 +6,7 @@ use Rattle.pw_base.specs.Seen.{FilesSeen}
 use Rattle.pw_words.specs.declared.command.WordsFault.{WordsFault}
 use Rattle.pw_words.specs.declared.command.WordsFault.TheVariants.{Refused, Memory}
 use Rattle.pw_words.specs.Words.{AskFor, Asked, IsCommand}
-use Rattle.pw_words.specs.Words.Asked.{on_blocks, drive, audit, generate}
+use Rattle.pw_words.specs.Words.Asked.{on_blocks, drive, audit, cppc, generate}
 use Rattle.pw_ends.specs.Seen.{Seen, NoneFailed}
 use Rattle.pw_ends.specs.Ends.{Does, Ended, EndedSo, EndedWell, Work}
 use Rattle.pw_tasks.specs.Tasks.{work_on}
@@ -15,6 +15,7 @@ use Rattle.pw_runs.specs.Runs.{DrivesSerially, driving}
 use Rattle.pw_runs.specs.Workers.{Drives, working}
 use Rattle.pw_trial.specs.Trials.{Generates, trying}
 use Rattle.pw_review.specs.Reviews.{reviewing}
+use Rattle.pw_cppc_runs.specs.Runs.{SteersSerially, steering}
 
 -- # What is asked for
 
@@ -23,11 +24,13 @@ abbrev pub driving_by : (serial : Bool) → (step : Bool) → (script : List ℕ
 driving_by true step script names before after = driving step script names before after
 driving_by false step script names before after = working step script names before after
 
--- what a command does, which words ask for: of `drive` and `generate` what they do where no register fails
+-- what a command does, which words ask for: of `drive`, `cppc` and `generate` what they do where no register fails. `cppc` makes its
+-- requests on one thread, with `--serial` or without
 abbrev pub work_of : Asked → FilesSeen → FilesSeen → Work
 work_of (on_blocks task names) before after = work_on task names before after
 work_of (drive way script names) before after = driving_by way.serial way.step script names before after
 work_of (audit step script history names) before after = reviewing step script history names before after
+work_of (cppc serial script names) before after = steering script names before after
 work_of (generate n) before after = trying n
 
 -- the names of the files that it reads
@@ -35,6 +38,7 @@ abbrev pub names_in : Asked → List (List ℕ)
 names_in (on_blocks task names) = names
 names_in (drive way script names) = script ∷ names
 names_in (audit step script history names) = script ∷ history ∷ names
+names_in (cppc serial script names) = script ∷ names
 names_in (generate n) = []
 
 -- It has one text at most. `drive` by workers has one for each history that the script allows.
@@ -60,7 +64,7 @@ DrivesBy true step script names sealed before after status text line =
     DrivesSerially step script names before after status text line × (sealed ≡ None)
 DrivesBy false step script names sealed before after status text line = Drives step script names sealed before after status text line
 
--- A command did its work. None but `drive` and `generate` operates a register.
+-- A command did its work. None but `drive`, `cppc` and `generate` operates a register.
 abbrev pub Obeys : Asked → Option Sealed → Seen → Seen → ℕ → List ℕ → List ℕ → Type 0
 Obeys (on_blocks task names) sealed before after status text line =
     OnlyDoes (work_on task names before.files after.files) sealed before after status text line
@@ -68,6 +72,8 @@ Obeys (drive way script names) sealed before after status text line =
     DrivesBy way.serial way.step script names sealed before after status text line
 Obeys (audit step script history names) sealed before after status text line =
     OnlyDoes (reviewing step script history names before.files after.files) sealed before after status text line
+Obeys (cppc serial script names) sealed before after status text line =
+    SteersSerially script names before after status text line × (sealed ≡ None)
 Obeys (generate n) sealed before after status text line =
     Generates n sealed before.outputs after.outputs before.regs after.regs status text line
 
@@ -110,6 +116,7 @@ abbrev pub RegistersHeld : Asked → Seen → Seen → Type 0
 RegistersHeld (on_blocks task names) before after = Unit {0}
 RegistersHeld (drive way script names) before after = Rose before.regs.faults after.regs.faults → ⊥
 RegistersHeld (audit step script history names) before after = Unit {0}
+RegistersHeld (cppc serial script names) before after = Rose before.regs.faults after.regs.faults → ⊥
 RegistersHeld (generate n) before after = Rose before.regs.faults after.regs.faults → ⊥
 
 -- What must come where the files tell, and no read of the command's files failed.

@@ -11,6 +11,7 @@ ghost use Rattle.pw_cli.specs.Runs.{DrivesBy, IsComplete, IsSpared, IsWithin, Ob
 ghost use Rattle.pw_cli.specs.Runs.{words_status};
 
 use pw_base::{Files, Gate, Sink};
+use pw_cppc_runs::cppc_serially;
 use pw_ends::{say, without_memory};
 use pw_regs::Registers;
 use pw_review::audit;
@@ -112,6 +113,22 @@ fn obey<T: Threads + Wait + Sync, F: Files, K: Sink, R: Registers + Send, G: Gat
                 files,
                 out,
                 err,
+            );
+            Outcome {
+                status,
+                regs,
+                sealed: None,
+            }
+        }
+        Command::Cppc { script, blocks, .. } => {
+            let (status, regs) = cppc_serially(
+                alloc,
+                script,
+                blocks.as_slice(),
+                files,
+                out,
+                err,
+                regs,
             );
             Outcome {
                 status,

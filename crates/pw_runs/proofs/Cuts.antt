@@ -23,7 +23,7 @@ long_refused : (P : Plan) (bytes : List ℕ) → MOST_BYTES < length bytes → r
 long_refused P bytes long = rw (lt-ltb MOST_BYTES (length bytes) long) refl
 
 -- the first bytes are all of them, or there are too many, of both
-cut_or_long : (content : List ℕ)
+pub cut_or_long : (content : List ℕ)
     → (take (MOST_BYTES + 1) content ≡ content) ⊎ ((MOST_BYTES < length (take (MOST_BYTES + 1) content)) × (MOST_BYTES < length content))
 cut_or_long content = step (ltb MOST_BYTES (length content)) refl
   where

@@ -107,7 +107,7 @@ module _ (held : Option (List ℕ)) (P : Plan) (step : Bool) where
 
 module _ (step : Bool) (script : List ℕ) (names : List (List ℕ)) (files : FilesSeen) (tells : files.told ≡ true) where
   -- the blocks make one plan
-  one_planned : (P Q : Plan) → ArePlanned files names P → ArePlanned files names Q → P ≡ Q
+  pub one_planned : (P Q : Plan) → ArePlanned files names P → ArePlanned files names Q → P ≡ Q
   one_planned P Q p q =
       let same = same_blocks files.holds 0 names p.blocks q.blocks (p.held tells) (q.held tells) in
       let made = subst (λ (l : List Block). IsPlanFrom (entries_in l) P p.notes) same p.made in
@@ -126,10 +126,10 @@ module _ (step : Bool) (script : List ℕ) (names : List (List ℕ)) (files : Fi
       p.says ∙ ap (λ (P : Plan). history_text P None (entries_of (requests_of p.lines))) same.0
       ∙ ap (λ (ls : List line). history_text q.plan None (entries_of (requests_of ls))) same.1 ∙ sym q.says
 
-  planned_not_unspelled : (P : Plan) → ArePlanned files names P → {s : ℕ} {a : List ℕ} → IsUnspelled files names s a → ⊥
+  pub planned_not_unspelled : (P : Plan) → ArePlanned files names P → {s : ℕ} {a : List ℕ} → IsUnspelled files names s a → ⊥
   planned_not_unspelled P p u = blocks_not_fault files.holds 1 0 names p.blocks u.fault (p.held tells) (u.first tells)
 
-  planned_not_without : (P : Plan) → ArePlanned files names P → (blocks : List Block) → AreHeldBy files names blocks → {s : ℕ} {a : List ℕ}
+  pub planned_not_without : (P : Plan) → ArePlanned files names P → (blocks : List Block) → AreHeldBy files names blocks → {s : ℕ} {a : List ℕ}
       → IsNoPlanOf blocks s a → ⊥
   planned_not_without P p blocks held {s = s} {a = a} without =
       let same = same_blocks files.holds 0 names blocks p.blocks (held tells) (p.held tells) in

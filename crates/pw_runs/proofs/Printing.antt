@@ -15,7 +15,7 @@ use Rattle.pw_ends.specs.Ends.{Ended, print_line, print_status}
 use Rattle.pw_ends.proofs.Outcomes.{part_taken}
 use Rattle.pw_runs.specs.Runs.{PrintsRun, register_line}
 use Rattle.pw_runs.specs.Runs.PrintsRun.{whole, unwritten, failed, failed_unwritten, without_memory}
-use Rattle.pw_runs.specs.inner.Parts.{failed_line, failed_status}
+use Rattle.pw_runs.specs.Failing.{failed_line, failed_status}
 
 module _ {S : Type 0} (K : Sink S) (out out' err err' : S) (P : Plan) (opening : Option ℕ) (es : List HistoryEntry) where
   abbrev Printed : ℕ → Type 0

@@ -118,10 +118,10 @@ readying_within step script names before after = record {
 
 module _ {S : Type 0} (F : Files S) (old mid new : S) (kept : KeepsFiles F.told F.holds F.faults old mid) where
   -- what is held under a name was held before
-  held_before : (name : List ℕ) (Q : Option (List ℕ) → Type 0) → OfFiles (files_seen F mid) (λ holds. Q (holds name)) → OfFiles (files_seen F old) (λ holds. Q (holds name))
+  pub held_before : (name : List ℕ) (Q : Option (List ℕ) → Type 0) → OfFiles (files_seen F mid) (λ holds. Q (holds name)) → OfFiles (files_seen F old) (λ holds. Q (holds name))
   held_before name Q held = λ tells. subst Q (kept.same_content name) (held (kept.same_told ∙ tells))
 
-  rose_before : (name : List ℕ) → Rose (F.faults mid name) (F.faults new name) → Rose (F.faults old name) (F.faults new name)
+  pub rose_before : (name : List ℕ) → Rose (F.faults mid name) (F.faults new name) → Rose (F.faults old name) (F.faults new name)
   rose_before name rose = λ below. let r = rose below in let le = kept.count name in omega arith
 
   -- to read the script is part of a drive, once there is a plan

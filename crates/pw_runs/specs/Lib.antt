@@ -1,4 +1,5 @@
 pub mod Scripts
 pub mod Runs
+pub mod Failing
 pub mod Workers
 pub mod inner

@@ -13,8 +13,8 @@ mod working;
 
 pub use given::given_in;
 pub use outcome::{Outcome, handed_on};
-pub use print::failed_after;
-pub use refusal::say_register;
+pub use print::{end_failed, failed_after};
+pub use refusal::{refuse_script, say_register};
 pub use running::drive_serially;
 pub use say::{put_between, say_number};
 pub use working::drive;

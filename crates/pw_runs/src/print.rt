@@ -6,8 +6,8 @@ ghost use Rattle.pw_model.specs.History.{StatesRequest, fault_at};
 ghost use Rattle.pw_drive.specs.Driven.{stopped_at};
 ghost use Rattle.pw_ends.specs.Seen.{outputs_seen};
 ghost use Rattle.pw_ends.specs.Ends.{Ended};
+ghost use Rattle.pw_runs.specs.Failing.{failed_line, failed_status};
 ghost use Rattle.pw_runs.specs.Runs.{PrintsRun};
-ghost use Rattle.pw_runs.specs.inner.Parts.{failed_line, failed_status};
 
 use crate::refusal::say_register;
 use pw_base::Sink;
@@ -42,8 +42,9 @@ pub fn failed_after(opening: Option<u32>, entries: &[HistoryEntry]) -> Option<u3
     }
 }
 
-/// Says that a register failed, unless there was no memory to print the history; and the status.
-fn end_failed<K: Sink>(
+/// Says after how many operations a register failed, by way of an empty page, unless there was no memory to print
+/// the history; and the status.
+pub fn end_failed<K: Sink>(
     page: &mut Page,
     err: &mut K,
     done: u32,

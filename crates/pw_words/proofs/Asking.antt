@@ -17,15 +17,15 @@ use Rattle.pw_words.specs.Stated.{Enters, IsRefused, IsTaken, is_used}
 use Rattle.pw_words.specs.App.{line_app}
 use Rattle.pw_words.specs.Words.{AreMiscounted, AreStated, AskFor, Asked, IsCommand, IsCount, IsLine, Say, SayTask, SayWay}
 use Rattle.pw_words.specs.Words.{command_name, is_plain, moved, task_name}
-use Rattle.pw_words.specs.Words.Asked.{audit, drive, generate, on_blocks}
+use Rattle.pw_words.specs.Words.Asked.{audit, cppc, drive, generate, on_blocks}
 use Rattle.pw_words.specs.inner.Reading.{Reads, given}
 use Rattle.pw_words.proofs.Bounds.{HasFew}
 use Rattle.pw_words.proofs.Getters.{inside}
 use Rattle.pw_words.proofs.Counts.{one_count}
 use Rattle.pw_words.proofs.Generating.{generate_rows, generate_said}
 use Rattle.pw_words.proofs.Lines.{AreToCount, generate_rows_at, line_stated, plain_line}
-use Rattle.pw_words.proofs.Present.{audit_not_generate, drive_not_audit, drive_not_generate, files_met, not_audit, not_drive, not_generate}
-use Rattle.pw_words.proofs.Present.{rows_met, stated_of}
+use Rattle.pw_words.proofs.Present.{audit_not_cppc, audit_not_generate, cppc_not_generate, drive_not_audit, drive_not_cppc}
+use Rattle.pw_words.proofs.Present.{drive_not_generate, files_met, not_audit, not_cppc, not_drive, not_generate, rows_met, stated_of}
 use Rattle.pw_words.proofs.Subcommands.{met}
 
 -- ---- one thing
@@ -59,20 +59,31 @@ one_said (drive s x us) (drive t y vs) rows same p q =
 one_said (audit a x z us) (audit b y w vs) rows same p q =
     let names = ap₂ (audit a x) (inside z w (sym p.2 ∙ q.2)) (inside us vs (sym p.3 ∙ q.3)) in
     names ∙ ap₂ (λ (c : Bool) (s : Text). audit c s w vs) (sym p.0 ∙ q.0) (inside x y (sym p.1 ∙ q.1))
+one_said (cppc a x us) (cppc b y vs) rows same p q =
+    let names = ap₂ (cppc a) (inside x y (sym p.1 ∙ q.1)) (inside us vs (sym p.2 ∙ q.2)) in
+    names ∙ ap (λ (c : Bool). cppc c y vs) (sym p.0 ∙ q.0)
 one_said (generate m) (generate n) rows same p q =
     ap generate (one_count q.0 m n (subst (λ (w : Text). IsCount w m) (inside p.0 q.0 (sym p.1 ∙ q.1)) p.2) q.2)
 one_said (on_blocks s us) (drive t y vs) rows same p q = absurd (not_drive s same)
 one_said (on_blocks s us) (audit b y w vs) rows same p q = absurd (not_audit s same)
+one_said (on_blocks s us) (cppc b y vs) rows same p q = absurd (not_cppc s same)
 one_said (on_blocks s us) (generate n) rows same p q = absurd (not_generate s same)
 one_said (drive s x us) (on_blocks t vs) rows same p q = absurd (not_drive t (sym same))
 one_said (drive s x us) (audit b y w vs) rows same p q = absurd (drive_not_audit same)
+one_said (drive s x us) (cppc b y vs) rows same p q = absurd (drive_not_cppc same)
 one_said (drive s x us) (generate n) rows same p q = absurd (drive_not_generate same)
 one_said (audit a x z us) (on_blocks t vs) rows same p q = absurd (not_audit t (sym same))
 one_said (audit a x z us) (drive t y vs) rows same p q = absurd (drive_not_audit (sym same))
+one_said (audit a x z us) (cppc b y vs) rows same p q = absurd (audit_not_cppc same)
 one_said (audit a x z us) (generate n) rows same p q = absurd (audit_not_generate same)
+one_said (cppc a x us) (on_blocks t vs) rows same p q = absurd (not_cppc t (sym same))
+one_said (cppc a x us) (drive t y vs) rows same p q = absurd (drive_not_cppc (sym same))
+one_said (cppc a x us) (audit b y w vs) rows same p q = absurd (audit_not_cppc (sym same))
+one_said (cppc a x us) (generate n) rows same p q = absurd (cppc_not_generate same)
 one_said (generate m) (on_blocks t vs) rows same p q = absurd (not_generate t (sym same))
 one_said (generate m) (drive t y vs) rows same p q = absurd (drive_not_generate (sym same))
 one_said (generate m) (audit b y w vs) rows same p q = absurd (audit_not_generate (sym same))
+one_said (generate m) (cppc b y vs) rows same p q = absurd (cppc_not_generate (sym same))
 
 module _ (words : List Text) where
   name_entered : {m n : Text} {p q : List Row} → Enters words m p → Enters words n q → m ≡ n
@@ -96,6 +107,7 @@ not_miscounted words asked p m =
     go (on_blocks task files) same said = not_generate task same
     go (drive way script files) same said = drive_not_generate same
     go (audit step script history files) same said = audit_not_generate same
+    go (cppc serial script files) same said = cppc_not_generate same
     go (generate count) same said = m.unsaid count said
 
 -- ---- plain words and others
@@ -141,6 +153,11 @@ pub few_audited : (words : List Text) (step : Bool) (script history : Text) (blo
 few_audited words step script history blocks p = by_plainness words (λ e. ((p.plain e).3.some, (p.plain e).3.few))
     (λ e. (let h = p.other e in few_files words blocks (audit step script history blocks) h audit_not_generate h.said.3))
 
+pub few_performed : (words : List Text) (serial : Bool) (script : Text) (blocks : List Text)
+    → AskFor words (cppc serial script blocks) → HasFew blocks
+few_performed words serial script blocks p = by_plainness words (λ e. ((p.plain e).2.some, (p.plain e).2.few))
+    (λ e. (let h = p.other e in few_files words blocks (cppc serial script blocks) h cppc_not_generate h.said.2))
+
 -- the number of clusters
 pub few_counted : (words : List Text) (count : ℕ) → AskFor words (generate count) → (1 ≤ count) × (count ≤ 32)
 few_counted words count p = by_plainness words (λ e. ((p.plain e).2.some, (p.plain e).2.few))
@@ -170,6 +187,7 @@ counted_line words asked are stated =
     go (on_blocks task files) same said = absurd (not_generate task same)
     go (drive way script files) same said = absurd (drive_not_generate same)
     go (audit step script history files) same said = absurd (audit_not_generate same)
+    go (cppc serial script files) same said = absurd (cppc_not_generate same)
     go (generate count) same said =
         let word = inside said.0 are.0 (sym said.1 ∙ generate_said are.0 are.2) in
         (are.0, are.1, subst (λ (w : Text). IsCount w count) word said.2)

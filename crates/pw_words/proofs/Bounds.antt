@@ -23,6 +23,7 @@ use Rattle.pw_words.specs.App.{flag_rule}
 use Rattle.pw_words.proofs.Auditing.{audit_leaf}
 use Rattle.pw_words.proofs.Driving.{drive_leaf}
 use Rattle.pw_words.proofs.Generating.{generate_leaf}
+use Rattle.pw_words.proofs.Requesting.{cppc_leaf}
 use Rattle.pw_words.proofs.Kept.{Keeps, KeepsFilled, level_keeps, none_of_both, some_kind}
 use Rattle.pw_words.proofs.Walked.{blocks_at, word_at}
 use Rattle.pw_words.proofs.Levels.{blocks_leaf, show_leaf, task_leaf}
@@ -212,15 +213,15 @@ script_bound words free =
       ),
     ) tt free
 
+-- what one use gives to an argument
+abbrev Gives : Text → (List Text → Type 0) → Text → Rule → ℕ → Type 0
+Gives x P id a most =
+    bytes_eq id x ≡ true → (values : List Text) → range_kinds 1 most (length values) ≡ [] → P (values_or_missing a values)
+
 -- what `audit` keeps of an argument that is none of its flag
 module _ (x : Text) (P : List Text → Type 0) (other : bytes_eq (codes "step") x ≡ false) where
-  -- what one use gives to it
-  abbrev Gives : Text → Rule → ℕ → Type 0
-  Gives id a most =
-      bytes_eq id x ≡ true → (values : List Text) → range_kinds 1 most (length values) ≡ [] → P (values_or_missing a values)
-
-  audit_keeps : Gives (codes "script") (word_at (codes "script") 1) 1 → Gives (codes "history") (word_at (codes "history") 2) 1
-      → Gives (codes "blocks") (blocks_at 3) 64
+  audit_keeps : Gives x P (codes "script") (word_at (codes "script") 1) 1
+      → Gives x P (codes "history") (word_at (codes "history") 2) 1 → Gives x P (codes "blocks") (blocks_at 3) 64
       → (words : List Text) → level_fault audit_leaf [] nothing_held words false [] ≡ [] → Has x P (rows_after audit_leaf.rules [] words)
   audit_keeps script history blocks words free =
       level_keeps (Has x P) audit_leaf words (
@@ -247,6 +248,27 @@ pub history_bound : (words : List Text) → level_fault audit_leaf [] nothing_he
     → Has (codes "history") HasSome (rows_after audit_leaf.rules [] words)
 history_bound words free =
     audit_keeps (codes "history") HasSome refl (λ e. never e) (λ _. some (codes "history") 2) (λ e. never e) words free
+
+-- what `cppc` keeps of one
+module _ (x : Text) (P : List Text → Type 0) (other : bytes_eq (codes "serial") x ≡ false) where
+  cppc_keeps : Gives x P (codes "script") (word_at (codes "script") 1) 1 → Gives x P (codes "blocks") (blocks_at 2) 64
+      → (words : List Text) → level_fault cppc_leaf [] nothing_held words false [] ≡ [] → Has x P (rows_after cppc_leaf.rules [] words)
+  cppc_keeps script blocks words free =
+      level_keeps (Has x P) cppc_leaf words (
+        flag_keeps x P (codes "serial") 1 other,
+        (word_keeps x P (codes "script") 1 script, (blocks_keeps x P 2 blocks, tt)),
+      ) (
+        flag_filled x P (codes "serial") 1 other,
+        (bare_filled x P (word_at (codes "script") 1) refl, (bare_filled x P (blocks_at 2) refl, tt)),
+      ) tt free
+
+pub cppc_bound : (words : List Text) → level_fault cppc_leaf [] nothing_held words false [] ≡ []
+    → blocks_in (rows_after cppc_leaf.rules [] words)
+cppc_bound words free = cppc_keeps (codes "blocks") HasFew refl (λ e. never e) (λ _. few 2) words free
+
+pub performed_bound : (words : List Text) → level_fault cppc_leaf [] nothing_held words false [] ≡ []
+    → script_in (rows_after cppc_leaf.rules [] words)
+performed_bound words free = cppc_keeps (codes "script") HasSome refl (λ _. some (codes "script") 1) (λ e. never e) words free
 
 pub count_bound : (words : List Text) → level_fault generate_leaf [] nothing_held words false [] ≡ []
     → Has (codes "count") HasSome (rows_after generate_leaf.rules [] words)

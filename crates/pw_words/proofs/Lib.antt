@@ -2,6 +2,7 @@ pub mod Walked
 pub mod Levels
 pub mod Driving
 pub mod Auditing
+pub mod Requesting
 pub mod Generating
 pub mod Counts
 pub mod Getters

@@ -25,7 +25,7 @@ use Rattle.pw_words.specs.App.{line_app}
 use Rattle.pw_words.specs.Stated.{IsTaken}
 use Rattle.pw_words.specs.Words.{AreFiles, AreStated, Asked, IsLine, Say, are_bare, are_flags_of, in_table_order, is_among, is_bare}
 use Rattle.pw_words.specs.Words.{is_dashed, is_plain, moved, task_flags, task_name, way_flags}
-use Rattle.pw_words.specs.Words.Asked.{audit, drive, generate, on_blocks}
+use Rattle.pw_words.specs.Words.Asked.{audit, cppc, drive, generate, on_blocks}
 use Rattle.pw_words.proofs.Auditing.{audit_leaf, audit_level, audit_rows, audit_said, audited_kinds, step_words}
 use Rattle.pw_words.proofs.Bounds.{over}
 use Rattle.pw_words.proofs.Counts.{bare_count}
@@ -33,6 +33,7 @@ use Rattle.pw_words.proofs.Driving.{drive_leaf, drive_level, drive_rows, drive_s
 use Rattle.pw_words.proofs.Generating.{count_kinds, generate_leaf, generate_level, generate_rows, generate_said}
 use Rattle.pw_words.proofs.Kept.{none_of_both, some_kind}
 use Rattle.pw_words.proofs.Levels.{files_kinds, or_none, task_leaf, task_level, task_rows, task_said}
+use Rattle.pw_words.proofs.Requesting.{cppc_leaf, cppc_level, cppc_rows, cppc_said, serial_words}
 use Rattle.pw_words.proofs.Walked.{bare_fault, bare_met, bare_parts}
 
 -- ---- the first word
@@ -107,6 +108,16 @@ audit_rows_at : (rest : List Text)
 unfolding clap_on_literals
 audit_rows_at rest = named_rows (codes "audit") rest refl
 
+-- and of those of `cppc`
+cppc_fault_at : (rest : List Text) → fault_of line_app (codes "cppc" ∷ rest) ≡ level_fault cppc_leaf [] nothing_held rest false []
+unfolding clap_on_literals
+cppc_fault_at rest = named_fault (codes "cppc") rest refl refl refl
+
+cppc_rows_at : (rest : List Text)
+    → subcommand_of line_app (codes "cppc" ∷ rest) ≡ Some (codes "cppc", rows_after cppc_leaf.rules [] rest)
+unfolding clap_on_literals
+cppc_rows_at rest = named_rows (codes "cppc") rest refl
+
 -- and of those of `generate`
 generate_fault_at : (rest : List Text)
     → fault_of line_app (codes "generate" ∷ rest) ≡ level_fault generate_leaf [] nothing_held rest false []
@@ -122,10 +133,10 @@ generate_rows_at rest = named_rows (codes "generate") rest refl
 abbrev IsOther : Text → Type 0
 IsOther word = (bytes_eq (codes "show") word ≡ false) × (bytes_eq (codes "rewrite") word ≡ false)
     × (bytes_eq (codes "check") word ≡ false) × (bytes_eq (codes "drive") word ≡ false) × (bytes_eq (codes "audit") word ≡ false)
-    × (bytes_eq (codes "generate") word ≡ false)
+    × (bytes_eq (codes "cppc") word ≡ false) × (bytes_eq (codes "generate") word ≡ false)
 
 none_met : (word : Text) → IsOther word → subcommand_met names idle word ≡ None
-none_met word other = rw (other.0, other.1, other.2, other.3, other.4, other.5) refl
+none_met word other = rw (other.0, other.1, other.2, other.3, other.4, other.5, other.6) refl
 
 other_refused : (word : Text) (rest : List Text) → is_dashed word ≡ false → IsOther word → fault_of line_app (word ∷ rest) ≡ [] → ⊥
 unfolding walk_fault
@@ -179,6 +190,10 @@ audit_fault : (step : Bool) (names : List Text) → are_bare names ≡ true
     → fault_of line_app (codes "audit" ∷ step_words step ++ names) ≡ audited_kinds names
 audit_fault step names bare = audit_fault_at (step_words step ++ names) ∙ audit_level step names bare
 
+cppc_fault : (serial : Bool) (names : List Text) → are_bare names ≡ true
+    → fault_of line_app (codes "cppc" ∷ serial_words serial ++ names) ≡ names_kinds names
+cppc_fault serial names bare = cppc_fault_at (serial_words serial ++ names) ∙ cppc_level serial names bare
+
 generate_fault : (words : List Text) → are_bare words ≡ true → fault_of line_app (codes "generate" ∷ words) ≡ count_kinds words
 generate_fault words bare = generate_fault_at words ∙ generate_level words bare
 
@@ -196,6 +211,11 @@ audit_said_of : (step : Bool) (script history : Text) (files : List Text) → is
 audit_said_of step script history [] first second h = let bad = h.some in absurd (omega arith)
 audit_said_of step script history (f ∷ fs) first second h =
     audit_said step script history f fs (bare_names script (history ∷ f ∷ fs) first (bare_names history (f ∷ fs) second h.bare))
+
+cppc_said_of : (serial : Bool) (script : Text) (files : List Text) → is_dashed script ≡ false → AreFiles files
+    → Say (cppc_rows serial (script ∷ files)) (cppc serial script files)
+cppc_said_of serial script [] dash h = let bad = h.some in absurd (omega arith)
+cppc_said_of serial script (f ∷ fs) dash h = cppc_said serial script f fs (bare_names script (f ∷ fs) dash h.bare)
 
 pub line_stated : (words : List Text) (asked : Asked) → IsLine words asked → AreStated words asked
 line_stated words (on_blocks task files) h = record {
@@ -218,6 +238,12 @@ line_stated words (audit step script history files) h =
       command = ap (subcommand_of line_app) h.0 ∙ audit_rows_at (step_words step ++ script ∷ history ∷ files);
       said = audit_said_of step script history files h.1 h.2 h.3;
     }
+line_stated words (cppc serial script files) h = record {
+  rows = cppc_rows serial (script ∷ files);
+  taken = ap (fault_of line_app) h.0 ∙ cppc_fault serial (script ∷ files) (bare_names script files h.1 h.2.bare) ∙ files_taken files h.2;
+  command = ap (subcommand_of line_app) h.0 ∙ cppc_rows_at (serial_words serial ++ script ∷ files);
+  said = cppc_said_of serial script files h.1 h.2;
+}
 line_stated words (generate count) h =
     let bare = bare_count h.0 count h.2 in
     record {
@@ -229,7 +255,7 @@ line_stated words (generate count) h =
 
 -- ---- plain words that are taken are a line, or `generate` and a word
 
--- the word and the flags, in order, are those of a task, of `drive` in some way, of `audit`, or of `generate`
+-- the word and the flags, in order, are those of a task, of `drive` in some way, of `audit`, of `cppc`, or of `generate`
 abbrev IsTask : Text → List Text → Type 0
 IsTask word flags = (task : Task) × (word ≡ task_name task) × (in_table_order word flags ≡ task_flags task)
 
@@ -239,11 +265,15 @@ IsDrive word flags = (way : Way) × (word ≡ codes "drive") × (in_table_order 
 abbrev IsAudit : Text → List Text → Type 0
 IsAudit word flags = (step : Bool) × (word ≡ codes "audit") × (in_table_order word flags ≡ step_words step)
 
+abbrev IsCppc : Text → List Text → Type 0
+IsCppc word flags = (serial : Bool) × (word ≡ codes "cppc") × (in_table_order word flags ≡ serial_words serial)
+
 abbrev IsGenerate : Text → List Text → Type 0
 IsGenerate word flags = (word ≡ codes "generate") × (in_table_order word flags ≡ [])
 
 abbrev Named : List Text → Text → Type 0
-Named flags word = IsTask word flags ⊎ (IsDrive word flags ⊎ (IsAudit word flags ⊎ (IsGenerate word flags ⊎ IsOther word)))
+Named flags word = IsTask word flags
+    ⊎ (IsDrive word flags ⊎ (IsAudit word flags ⊎ (IsCppc word flags ⊎ (IsGenerate word flags ⊎ IsOther word))))
 
 show_flags : (flags : List Text) → IsTask (codes "show") flags
 show_flags flags = go (is_among flags (codes "--json"))
@@ -266,6 +296,9 @@ drive_flags flags =
 audit_flags : (flags : List Text) → IsAudit (codes "audit") flags
 audit_flags flags = (is_among flags (codes "--step"), refl, refl)
 
+cppc_flags : (flags : List Text) → IsCppc (codes "cppc") flags
+cppc_flags flags = (is_among flags (codes "--serial"), refl, refl)
+
 same_text : (a b : Text) → bytes_eq a b ≡ true → a ≡ b
 same_text a b e = (bytes_eq-Decides a b).0 e
 
@@ -273,20 +306,22 @@ same_text a b e = (bytes_eq-Decides a b).0 e
 named : (flags : List Text) (word : Text) → Named flags word
 named flags word =
     go (bytes_eq (codes "show") word) (bytes_eq (codes "rewrite") word) (bytes_eq (codes "check") word) (bytes_eq (codes "drive") word)
-    (bytes_eq (codes "audit") word) (bytes_eq (codes "generate") word) refl refl refl refl refl refl
+    (bytes_eq (codes "audit") word) (bytes_eq (codes "cppc") word) (bytes_eq (codes "generate") word) refl refl refl refl refl refl refl
   where
     at : (name : Text) → bytes_eq name word ≡ true → Named flags name → Named flags word
     at name e = subst (Named flags) (same_text name word e)
 
-    go : (a b c d e f : Bool) → bytes_eq (codes "show") word ≡ a → bytes_eq (codes "rewrite") word ≡ b → bytes_eq (codes "check") word ≡ c
-        → bytes_eq (codes "drive") word ≡ d → bytes_eq (codes "audit") word ≡ e → bytes_eq (codes "generate") word ≡ f → Named flags word
-    go true b c d e f p q r s t u = at (codes "show") p (inl (show_flags flags))
-    go false true c d e f p q r s t u = at (codes "rewrite") q (inl (Rewrite, refl, refl))
-    go false false true d e f p q r s t u = at (codes "check") r (inl (Check, refl, refl))
-    go false false false true e f p q r s t u = at (codes "drive") s (inr (inl (drive_flags flags)))
-    go false false false false true f p q r s t u = at (codes "audit") t (inr (inr (inl (audit_flags flags))))
-    go false false false false false true p q r s t u = at (codes "generate") u (inr (inr (inr (inl (refl, refl)))))
-    go false false false false false false p q r s t u = inr (inr (inr (inr (p, q, r, s, t, u))))
+    go : (a b c d e f g : Bool) → bytes_eq (codes "show") word ≡ a → bytes_eq (codes "rewrite") word ≡ b → bytes_eq (codes "check") word ≡ c
+        → bytes_eq (codes "drive") word ≡ d → bytes_eq (codes "audit") word ≡ e → bytes_eq (codes "cppc") word ≡ f
+        → bytes_eq (codes "generate") word ≡ g → Named flags word
+    go true b c d e f g p q r s t u v = at (codes "show") p (inl (show_flags flags))
+    go false true c d e f g p q r s t u v = at (codes "rewrite") q (inl (Rewrite, refl, refl))
+    go false false true d e f g p q r s t u v = at (codes "check") r (inl (Check, refl, refl))
+    go false false false true e f g p q r s t u v = at (codes "drive") s (inr (inl (drive_flags flags)))
+    go false false false false true f g p q r s t u v = at (codes "audit") t (inr (inr (inl (audit_flags flags))))
+    go false false false false false true g p q r s t u v = at (codes "cppc") u (inr (inr (inr (inl (cppc_flags flags)))))
+    go false false false false false false true p q r s t u v = at (codes "generate") v (inr (inr (inr (inr (inl (refl, refl))))))
+    go false false false false false false false p q r s t u v = inr (inr (inr (inr (inr (p, q, r, s, t, u, v)))))
 
 pub bare_filtered : (words : List Text) → are_bare (filter is_bare words) ≡ true
 bare_filtered [] = refl
@@ -322,6 +357,14 @@ audit_line words step (script ∷ history ∷ files) are bare kinds =
     let two = bare_parts history files one.1 in
     inl (audit step script history files, (are, one.0, two.0, are_files files two.1 kinds))
 
+-- or a script and files again
+cppc_line : (words : List Text) (serial : Bool) (names : List Text) → words ≡ codes "cppc" ∷ serial_words serial ++ names
+    → are_bare names ≡ true → names_kinds names ≡ [] → LineOrCount words
+cppc_line words serial [] are bare kinds = absurd (some_kind [] kind.MissingRequiredArgument kinds)
+cppc_line words serial (script ∷ files) are bare kinds =
+    let parts = bare_parts script files bare in
+    inl (cppc serial script files, (are, parts.0, are_files files parts.1 kinds))
+
 -- words that are taken are one
 generate_line : (words names : List Text) → words ≡ codes "generate" ∷ names → are_bare names ≡ true → count_kinds names ≡ []
     → LineOrCount words
@@ -345,10 +388,14 @@ parted_line word flags names dash bare taken = elim (named flags word) [
       audit_line (word ∷ in_table_order word flags ++ names) t.0 names are bare
       (sym (audit_fault t.0 names bare) ∙ ap (fault_of line_app) (sym are) ∙ taken)
   | inr (inr (inr (inl t))) ↦
+      let are : word ∷ in_table_order word flags ++ names ≡ codes "cppc" ∷ serial_words t.0 ++ names = ap₂ (λ w xs. w ∷ xs ++ names) t.1 t.2 in
+      cppc_line (word ∷ in_table_order word flags ++ names) t.0 names are bare
+      (sym (cppc_fault t.0 names bare) ∙ ap (fault_of line_app) (sym are) ∙ taken)
+  | inr (inr (inr (inr (inl t)))) ↦
       let are : word ∷ in_table_order word flags ++ names ≡ codes "generate" ∷ names = ap₂ (λ w xs. w ∷ xs ++ names) t.0 t.1 in
       generate_line (word ∷ in_table_order word flags ++ names) names are bare
       (sym (generate_fault names bare) ∙ ap (fault_of line_app) (sym are) ∙ taken)
-  | inr (inr (inr (inr other))) ↦ absurd (other_refused word (in_table_order word flags ++ names) dash other taken)
+  | inr (inr (inr (inr (inr other)))) ↦ absurd (other_refused word (in_table_order word flags ++ names) dash other taken)
 ]
 
 empty_refused : IsTaken [] → ⊥

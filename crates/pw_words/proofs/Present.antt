@@ -12,17 +12,18 @@ use Rattle.pw_words.specs.declared.command.Task.TheVariants.{Show, ShowAsJson, R
 use Rattle.pw_words.specs.declared.command.Way.{Way}
 use Rattle.pw_words.specs.Stated.{Enters, IsTaken, is_used}
 use Rattle.pw_words.specs.Words.{AreMiscounted, AreStated, Asked, IsCount, Say, SayTask, command_name, task_name}
-use Rattle.pw_words.specs.Words.Asked.{audit, drive, generate, on_blocks}
+use Rattle.pw_words.specs.Words.Asked.{audit, cppc, drive, generate, on_blocks}
 use Rattle.pw_words.specs.inner.Reading.{CanSay, IsOnBlocks, IsUncounted}
 use Rattle.pw_words.proofs.Auditing.{audit_leaf}
-use Rattle.pw_words.proofs.Bounds.{HasFew, audit_bound, audited_bound, count_bound, drive_bound, history_bound, script_bound}
-use Rattle.pw_words.proofs.Bounds.{stated_first, stated_values, task_bound}
+use Rattle.pw_words.proofs.Bounds.{HasFew, audit_bound, audited_bound, count_bound, cppc_bound, drive_bound, history_bound}
+use Rattle.pw_words.proofs.Bounds.{performed_bound, script_bound, stated_first, stated_values, task_bound}
 use Rattle.pw_words.proofs.Counts.{counted}
 use Rattle.pw_words.proofs.Driving.{drive_leaf}
 use Rattle.pw_words.proofs.Generating.{generate_leaf}
 use Rattle.pw_words.proofs.Getters.{inside}
 use Rattle.pw_words.proofs.Kept.{level_parts, some_kind}
 use Rattle.pw_words.proofs.Levels.{leaf_name, task_leaf}
+use Rattle.pw_words.proofs.Requesting.{cppc_leaf}
 use Rattle.pw_words.proofs.Subcommands.{IsLeaf, Met, met}
 
 -- one argument is required, two, or three
@@ -85,6 +86,15 @@ audit_names rest free =
       stated_values (codes "blocks") HasFew rows there.2 (audit_bound rest free),
     )
 
+cppc_names : (rest : List Text) → level_fault cppc_leaf [] nothing_held rest false [] ≡ []
+    → Script (rows_after cppc_leaf.rules [] rest) × Files (rows_after cppc_leaf.rules [] rest)
+cppc_names rest free =
+    let rows = rows_after cppc_leaf.rules [] rest in
+    let there = two_required (is_given (codes "script") rows) (is_given (codes "blocks") rows) (level_parts cppc_leaf rest free).2 in (
+      stated_first (codes "script") rows there.0 (performed_bound rest free),
+      stated_values (codes "blocks") HasFew rows there.1 (cppc_bound rest free),
+    )
+
 -- the number of clusters, as it is written
 abbrev pub Count : List Row → Type 0
 Count rows = (word : Text) × (first_of (codes "count") rows ≡ Some word)
@@ -101,7 +111,7 @@ count_word rest free =
 abbrev pub rows_met : {words : List Text} → Met words → List Row
 rows_met m = rows_after m.s.rules [] m.rest
 
--- those of a task, of `drive`, of `audit`, and of `generate`
+-- those of a task, of `drive`, of `audit`, of `cppc`, and of `generate`
 abbrev IsTask : List Row → Text → Type 0
 IsTask rows name = (task : Task) × (name ≡ task_name task) × Files rows
 
@@ -111,11 +121,14 @@ IsDrive rows name = (name ≡ codes "drive") × Script rows × Files rows
 abbrev IsAudit : List Row → Text → Type 0
 IsAudit rows name = (name ≡ codes "audit") × Script rows × History rows × Files rows
 
+abbrev IsCppc : List Row → Text → Type 0
+IsCppc rows name = (name ≡ codes "cppc") × Script rows × Files rows
+
 abbrev IsGenerate : List Row → Text → Type 0
 IsGenerate rows name = (name ≡ codes "generate") × Count rows
 
 abbrev Has : Text → List Row → Type 0
-Has name rows = IsTask rows name ⊎ (IsDrive rows name ⊎ (IsAudit rows name ⊎ IsGenerate rows name))
+Has name rows = IsTask rows name ⊎ (IsDrive rows name ⊎ (IsAudit rows name ⊎ (IsCppc rows name ⊎ IsGenerate rows name)))
 
 has_met : {words : List Text} (m : Met words) → Has m.s.name (rows_met m)
 has_met m = go m.s m.leaf m.free
@@ -128,13 +141,16 @@ has_met m = go m.s m.leaf m.free
     go s (inr (inl e)) = subst AtLeaf (sym e) (λ free. (let names = drive_names m.rest free in inr (inl (refl, names.0, names.1))))
     go s (inr (inr (inl e))) = subst AtLeaf (sym e) (λ free. (let names = audit_names m.rest free in
         inr (inr (inl (refl, names.0, names.1, names.2)))))
-    go s (inr (inr (inr e))) = subst AtLeaf (sym e) (λ free. inr (inr (inr (refl, count_word m.rest free))))
+    go s (inr (inr (inr (inl e)))) = subst AtLeaf (sym e) (λ free. (let names = cppc_names m.rest free in
+        inr (inr (inr (inl (refl, names.0, names.1))))))
+    go s (inr (inr (inr (inr e)))) = subst AtLeaf (sym e) (λ free. inr (inr (inr (inr (refl, count_word m.rest free)))))
 
 files_in : (name : Text) (rows : List Row) → (name ≡ codes "generate" → ⊥) → Has name rows → Files rows
 files_in name rows other (inl h) = h.2
 files_in name rows other (inr (inl h)) = h.2
 files_in name rows other (inr (inr (inl h))) = h.3
-files_in name rows other (inr (inr (inr h))) = absurd (other h.0)
+files_in name rows other (inr (inr (inr (inl h)))) = h.2
+files_in name rows other (inr (inr (inr (inr h)))) = absurd (other h.0)
 
 pub files_met : {words : List Text} (m : Met words) → (m.s.name ≡ codes "generate" → ⊥) → Files (rows_met m)
 files_met m other = files_in m.s.name (rows_met m) other (has_met m)
@@ -159,6 +175,13 @@ not_audit ShowAsJson e = true≢false (sym (ap (λ n. bytes_eq n (codes "audit")
 not_audit Rewrite e = true≢false (sym (ap (λ n. bytes_eq n (codes "audit")) e))
 not_audit Check e = true≢false (sym (ap (λ n. bytes_eq n (codes "audit")) e))
 
+-- nor by `cppc`
+pub not_cppc : (task : Task) → task_name task ≡ codes "cppc" → ⊥
+not_cppc Show e = true≢false (sym (ap (λ n. bytes_eq n (codes "cppc")) e))
+not_cppc ShowAsJson e = true≢false (sym (ap (λ n. bytes_eq n (codes "cppc")) e))
+not_cppc Rewrite e = true≢false (sym (ap (λ n. bytes_eq n (codes "cppc")) e))
+not_cppc Check e = true≢false (sym (ap (λ n. bytes_eq n (codes "cppc")) e))
+
 -- nor by `generate`
 pub not_generate : (task : Task) → task_name task ≡ codes "generate" → ⊥
 not_generate Show e = true≢false (sym (ap (λ n. bytes_eq n (codes "generate")) e))
@@ -172,8 +195,17 @@ drive_not_generate e = true≢false (sym (ap (λ n. bytes_eq n (codes "generate"
 pub drive_not_audit : codes "drive" ≡ codes "audit" → ⊥
 drive_not_audit e = true≢false (sym (ap (λ n. bytes_eq n (codes "audit")) e))
 
+pub drive_not_cppc : codes "drive" ≡ codes "cppc" → ⊥
+drive_not_cppc e = true≢false (sym (ap (λ n. bytes_eq n (codes "cppc")) e))
+
 pub audit_not_generate : codes "audit" ≡ codes "generate" → ⊥
 audit_not_generate e = true≢false (sym (ap (λ n. bytes_eq n (codes "generate")) e))
+
+pub audit_not_cppc : codes "audit" ≡ codes "cppc" → ⊥
+audit_not_cppc e = true≢false (sym (ap (λ n. bytes_eq n (codes "cppc")) e))
+
+pub cppc_not_generate : codes "cppc" ≡ codes "generate" → ⊥
+cppc_not_generate e = true≢false (sym (ap (λ n. bytes_eq n (codes "generate")) e))
 
 can_say_of : (name : Text) (rows : List Row) → Has name rows → CanSay name rows
 can_say_of name rows (inl h) = record {
@@ -182,6 +214,7 @@ can_say_of name rows (inl h) = record {
   script = λ e. absurd (not_drive h.0 (sym h.1 ∙ e));
   audited = λ e. absurd (not_audit h.0 (sym h.1 ∙ e));
   history = λ e. absurd (not_audit h.0 (sym h.1 ∙ e));
+  performed = λ e. absurd (not_cppc h.0 (sym h.1 ∙ e));
   count = λ e. absurd (not_generate h.0 (sym h.1 ∙ e));
 }
 can_say_of name rows (inr (inl h)) = record {
@@ -190,6 +223,7 @@ can_say_of name rows (inr (inl h)) = record {
   script = λ _. ap is_some h.1.1;
   audited = λ e. absurd (drive_not_audit (sym h.0 ∙ e));
   history = λ e. absurd (drive_not_audit (sym h.0 ∙ e));
+  performed = λ e. absurd (drive_not_cppc (sym h.0 ∙ e));
   count = λ e. absurd (drive_not_generate (sym h.0 ∙ e));
 }
 can_say_of name rows (inr (inr (inl h))) = record {
@@ -198,14 +232,25 @@ can_say_of name rows (inr (inr (inl h))) = record {
   script = λ e. absurd (drive_not_audit (sym e ∙ h.0));
   audited = λ _. ap is_some h.1.1;
   history = λ _. ap is_some h.2.1;
+  performed = λ e. absurd (audit_not_cppc (sym h.0 ∙ e));
   count = λ e. absurd (audit_not_generate (sym h.0 ∙ e));
 }
-can_say_of name rows (inr (inr (inr h))) = record {
-  known = inr (inr (inr h.0));
+can_say_of name rows (inr (inr (inr (inl h)))) = record {
+  known = inr (inr (inr (inl h.0)));
+  blocks = λ _. ap is_some h.2.1;
+  script = λ e. absurd (drive_not_cppc (sym e ∙ h.0));
+  audited = λ e. absurd (audit_not_cppc (sym e ∙ h.0));
+  history = λ e. absurd (audit_not_cppc (sym e ∙ h.0));
+  performed = λ _. ap is_some h.1.1;
+  count = λ e. absurd (cppc_not_generate (sym h.0 ∙ e));
+}
+can_say_of name rows (inr (inr (inr (inr h)))) = record {
+  known = inr (inr (inr (inr h.0)));
   blocks = λ other. absurd (other h.0);
   script = λ e. absurd (drive_not_generate (sym e ∙ h.0));
   audited = λ e. absurd (audit_not_generate (sym e ∙ h.0));
   history = λ e. absurd (audit_not_generate (sym e ∙ h.0));
+  performed = λ e. absurd (cppc_not_generate (sym e ∙ h.0));
   count = λ _. ap is_some h.1.1;
 }
 
@@ -249,7 +294,8 @@ said_by name rows (inr (inl h)) =
     inl (drive way h.1.0 h.2.0, sym h.0, ((refl, refl), h.1.1, h.2.1))
 said_by name rows (inr (inr (inl h))) =
     inl (audit (is_used (codes "step") rows) h.1.0 h.2.0 h.3.0, sym h.0, (refl, h.1.1, h.2.1, h.3.1))
-said_by name rows (inr (inr (inr h))) = said_count name rows h
+said_by name rows (inr (inr (inr (inl h)))) = inl (cppc (is_used (codes "serial") rows) h.1.0 h.2.0, sym h.0, (refl, h.1.1, h.2.1))
+said_by name rows (inr (inr (inr (inr h)))) = said_count name rows h
 
 -- words that are taken as those of `generate`, of no number of clusters
 pub miscounted : {words : List Text} (name : Text) (rows : List Row) → IsTaken words → Enters words name rows → IsUncounted name rows

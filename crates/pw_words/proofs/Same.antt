@@ -84,14 +84,16 @@ one_more flag flags (k ∷ ks) new distinct there =
         (later flag flags new k (picked flags ks) (picked (flag ∷ flags) ks) (is_among flags k) (more there))
 
 known_distinct : (word : Text) → are_distinct (flags_of word) ≡ true
-known_distinct word = go (bytes_eq word (codes "show")) (bytes_eq word (codes "drive")) (bytes_eq word (codes "audit"))
+known_distinct word = go (bytes_eq word (codes "show")) (bytes_eq word (codes "drive")) (bytes_eq word (codes "audit")) (bytes_eq word (codes "cppc"))
   where
-    go : (a b c : Bool)
-        → are_distinct (cond a (codes "--json" ∷ []) (cond b (codes "--serial" ∷ codes "--step" ∷ []) (cond c (codes "--step" ∷ []) []))) ≡ true
-    go true b c = refl
-    go false true c = refl
-    go false false true = refl
-    go false false false = refl
+    go : (a b c d : Bool)
+        → are_distinct (cond a (codes "--json" ∷ []) (cond b (codes "--serial" ∷ codes "--step" ∷ [])
+        (cond c (codes "--step" ∷ []) (cond d (codes "--serial" ∷ []) [])))) ≡ true
+    go true b c d = refl
+    go false true c d = refl
+    go false false true d = refl
+    go false false false true = refl
+    go false false false false = refl
 
 -- ---- all words
 

@@ -16,10 +16,11 @@ use Rattle.pw_words.proofs.Driving.{drive_leaf}
 use Rattle.pw_words.proofs.Generating.{generate_leaf}
 use Rattle.pw_words.proofs.Kept.{none_of_both, some_kind}
 use Rattle.pw_words.proofs.Levels.{task_leaf}
+use Rattle.pw_words.proofs.Requesting.{cppc_leaf}
 
--- a subcommand as building leaves it: that of a task, `drive`, `audit` or `generate`
+-- a subcommand as building leaves it: that of a task, `drive`, `audit`, `cppc` or `generate`
 abbrev pub IsLeaf : Shape → Type 0
-IsLeaf s = ((task : Task) × (s ≡ task_leaf task)) ⊎ ((s ≡ drive_leaf) ⊎ ((s ≡ audit_leaf) ⊎ (s ≡ generate_leaf)))
+IsLeaf s = ((task : Task) × (s ≡ task_leaf task)) ⊎ ((s ≡ drive_leaf) ⊎ ((s ≡ audit_leaf) ⊎ ((s ≡ cppc_leaf) ⊎ (s ≡ generate_leaf))))
 
 -- the subcommand that a parse met, and the words after it
 pub record Met (words : List Text) : Type 0 where
@@ -39,21 +40,23 @@ found_by n = find (λ s. answers_to n (label_of s)) (built line_app).subs
 finds : (n : Text) → (found_by n ≡ None) ⊎ ((s : Shape) × IsLeaf s × (found_by n ≡ Some s))
 finds n = go (answers_to n (label_of (task_leaf Show))) (answers_to n (label_of (task_leaf Rewrite)))
     (answers_to n (label_of (task_leaf Check))) (answers_to n (label_of drive_leaf)) (answers_to n (label_of audit_leaf))
-    (answers_to n (label_of generate_leaf))
+    (answers_to n (label_of cppc_leaf)) (answers_to n (label_of generate_leaf))
   where
-    search_by : Bool → Bool → Bool → Bool → Bool → Bool → Option Shape
-    search_by a b c d e f = cond a (Some (task_leaf Show))
+    search_by : Bool → Bool → Bool → Bool → Bool → Bool → Bool → Option Shape
+    search_by a b c d e f g = cond a (Some (task_leaf Show))
         (cond b (Some (task_leaf Rewrite))
-        (cond c (Some (task_leaf Check)) (cond d (Some drive_leaf) (cond e (Some audit_leaf) (cond f (Some generate_leaf) None)))))
+        (cond c (Some (task_leaf Check)) (cond d (Some drive_leaf) (cond e (Some audit_leaf)
+        (cond f (Some cppc_leaf) (cond g (Some generate_leaf) None))))))
 
-    go : (a b c d e f : Bool) → (search_by a b c d e f ≡ None) ⊎ ((s : Shape) × IsLeaf s × (search_by a b c d e f ≡ Some s))
-    go true b c d e f = inr (task_leaf Show, inl (Show, refl), refl)
-    go false true c d e f = inr (task_leaf Rewrite, inl (Rewrite, refl), refl)
-    go false false true d e f = inr (task_leaf Check, inl (Check, refl), refl)
-    go false false false true e f = inr (drive_leaf, inr (inl refl), refl)
-    go false false false false true f = inr (audit_leaf, inr (inr (inl refl)), refl)
-    go false false false false false true = inr (generate_leaf, inr (inr (inr refl)), refl)
-    go false false false false false false = inl refl
+    go : (a b c d e f g : Bool) → (search_by a b c d e f g ≡ None) ⊎ ((s : Shape) × IsLeaf s × (search_by a b c d e f g ≡ Some s))
+    go true b c d e f g = inr (task_leaf Show, inl (Show, refl), refl)
+    go false true c d e f g = inr (task_leaf Rewrite, inl (Rewrite, refl), refl)
+    go false false true d e f g = inr (task_leaf Check, inl (Check, refl), refl)
+    go false false false true e f g = inr (drive_leaf, inr (inl refl), refl)
+    go false false false false true f g = inr (audit_leaf, inr (inr (inl refl)), refl)
+    go false false false false false true g = inr (cppc_leaf, inr (inr (inr (inl refl))), refl)
+    go false false false false false false true = inr (generate_leaf, inr (inr (inr (inr refl))), refl)
+    go false false false false false false false = inl refl
 
 -- a subcommand is wanted
 wanted : (rows : List Row) (o : Option (Text × List Row)) → check_fault (built line_app).top rows (is_some o) ≡ [] → is_some o ≡ true

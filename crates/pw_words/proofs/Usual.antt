@@ -7,14 +7,15 @@ use Rattle.clap.specs.Walk.{Text}
 use Rattle.pw_words.specs.declared.command.Task.{Task}
 use Rattle.pw_words.specs.declared.command.Task.TheVariants.{Show, ShowAsJson, Rewrite, Check}
 use Rattle.pw_words.specs.declared.command.Way.{Way}
-use Rattle.pw_words.specs.Words.{AreFiles, AskFor, Asked, IsCount, IsLine, are_bare, are_flags_of, in_table_order, is_bare, is_dashed}
-use Rattle.pw_words.specs.Words.{task_flags, task_name, way_flags}
-use Rattle.pw_words.specs.Words.Asked.{audit, drive, generate, on_blocks}
+use Rattle.pw_words.specs.Words.{AreFiles, AskFor, Asked, IsCount, IsLine, are_bare, are_flags_of, flag_words, in_table_order, is_bare}
+use Rattle.pw_words.specs.Words.{is_dashed, task_flags, task_name, way_flags}
+use Rattle.pw_words.specs.Words.Asked.{audit, cppc, drive, generate, on_blocks}
 use Rattle.pw_words.proofs.Asking.{plain_asks}
 use Rattle.pw_words.proofs.Auditing.{step_words}
 use Rattle.pw_words.proofs.Counts.{bare_count}
 use Rattle.pw_words.proofs.Driving.{flags_by}
 use Rattle.pw_words.proofs.Lines.{bare_filtered, bare_names}
+use Rattle.pw_words.proofs.Requesting.{serial_words}
 use Rattle.pw_words.proofs.Walked.{bare_parts}
 
 -- names of files are none of the words that begin with a hyphen, and all of the others
@@ -134,6 +135,12 @@ module _ (way : Way) (script : Text) (blocks : List Text) (are : AreFiles blocks
         | inr e ↦ way_asks rest (reverse (way_flags way)) (turned way) e others bare
       ]
 
+-- one flag in front of the names, or none
+flag_front : (flag : Text) → is_dashed flag ≡ true → (given : Bool) (names : List Text) → are_bare names ≡ true
+    → (filter is_dashed (flag_words flag given ++ names) ≡ flag_words flag given) × (filter is_bare (flag_words flag given ++ names) ≡ names)
+flag_front flag dash true names bare = (rw dash (ap (λ xs. flag ∷ xs) (none_dashed names bare)), rw dash (all_bare names bare))
+flag_front flag dash false names bare = (none_dashed names bare, all_bare names bare)
+
 -- ---- `audit`
 
 -- its flag is one, and stays
@@ -141,11 +148,6 @@ step_ordered : (step : Bool) → (are_flags_of (codes "audit") (step_words step)
     × (in_table_order (codes "audit") (step_words step) ≡ step_words step)
 step_ordered true = (refl, refl)
 step_ordered false = (refl, refl)
-
-step_front : (step : Bool) (names : List Text) → are_bare names ≡ true
-    → (filter is_dashed (step_words step ++ names) ≡ step_words step) × (filter is_bare (step_words step ++ names) ≡ names)
-step_front true names bare = (ap (λ xs. codes "--step" ∷ xs) (none_dashed names bare), all_bare names bare)
-step_front false names bare = (none_dashed names bare, all_bare names bare)
 
 module _ (step : Bool) (script history : Text) (blocks : List Text) (are : AreFiles blocks) where
   pub step_asks : (rest : List Text) → filter is_bare rest ≡ script ∷ history ∷ blocks → filter is_dashed rest ≡ step_words step
@@ -160,5 +162,25 @@ module _ (step : Bool) (script history : Text) (blocks : List Text) (are : AreFi
       → AskFor (codes "audit" ∷ step_words step ++ script ∷ history ∷ blocks) (audit step script history blocks)
   audit_asks first second =
       let bare = bare_names script (history ∷ blocks) first (bare_names history blocks second are.bare) in
-      let parts = step_front step (script ∷ history ∷ blocks) bare in
+      let parts = flag_front (codes "--step") refl step (script ∷ history ∷ blocks) bare in
       step_asks (step_words step ++ script ∷ history ∷ blocks) parts.1 parts.0
+
+-- ---- `cppc`
+
+serial_ordered : (serial : Bool) → (are_flags_of (codes "cppc") (serial_words serial) ≡ true)
+    × (in_table_order (codes "cppc") (serial_words serial) ≡ serial_words serial)
+serial_ordered true = (refl, refl)
+serial_ordered false = (refl, refl)
+
+module _ (serial : Bool) (script : Text) (blocks : List Text) (are : AreFiles blocks) where
+  pub serial_asks : (rest : List Text) → filter is_bare rest ≡ script ∷ blocks → filter is_dashed rest ≡ serial_words serial
+      → AskFor (codes "cppc" ∷ rest) (cppc serial script blocks)
+  serial_asks rest others dashed =
+      let bare = (bare_parts script blocks (ap are_bare (sym others) ∙ bare_filtered rest)).0 in
+      parted_asks (codes "cppc") rest (serial_words serial) (script ∷ blocks) (cppc serial script blocks) refl dashed others
+      (serial_ordered serial).0 (ap (λ xs. codes "cppc" ∷ xs ++ script ∷ blocks) (serial_ordered serial).1, bare, are)
+
+  pub cppc_asks : is_dashed script ≡ false → AskFor (codes "cppc" ∷ serial_words serial ++ script ∷ blocks) (cppc serial script blocks)
+  cppc_asks bare =
+      let parts = flag_front (codes "--serial") refl serial (script ∷ blocks) (bare_names script blocks bare are.bare) in
+      serial_asks (serial_words serial ++ script ∷ blocks) parts.1 parts.0

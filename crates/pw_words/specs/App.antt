@@ -41,6 +41,14 @@ step_app = with_rule (with_rule (new_app (codes "audit")) (flag_rule (codes "ste
 abbrev pub audit_app : App
 audit_app = with_rule (with_rule step_app (word_rule (codes "history"))) blocks_rule
 
+-- `cppc [--serial]`, with no names yet
+abbrev pub serial_app : App
+serial_app = with_rule (new_app (codes "cppc")) (flag_rule (codes "serial"))
+
+-- `cppc [--serial] SCRIPT BLOCK..`
+abbrev pub cppc_app : App
+cppc_app = with_rule (with_rule serial_app (word_rule (codes "script"))) blocks_rule
+
 -- `generate N`
 abbrev pub generate_app : App
 generate_app = with_rule (new_app (codes "generate")) (word_rule (codes "count"))
@@ -64,8 +72,10 @@ line_app = with_subcommand
     (with_subcommand
     (with_subcommand
     (with_subcommand
+    (with_subcommand
     (with_subcommand (with_subcommand bare_app show_app.top) (blocks_app (codes "rewrite")).top)
     (blocks_app (codes "check")).top)
     drive_app.top)
     audit_app.top)
+    cppc_app.top)
     generate_app.top

@@ -23,6 +23,8 @@ pub data Asked : Type 0 where
   drive : Way → Text → List Text → Asked
   -- a history checked against a script and blocks, with `--step` or without: the names of their files, the script's first
   audit : Bool → Text → Text → List Text → Asked
+  -- a script of requests for performance run, with `--serial` or without: the name of its file, and those of the blocks' files
+  cppc : Bool → Text → List Text → Asked
   -- a machine of so many clusters and a load for it, driven
   generate : ℕ → Asked
 
@@ -74,7 +76,8 @@ pub record IsCount (word : Text) (count : ℕ) : Type 0 where
   pub few : count ≤ 32
 
 -- The words are a line of the table: `show BLOCK..`, `show --json BLOCK..`, `rewrite BLOCK..`, `check BLOCK..`,
--- `drive [--serial] [--step] SCRIPT BLOCK..`, `audit [--step] SCRIPT HISTORY BLOCK..`, `generate N`.
+-- `drive [--serial] [--step] SCRIPT BLOCK..`, `audit [--step] SCRIPT HISTORY BLOCK..`,
+-- `cppc [--serial] SCRIPT BLOCK..`, `generate N`.
 abbrev pub IsLine : List Text → Asked → Type 0
 IsLine words (on_blocks task blocks) = (words ≡ task_name task ∷ task_flags task ++ blocks) × AreFiles blocks
 IsLine words (drive way script blocks) =
@@ -82,6 +85,8 @@ IsLine words (drive way script blocks) =
 IsLine words (audit step script history blocks) =
     (words ≡ codes "audit" ∷ flag_words (codes "--step") step ++ script ∷ history ∷ blocks) × (is_dashed script ≡ false)
     × (is_dashed history ≡ false) × AreFiles blocks
+IsLine words (cppc serial script blocks) =
+    (words ≡ codes "cppc" ∷ flag_words (codes "--serial") serial ++ script ∷ blocks) × (is_dashed script ≡ false) × AreFiles blocks
 IsLine words (generate count) = (word : Text) × (words ≡ codes "generate" ∷ word ∷ []) × IsCount word count
 
 -- # Plain words: those whose flags may stand anywhere behind the first word
@@ -90,7 +95,8 @@ IsLine words (generate count) = (word : Text) × (words ≡ codes "generate" ∷
 abbrev pub flags_of : Text → List Text
 flags_of word = if bytes_eq word (codes "show") then codes "--json" ∷ []
     else (if bytes_eq word (codes "drive") then codes "--serial" ∷ codes "--step" ∷ []
-    else (if bytes_eq word (codes "audit") then codes "--step" ∷ [] else []))
+    else (if bytes_eq word (codes "audit") then codes "--step" ∷ []
+    else (if bytes_eq word (codes "cppc") then codes "--serial" ∷ [] else [])))
 
 -- the word is one of these
 abbrev pub is_among : List Text → Text → Bool
@@ -132,10 +138,11 @@ abbrev pub command_name : Asked → Text
 command_name (on_blocks task blocks) = task_name task
 command_name (drive way script blocks) = codes "drive"
 command_name (audit step script history blocks) = codes "audit"
+command_name (cppc serial script blocks) = codes "cppc"
 command_name (generate count) = codes "generate"
 
--- The matches of the subcommand have what is asked for: the task, the way or whether `--step` was given, and the names of the files;
--- or the number of clusters.
+-- The matches of the subcommand have what is asked for: the task, the way or whether `--step` or `--serial` was given, and the names of
+-- the files; or the number of clusters.
 abbrev pub Say : List Row → Asked → Type 0
 Say rows (on_blocks task blocks) = SayTask rows task × (all_of (codes "blocks") rows ≡ Some blocks)
 Say rows (drive way script blocks) =
@@ -143,6 +150,9 @@ Say rows (drive way script blocks) =
 Say rows (audit step script history blocks) =
     (is_used (codes "step") rows ≡ step) × (first_of (codes "script") rows ≡ Some script)
     × (first_of (codes "history") rows ≡ Some history) × (all_of (codes "blocks") rows ≡ Some blocks)
+Say rows (cppc serial script blocks) =
+    (is_used (codes "serial") rows ≡ serial) × (first_of (codes "script") rows ≡ Some script)
+    × (all_of (codes "blocks") rows ≡ Some blocks)
 Say rows (generate count) = (word : Text) × (first_of (codes "count") rows ≡ Some word) × IsCount word count
 
 -- `clap` takes the words, and states this of them: the subcommand, its flags and its arguments.

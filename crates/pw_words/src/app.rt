@@ -1,9 +1,9 @@
 ghost use Rattle.std.specs.Prelude.{◌≡◌, IfOk, false};
 ghost use Rattle.clap.specs.Words.{app_of, rule_of, with_subcommand};
 ghost use Rattle.clap.specs.declared.builder.command.Command.TheViews.{out-Command as fields_of};
-ghost use Rattle.pw_words.specs.App.{audit_app, bare_app, blocks_app, blocks_rule, drive_app};
-ghost use Rattle.pw_words.specs.App.{flag_rule, generate_app, line_app, show_app, step_app, way_app};
-ghost use Rattle.pw_words.specs.App.{word_rule};
+ghost use Rattle.pw_words.specs.App.{audit_app, bare_app, blocks_app, blocks_rule, cppc_app};
+ghost use Rattle.pw_words.specs.App.{drive_app, flag_rule, generate_app, line_app, serial_app};
+ghost use Rattle.pw_words.specs.App.{show_app, step_app, way_app, word_rule};
 
 use clap::{Arg, ArgAction, Command};
 use std::alloc::{AllocError, Global};
@@ -82,6 +82,21 @@ fn audit<'a>(alloc: Global) -> Result<Command<'a>, AllocError>
     command.arg(blocks(alloc))
 }
 
+/// `cppc [--serial]`, with no names yet.
+fn cppc_flag<'a>(alloc: Global) -> Result<Command<'a>, AllocError>
+    ensures { IfOk result (λ c. (app_of c ≡ serial_app) × ((fields_of c).has_globals ≡ false)) }
+{
+    Command::new(alloc, "cppc").arg(flag(alloc, "serial"))
+}
+
+/// `cppc [--serial] SCRIPT BLOCK..`.
+fn cppc<'a>(alloc: Global) -> Result<Command<'a>, AllocError>
+    ensures { IfOk result (λ c. (app_of c ≡ cppc_app) × ((fields_of c).has_globals ≡ false)) }
+{
+    let command = cppc_flag(alloc)?.arg(word(alloc, "script"))?;
+    command.arg(blocks(alloc))
+}
+
 /// `generate N`.
 fn generate<'a>(alloc: Global) -> Result<Command<'a>, AllocError>
     ensures { IfOk result (λ c. (app_of c ≡ generate_app)
@@ -123,5 +138,6 @@ pub(crate) fn line<'a>(alloc: Global) -> Result<Command<'a>, AllocError>
     let command = with(command, on_blocks(alloc, "check")?)?;
     let command = with(command, drive(alloc)?)?;
     let command = with(command, audit(alloc)?)?;
+    let command = with(command, cppc(alloc)?)?;
     with(command, generate(alloc)?)
 }

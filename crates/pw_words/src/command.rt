@@ -54,6 +54,13 @@ pub enum Command<'a> {
         history: &'a str,
         blocks: Vec<&'a str>,
     },
+    /// `cppc [--serial] SCRIPT BLOCK..`: the script of requests for performance in the file of this
+    /// name, run on the processors that the blocks describe, in 1 to 64 files.
+    Cppc {
+        serial: bool,
+        script: &'a str,
+        blocks: Vec<&'a str>,
+    },
     /// `generate N`: a machine of N clusters and a load for it, driven; a summary is printed. N is
     /// 1 to 32.
     Generate {

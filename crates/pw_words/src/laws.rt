@@ -7,7 +7,7 @@ ghost use Rattle.pw_words.specs.Stated.{IsTaken};
 ghost use Rattle.pw_words.specs.Words.{AreFiles, AreMiscounted, AskFor, Asked, IsCommand};
 ghost use Rattle.pw_words.specs.Words.{flag_words, is_bare, is_dashed, is_plain, moved, task_flags};
 ghost use Rattle.pw_words.specs.Words.{task_name, way_flags};
-ghost use Rattle.pw_words.specs.Words.Asked.{audit, drive, generate, on_blocks};
+ghost use Rattle.pw_words.specs.Words.Asked.{audit, cppc, drive, generate, on_blocks};
 ghost use Rattle.pw_words.specs.declared.command.Task.{Task as task_type};
 ghost use Rattle.pw_words.specs.declared.command.Task.TheVariants.{Show, ShowAsJson};
 ghost use Rattle.pw_words.specs.declared.command.Way.{Way as way_type};
@@ -26,6 +26,8 @@ pub fn few_blocks()
     ensures audit { (words : List Text) (step : Bool) (script history : Text) (blocks : List Text) →
         AskFor words (audit step script history blocks) →
         (1 ≤ length blocks) × (length blocks ≤ 64) }
+    ensures cppc { (words : List Text) (serial : Bool) (script : Text) (blocks : List Text) →
+        AskFor words (cppc serial script blocks) → (1 ≤ length blocks) × (length blocks ≤ 64) }
 {}
 
 /// A machine to generate has 1 to 32 clusters.
@@ -58,6 +60,15 @@ pub fn usual_line()
         AreFiles blocks → filter is_bare rest ≡ script ∷ history ∷ blocks →
         filter is_dashed rest ≡ flag_words (codes "--step") step →
         AskFor (codes "audit" ∷ rest) (audit step script history blocks) }
+    ensures cppc { (serial : Bool) (script : Text) (blocks : List Text) →
+        is_dashed script ≡ false → AreFiles blocks →
+        AskFor (codes "cppc" ∷ flag_words (codes "--serial") serial ++ script ∷ blocks)
+        (cppc serial script blocks) }
+    // Wherever its flag stands among the names.
+    ensures serial { (serial : Bool) (script : Text) (blocks rest : List Text) →
+        AreFiles blocks → filter is_bare rest ≡ script ∷ blocks →
+        filter is_dashed rest ≡ flag_words (codes "--serial") serial →
+        AskFor (codes "cppc" ∷ rest) (cppc serial script blocks) }
     ensures generate { (count : ℕ) → 1 ≤ count → count ≤ 32 →
         AskFor (codes "generate" ∷ decimal count ∷ []) (generate count) }
 {}

@@ -134,6 +134,21 @@ fn audit_in<'a>(alloc: Global, matches: &ArgMatches<'a>) -> Result<Command<'a>, 
     })
 }
 
+/// A script of requests for performance to run, by the matches of `cppc`.
+fn cppc_in<'a>(alloc: Global, matches: &ArgMatches<'a>) -> Result<Command<'a>, AllocError>
+    requires script { is_some (first_of (codes "script") (rows_of (found_of matches.now))) ≡ true }
+    requires blocks { is_some (all_of (codes "blocks") (rows_of (found_of matches.now))) ≡ true }
+    ensures { IfOk result (λ c. (command_name (asked_of c) ≡ codes "cppc")
+        × Say (rows_of (found_of matches.now)) (asked_of c)) }
+{
+    let serial = was_given(matches, "serial");
+    Ok(Command::Cppc {
+        serial,
+        script: word_in(matches, "script"),
+        blocks: blocks_in(alloc, matches)?,
+    })
+}
+
 /// A machine to generate, by the matches of `generate`.
 fn generate_in<'a>(matches: &ArgMatches<'a>) -> Result<Command<'a>, WordsFault>
     requires { is_some (first_of (codes "count") (rows_of (found_of matches.now))) ≡ true }
@@ -162,6 +177,7 @@ fn command_in<'a>(
     match name {
         "drive" => Ok(drive_in(alloc, matches)?),
         "audit" => Ok(audit_in(alloc, matches)?),
+        "cppc" => Ok(cppc_in(alloc, matches)?),
         "generate" => generate_in(matches),
         _ => Ok(on_blocks_in(alloc, name, matches)?),
     }

@@ -25,6 +25,7 @@ fn known_flags(word: &str) -> &'static [&'static str]
         "show" => &["--json"],
         "drive" => &["--serial", "--step"],
         "audit" => &["--step"],
+        "cppc" => &["--serial"],
         _ => &[],
     }
 }

@@ -1,5 +1,5 @@
 -- What the parts of a drive do.
-use Rattle.std.specs.Prelude.{◌≡◌, ◌≢◌, ℕ, Bool, false, List, [], codes, Option, Result, Ok, Err}
+use Rattle.std.specs.Prelude.{◌≡◌, ◌≢◌, ℕ, Bool, false, List, [], codes, Option}
 use Rattle.pw_base.specs.Outside.{Rose}
 use Rattle.pw_base.specs.Seen.{FilesSeen, OfFiles}
 use Rattle.aml_block.specs.declared.block.Block.{Block}
@@ -13,15 +13,13 @@ use Rattle.pw_regs.specs.Seen.{RegistersSeen}
 use Rattle.pw_script.specs.declared.script.Line.{Line as line}
 use Rattle.pw_script.specs.declared.script.ScriptFault.{ScriptFault}
 use Rattle.pw_script.specs.declared.script.ScriptFault.TheVariants.{Memory}
-use Rattle.pw_text.specs.declared.fault.PrintFault.{PrintFault}
-use Rattle.pw_text.specs.declared.fault.PrintFault.TheVariants as outs
 use Rattle.pw_ends.specs.Seen.{Outputs}
 use Rattle.pw_ends.specs.Ends.{Work}
 use Rattle.pw_load.specs.Steps.{AreHeldBy, IsNoPlanOf, IsOneUnread, IsUnspelled}
 use Rattle.pw_runs.specs.declared.script.Missing.{Missing}
 use Rattle.pw_runs.specs.declared.script.Missing.TheVariants.{Unread, Fault}
 use Rattle.pw_runs.specs.Scripts.{HoldsNoScript, IsNoScript, script_line}
-use Rattle.pw_runs.specs.Runs.{IsSerialRun, PrintsRun, register_line}
+use Rattle.pw_runs.specs.Runs.{IsSerialRun, PrintsRun}
 
 -- # The plan
 
@@ -79,18 +77,6 @@ scripting before after P step name = record {
 }
 
 -- # The run
-
--- the status where a register failed and the history was to be printed
-abbrev pub failed_status : Result (Unit {0}) PrintFault → ℕ
-failed_status (Ok x) = 5
-failed_status (Err outs.Sink) = 5
-failed_status (Err outs.Memory) = 6
-
--- and the line, where so many operations were done before
-abbrev pub failed_line : ℕ → Result (Unit {0}) PrintFault → List ℕ
-failed_line k (Ok x) = register_line k
-failed_line k (Err outs.Sink) = register_line k
-failed_line k (Err outs.Memory) = codes "no memory\n"
 
 -- What came of the lines, and what was printed: nothing for want of memory, or a run.
 pub data RunsSerially (P : Plan) (lines : List line) (before after : Outputs) (old new : RegistersSeen) : ℕ → List ℕ → List ℕ → Type 0 where

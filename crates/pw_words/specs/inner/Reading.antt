@@ -23,11 +23,12 @@ IsOnBlocks name = (name ≡ codes "show") ⊎ ((name ≡ codes "rewrite") ⊎ (n
 
 -- the matches are those of a subcommand, and have its arguments
 pub record CanSay (name : Text) (rows : List Row) : Type 0 where
-  pub known : IsOnBlocks name ⊎ ((name ≡ codes "drive") ⊎ ((name ≡ codes "audit") ⊎ (name ≡ codes "generate")))
+  pub known : IsOnBlocks name ⊎ ((name ≡ codes "drive") ⊎ ((name ≡ codes "audit") ⊎ ((name ≡ codes "cppc") ⊎ (name ≡ codes "generate"))))
   pub blocks : (name ≡ codes "generate" → ⊥) → is_some (all_of (codes "blocks") rows) ≡ true
   pub script : name ≡ codes "drive" → is_some (first_of (codes "script") rows) ≡ true
   pub audited : name ≡ codes "audit" → is_some (first_of (codes "script") rows) ≡ true
   pub history : name ≡ codes "audit" → is_some (first_of (codes "history") rows) ≡ true
+  pub performed : name ≡ codes "cppc" → is_some (first_of (codes "script") rows) ≡ true
   pub count : name ≡ codes "generate" → is_some (first_of (codes "count") rows) ≡ true
 
 -- the matches are those of `generate`, and say no number of clusters

@@ -1,4 +1,4 @@
-use Rattle.pw_words.proofs.Usual.{audit_asks, drive_asks, flag_asks, flags_ask, generate_asks, step_asks, usual_asks}
+use Rattle.pw_words.proofs.Usual.{audit_asks, cppc_asks, drive_asks, flag_asks, flags_ask, generate_asks, serial_asks, step_asks, usual_asks}
 use Rattle.pw_words.proofs.laws.usual_line.Goals as goal
 
 pub returns-clause-line : goal.returns-clause-line
@@ -18,6 +18,12 @@ returns-clause-audit c = λ step script history blocks first second are. audit_a
 
 pub returns-clause-step : goal.returns-clause-step
 returns-clause-step c = λ step script history blocks rest are. step_asks step script history blocks are rest
+
+pub returns-clause-cppc : goal.returns-clause-cppc
+returns-clause-cppc c = λ serial script blocks bare are. cppc_asks serial script blocks are bare
+
+pub returns-clause-serial : goal.returns-clause-serial
+returns-clause-serial c = λ serial script blocks rest are. serial_asks serial script blocks are rest
 
 pub returns-clause-generate : goal.returns-clause-generate
 returns-clause-generate c = generate_asks

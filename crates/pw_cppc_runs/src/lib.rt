@@ -1,0 +1,11 @@
+//! The command `cppc --serial`: a script's requests for performance on the machine that blocks describe, and the
+//! history that is printed (ACPI 6.5, 8.4.6.1.2).
+#![tactic(auto)]
+
+mod given;
+mod planned;
+mod print;
+mod running;
+mod script;
+
+pub use running::cppc_serially;
