@@ -1,0 +1,13 @@
+pub mod Lists
+pub mod Books
+pub mod Turns
+pub mod Facts
+pub mod Changes
+pub mod Turning
+pub mod Seats
+pub mod Keeps
+pub mod Deadlock
+pub mod Told
+pub mod Seating
+pub mod Coming
+pub mod EachKind
