@@ -1,13 +1,12 @@
 -- What a command did, whichever it is.
 use Rattle.std.proofs.Common.{◌≡◌, ◌≢◌, ◌∷◌, ℕ, Bool, true, false, List, Option, inl, inr, ◌⊎◌, arith}
 use Rattle.std.proofs.lemmas.Bool.{false≢true}
-use Rattle.pw_base.specs.Outside.{Rose}
 use Rattle.pw_base.specs.Seen.{FilesSeen}
 use Rattle.pw_words.specs.Words.{AskFor, Asked}
 use Rattle.pw_words.specs.Words.Asked.{on_blocks, drive, audit, cppc, generate}
 use Rattle.pw_words.proofs.Asking.{few_counted}
 use Rattle.pw_ends.specs.Seen.{Seen, NoneFailed}
-use Rattle.pw_ends.specs.Ends.{Does, Work}
+use Rattle.pw_ends.specs.Ends.{Does}
 use Rattle.pw_ends.specs.Ends.Stops.{refused, unread, without_memory}
 use Rattle.pw_ends.specs.Ends.Prints.{whole, unwritten, cut}
 use Rattle.pw_ends.specs.Ends.Does.{stopped, printed}
@@ -20,10 +19,11 @@ use Rattle.pw_trial.proofs.One.{trying_is_one}
 use Rattle.pw_trial.proofs.One.{does_or_failed as tries_or_failed}
 use Rattle.pw_review.proofs.One.{refusal_is_1_7_or_8, reviewing_is_one}
 use Rattle.pw_review.proofs.One.{never_unread as never_unread_audit}
+use Rattle.pw_cppc_runs.proofs.Ending.{Failed as LostBy, works_or_failed}
 use Rattle.pw_cppc_runs.proofs.Ending.{does_or_failed as steers_or_failed}
-use Rattle.pw_cppc_runs.proofs.One.{steer_is_one}
+use Rattle.pw_cppc_runs.proofs.One.{steer_is_one, together_is_judged}
 use Rattle.pw_cppc_runs.proofs.One.{never_unread as never_unread_cppc, refusal_is_1_or_7 as cppc_refusal}
-use Rattle.pw_cli.specs.Runs.{DrivesBy, IsSettled, IsWithin, Obeys, RegistersHeld, driving_by, names_in, work_of}
+use Rattle.pw_cli.specs.Runs.{DrivesBy, IsSettled, IsWithin, Obeys, RegistersHeld, SteersBy, driving_by, names_in, steering_by, work_of}
 use Rattle.pw_cli.proofs.Driving.{does_or_failed}
 use Rattle.pw_cli.proofs.Working.{does_or_failed as worked_or_failed}
 
@@ -43,12 +43,17 @@ judged_by true step script names before after tells = judged_of _ (drive_is_one 
 judged_by false step script names before after tells =
     record { refusals = working_refuses_once step script names before tells; apart = working_apart step script names before tells }
 
+judged_steering : (serial : Bool) (script : List ℕ) (names : List (List ℕ)) (before after : FilesSeen) → before.told ≡ true
+    → IsJudged (steering_by serial script names before after)
+judged_steering true script names before after tells = judged_of _ (steer_is_one script names before after tells)
+judged_steering false script names before after tells = together_is_judged script names before after tells
+
 -- a command is refused in one way, and only where it has no text
 pub command_is_judged : (asked : Asked) (before after : FilesSeen) → before.told ≡ true → IsJudged (work_of asked before after)
 command_is_judged (on_blocks task names) before after tells = judged_of _ (task_is_one task names before after tells)
 command_is_judged (drive way script names) before after tells = judged_by way.serial way.step script names before after tells
 command_is_judged (audit step script history names) before after tells = judged_of _ (reviewing_is_one step script history names before after tells)
-command_is_judged (cppc serial script names) before after tells = judged_of _ (steer_is_one script names before after tells)
+command_is_judged (cppc serial script names) before after tells = judged_steering serial script names before after tells
 command_is_judged (generate n) before after tells = judged_of _ (trying_is_one n)
 
 one_by : (serial step : Bool) (script : List ℕ) (names : List (List ℕ)) (before after : FilesSeen) → before.told ≡ true → serial ≡ true
@@ -56,13 +61,18 @@ one_by : (serial step : Bool) (script : List ℕ) (names : List (List ℕ)) (bef
 one_by true step script names before after tells is = (drive_is_one step script names before after tells).texts
 one_by false step script names before after tells is = absurd (false≢true is)
 
--- and it has one text, unless workers drive
+one_steering : (serial : Bool) (script : List ℕ) (names : List (List ℕ)) (before after : FilesSeen) → before.told ≡ true → serial ≡ true
+    → (a b : List ℕ) → (steering_by serial script names before after).text a → (steering_by serial script names before after).text b → a ≡ b
+one_steering true script names before after tells is = (steer_is_one script names before after tells).texts
+one_steering false script names before after tells is = absurd (false≢true is)
+
+-- and it has one text, unless workers make it
 pub settled_is_one : (asked : Asked) (before after : FilesSeen) → before.told ≡ true → IsSettled asked
     → (a b : List ℕ) → (work_of asked before after).text a → (work_of asked before after).text b → a ≡ b
 settled_is_one (on_blocks task names) before after tells is = (task_is_one task names before after tells).texts
 settled_is_one (drive way script names) before after tells is = one_by way.serial way.step script names before after tells is
 settled_is_one (audit step script history names) before after tells is = (reviewing_is_one step script history names before after tells).texts
-settled_is_one (cppc serial script names) before after tells is = (steer_is_one script names before after tells).texts
+settled_is_one (cppc serial script names) before after tells is = one_steering serial script names before after tells is
 settled_is_one (generate n) before after tells is = (trying_is_one n).texts
 
 unread_by : (serial step : Bool) (script : List ℕ) (names : List (List ℕ)) (before after : FilesSeen) → NoneFailed (script ∷ names) before after
@@ -70,20 +80,19 @@ unread_by : (serial step : Bool) (script : List ℕ) (names : List (List ℕ)) (
 unread_by true step script names before after none u = never_unread_drive step script names before after none u
 unread_by false step script names before after none u = never_unread_drive step script names before after none u
 
+unread_steering : (serial : Bool) (script : List ℕ) (names : List (List ℕ)) (before after : FilesSeen) → NoneFailed (script ∷ names) before after
+    → (steering_by serial script names before after).unread → ⊥
+unread_steering true script names before after none u = never_unread_cppc script names before after none u
+unread_steering false script names before after none u = never_unread_cppc script names before after none u
+
 pub none_unread : (asked : Asked) (before after : FilesSeen) → NoneFailed (names_in asked) before after → (work_of asked before after).unread → ⊥
 none_unread (on_blocks task names) before after none u = never_unread names before after none u
 none_unread (drive way script names) before after none u = unread_by way.serial way.step script names before after none u
 none_unread (audit step script history names) before after none u = never_unread_audit step script history names before after none u
-none_unread (cppc serial script names) before after none u = never_unread_cppc script names before after none u
+none_unread (cppc serial script names) before after none u = unread_steering serial script names before after none u
 none_unread (generate n) before after none u = u
 
--- a register failed, and without that there is a text, where the files tell
-record LostBy (work : Work) (before after : Seen) (status : ℕ) : Type 0 where
-  pub five : status ≡ 5
-  pub rose : Rose before.regs.faults after.regs.faults
-  pub made : before.files.told ≡ true → (text : List ℕ) × work.text text
-
--- so it is with a command whose registers this fails
+-- a register of a command failed, and without that there is a text, where the files tell
 pub record Lost (asked : Asked) (before after : Seen) (status : ℕ) : Type 0 where
   pub five : status ≡ 5
   pub unheld : RegistersHeld asked before after → ⊥
@@ -102,6 +111,13 @@ drove_or_lost false step script names sealed before after status text line o = e
   | inr f ↦ inr (record { five = f.five; rose = f.rose; made = f.made })
 ]
 
+steered_or_lost : (serial : Bool) (script : List ℕ) (names : List (List ℕ)) (before after : Seen) (status : ℕ) (text line : List ℕ)
+    → SteersBy serial script names before after status text line
+    → Does (steering_by serial script names before.files after.files) before.outputs after.outputs status text line
+    ⊎ LostBy (steering_by serial script names before.files after.files) before after status
+steered_or_lost true script names before after status text line o = steers_or_failed script names before after status text line o
+steered_or_lost false script names before after status text line o = works_or_failed script names before after status text line o
+
 -- it did its work, or a register failed
 pub did_or_lost : (asked : Asked) → IsWithin asked → (sealed : Option Sealed) (before after : Seen) (status : ℕ) (text line : List ℕ) → Obeys asked sealed before after status text line
     → Does (work_of asked before.files after.files) before.outputs after.outputs status text line ⊎ Lost asked before after status
@@ -113,9 +129,9 @@ did_or_lost (drive way script names) within sealed before after status text line
     ]
 did_or_lost (audit step script history names) within sealed before after status text line o = inl o.0
 did_or_lost (cppc serial script names) within sealed before after status text line o =
-    elim (steers_or_failed script names before after status text line o.0) [
+    elim (steered_or_lost serial script names before after status text line o.0) [
       | inl did ↦ inl did
-      | inr f ↦ inr (record { five = f.five; unheld = λ held. held f.rose; made = λ tells. (f.text, f.made) })
+      | inr f ↦ inr (record { five = f.five; unheld = λ held. held f.rose; made = f.made })
     ]
 did_or_lost (generate n) within sealed before after status text line o =
     elim (tries_or_failed n within sealed before.outputs after.outputs before.regs after.regs status text line o) [
@@ -131,6 +147,11 @@ status_by : (serial step : Bool) (script : List ℕ) (names : List (List ℕ)) (
 status_by true step script names before after status line refusal = refusal_is_1_or_7 step script names before status line refusal
 status_by false step script names before after status line refusal = refusal_is_1_or_7 step script names before status line refusal
 
+status_steering : (serial : Bool) (script : List ℕ) (names : List (List ℕ)) (before after : FilesSeen) (status : ℕ) (line : List ℕ)
+    → (steering_by serial script names before after).refusal status line → (status ≡ 1) ⊎ (status ≡ 7)
+status_steering true script names before after status line refusal = cppc_refusal script names before status line refusal
+status_steering false script names before after status line refusal = cppc_refusal script names before status line refusal
+
 refusal_status : (asked : Asked) (before after : FilesSeen) (status : ℕ) (line : List ℕ) → (work_of asked before after).refusal status line
     → (status ≡ 1) ⊎ (status ≡ 7) ⊎ (status ≡ 8)
 refusal_status (on_blocks task names) before after status line refusal = inl (refusal_is_1 task names before status line refusal)
@@ -139,7 +160,7 @@ refusal_status (drive way script names) before after status line refusal = elim 
   | inr seven ↦ inr (inl seven)
 ]
 refusal_status (audit step script history names) before after status line refusal = refusal_is_1_7_or_8 step script history names before status line refusal
-refusal_status (cppc serial script names) before after status line refusal = elim (cppc_refusal script names before status line refusal) [
+refusal_status (cppc serial script names) before after status line refusal = elim (status_steering serial script names before after status line refusal) [
   | inl one ↦ inl one
   | inr seven ↦ inr (inl seven)
 ]

@@ -23,8 +23,8 @@ use Rattle.pw_trial.specs.Trials.{Generates, PrintsSummary}
 use Rattle.pw_trial.specs.Trials.Generates.{undone, opened}
 use Rattle.pw_trial.specs.Trials.Generates.{drove as tried}
 use Rattle.pw_trial.specs.Trials.PrintsSummary.{whole as all_summed, unwritten as part_summed, failed as never_summed, without_memory as unsummed}
-use Rattle.pw_cppc_runs.proofs.Spared.{steers_counts, steers_not_5}
-use Rattle.pw_cli.specs.Runs.{DrivesBy, EndsBy, IsSpared, Obeys, Ran, driving_by}
+use Rattle.pw_cppc_runs.proofs.Spared.{steers_counts, steers_not_5, works_counts, works_not_5}
+use Rattle.pw_cli.specs.Runs.{DrivesBy, EndsBy, IsSpared, Obeys, Ran, SteersBy, driving_by}
 use Rattle.pw_cli.specs.Runs.EndsBy.{misworded, commanded}
 use Rattle.pw_cli.specs.Runs.EndsBy.{without_memory as without_memory_of}
 use Rattle.pw_cli.proofs.Obeying.{does_not}
@@ -72,6 +72,16 @@ module _ (before after : Seen) (room : MOST_OPERATIONS ≤ before.regs.room) whe
     drives_not_5 false status text said (workers_drove {P = P} {lines = lines} {opening = opening} {es = es} given run prints seals) not_so five =
         let few = given.few in print_not_5 P opening es (run_spared lines few run.operates).0 status text said prints five
 
+  module _ (script : List ℕ) (names : List (List ℕ)) where
+    steering_counts : (serial : Bool) (status : ℕ) (text said : List ℕ) → SteersBy serial script names before after status text said
+        → after.regs.faults ≡ before.regs.faults
+    steering_counts true status text said o = steers_counts script names before after room status text said o
+    steering_counts false status text said o = works_counts script names before after room status text said o
+
+    steering_not_5 : (serial : Bool) (status : ℕ) (text said : List ℕ) → SteersBy serial script names before after status text said → status ≡ 5 → ⊥
+    steering_not_5 true status text said o five = steers_not_5 script names before after room status text said o five
+    steering_not_5 false status text said o five = works_not_5 script names before after room status text said o five
+
   module _ (n : ℕ) (sealed : Option Sealed) where
     generates_counts : (status : ℕ) (text said : List ℕ) → Generates n sealed before.outputs after.outputs before.regs after.regs status text said
         → after.regs.faults ≡ before.regs.faults
@@ -107,8 +117,8 @@ module _ (before after : Seen) (room : MOST_OPERATIONS ≤ before.regs.room) whe
     count = counted before after o.1;
   }
   obeyed_spared (cppc serial script names) sealed status text said o = record {
-    status_is = steers_not_5 script names before after room status text said o.0;
-    count = steers_counts script names before after room status text said o.0;
+    status_is = steering_not_5 script names serial status text said o.0;
+    count = steering_counts script names serial status text said o.0;
   }
   obeyed_spared (generate n) sealed status text said o =
       record { status_is = generates_not_5 n sealed status text said o; count = generates_counts n sealed status text said o }

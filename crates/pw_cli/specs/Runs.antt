@@ -16,6 +16,7 @@ use Rattle.pw_runs.specs.Workers.{Drives, working}
 use Rattle.pw_trial.specs.Trials.{Generates, trying}
 use Rattle.pw_review.specs.Reviews.{reviewing}
 use Rattle.pw_cppc_runs.specs.Runs.{SteersSerially, steering}
+use Rattle.pw_cppc_runs.specs.Workers.{Steers, steering_together}
 
 -- # What is asked for
 
@@ -24,13 +25,17 @@ abbrev pub driving_by : (serial : Bool) → (step : Bool) → (script : List ℕ
 driving_by true step script names before after = driving step script names before after
 driving_by false step script names before after = working step script names before after
 
--- what a command does, which words ask for: of `drive`, `cppc` and `generate` what they do where no register fails. `cppc` makes its
--- requests on one thread, with `--serial` or without
+-- to ask for the performance of a machine's processors, on one thread or by workers
+abbrev pub steering_by : (serial : Bool) → (script : List ℕ) → (names : List (List ℕ)) → FilesSeen → FilesSeen → Work
+steering_by true script names before after = steering script names before after
+steering_by false script names before after = steering_together script names before after
+
+-- what a command does, which words ask for: of `drive`, `cppc` and `generate` what they do where no register fails
 abbrev pub work_of : Asked → FilesSeen → FilesSeen → Work
 work_of (on_blocks task names) before after = work_on task names before after
 work_of (drive way script names) before after = driving_by way.serial way.step script names before after
 work_of (audit step script history names) before after = reviewing step script history names before after
-work_of (cppc serial script names) before after = steering script names before after
+work_of (cppc serial script names) before after = steering_by serial script names before after
 work_of (generate n) before after = trying n
 
 -- the names of the files that it reads
@@ -41,9 +46,10 @@ names_in (audit step script history names) = script ∷ history ∷ names
 names_in (cppc serial script names) = script ∷ names
 names_in (generate n) = []
 
--- It has one text at most. `drive` by workers has one for each history that the script allows.
+-- It has one text at most. `drive` and `cppc` by workers have one for each history that the script allows.
 abbrev pub IsSettled : Asked → Type 0
 IsSettled (drive way script names) = way.serial ≡ true
+IsSettled (cppc serial script names) = serial ≡ true
 IsSettled _ = Unit {0}
 
 -- # The run
@@ -64,6 +70,11 @@ DrivesBy true step script names sealed before after status text line =
     DrivesSerially step script names before after status text line × (sealed ≡ None)
 DrivesBy false step script names sealed before after status text line = Drives step script names sealed before after status text line
 
+-- The performance of a machine's processors was asked for, on one thread or by workers.
+abbrev pub SteersBy : (serial : Bool) → (script : List ℕ) → (names : List (List ℕ)) → Seen → Seen → ℕ → List ℕ → List ℕ → Type 0
+SteersBy true script names before after status text line = SteersSerially script names before after status text line
+SteersBy false script names before after status text line = Steers script names before after status text line
+
 -- A command did its work. None but `drive`, `cppc` and `generate` operates a register.
 abbrev pub Obeys : Asked → Option Sealed → Seen → Seen → ℕ → List ℕ → List ℕ → Type 0
 Obeys (on_blocks task names) sealed before after status text line =
@@ -73,7 +84,7 @@ Obeys (drive way script names) sealed before after status text line =
 Obeys (audit step script history names) sealed before after status text line =
     OnlyDoes (reviewing step script history names before.files after.files) sealed before after status text line
 Obeys (cppc serial script names) sealed before after status text line =
-    SteersSerially script names before after status text line × (sealed ≡ None)
+    SteersBy serial script names before after status text line × (sealed ≡ None)
 Obeys (generate n) sealed before after status text line =
     Generates n sealed before.outputs after.outputs before.regs after.regs status text line
 

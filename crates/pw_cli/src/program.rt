@@ -7,11 +7,11 @@ ghost use Rattle.pw_blocks.specs.Held.{names_of};
 ghost use Rattle.pw_ends.specs.Ends.{Ended};
 ghost use Rattle.pw_ends.specs.Seen.{all_seen, outputs_seen};
 ghost use Rattle.pw_script.specs.declared.script.TheConstants.{MOST_OPERATIONS};
-ghost use Rattle.pw_cli.specs.Runs.{DrivesBy, IsComplete, IsSpared, IsWithin, Obeys, Ran, words_line};
-ghost use Rattle.pw_cli.specs.Runs.{words_status};
+ghost use Rattle.pw_cli.specs.Runs.{DrivesBy, IsComplete, IsSpared, IsWithin, Obeys, Ran, SteersBy};
+ghost use Rattle.pw_cli.specs.Runs.{words_line, words_status};
 
 use pw_base::{Files, Gate, Sink};
-use pw_cppc_runs::cppc_serially;
+use pw_cppc_runs::{cppc, cppc_serially};
 use pw_ends::{say, without_memory};
 use pw_regs::Registers;
 use pw_review::audit;
@@ -50,6 +50,33 @@ fn drive_by<T: Threads + Wait + Sync, F: Files, K: Sink, R: Registers + Send, G:
         drive(
             rt, alloc, way.step, script, blocks, files, out, err, regs, gate,
         )
+    }
+}
+
+/// Does `cppc`, on one thread or by workers. Says the status, and gives the registers back.
+fn steer_by<T: Threads + Wait + Sync, F: Files, K: Sink, R: Registers + Send>(
+    rt: &T,
+    alloc: Global,
+    serial: bool,
+    script: &str,
+    blocks: &[&str],
+    files: &mut F,
+    out: &mut K,
+    err: &mut K,
+    regs: R,
+) -> (u8, R)
+    ensures keeps_files { KeepsFiles F.told F.holds F.faults files.old files.new }
+    ensures keeps_out { KeepsSink K.told K.faults out.old out.new }
+    ensures keeps_err { KeepsSink K.told K.faults err.old err.new }
+    ensures steered { Ended (SteersBy serial script.now (names_of blocks.now)
+        (all_seen F.Files K.Sink R.Registers files.old out.old err.old regs)
+        (all_seen F.Files K.Sink R.Registers files.new out.new err.new result.1))
+        (outputs_seen K.Sink out.old err.old) (outputs_seen K.Sink out.new err.new) result.0 }
+{
+    if serial {
+        cppc_serially(alloc, script, blocks, files, out, err, regs)
+    } else {
+        cppc(rt, alloc, script, blocks, files, out, err, regs)
     }
 }
 
@@ -120,9 +147,15 @@ fn obey<T: Threads + Wait + Sync, F: Files, K: Sink, R: Registers + Send, G: Gat
                 sealed: None,
             }
         }
-        Command::Cppc { script, blocks, .. } => {
-            let (status, regs) = cppc_serially(
+        Command::Cppc {
+            serial,
+            script,
+            blocks,
+        } => {
+            let (status, regs) = steer_by(
+                rt,
                 alloc,
+                *serial,
                 script,
                 blocks.as_slice(),
                 files,
@@ -157,7 +190,7 @@ fn refuse_words<K: Sink>(err: &mut K, fault: WordsFault) -> u8
 
 /// The whole run of the program on these words, which leave out the program's name: with the threads that
 /// it may start, the files that it reads, its output and its error output, the registers that it
-/// operates, and the gate that a request passes where processors are driven side by side.
+/// operates, and the gate that a request of `drive` or `generate` passes where workers make it.
 pub fn run<T: Threads + Wait + Sync, F: Files, K: Sink, R: Registers + Send, G: Gate + Sync>(
     rt: &T,
     alloc: Global,

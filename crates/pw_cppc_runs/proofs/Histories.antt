@@ -7,18 +7,19 @@ use Rattle.pw_cppc.specs.declared.plan.CppcPlan.{CppcPlan}
 use Rattle.pw_cppc.specs.declared.request.CppcRequest.{CppcRequest}
 use Rattle.pw_cppc.specs.declared.request.CppcRequest.TheVariants.{Desired, Minimum, Maximum}
 use Rattle.pw_cppc_state.specs.declared.entry.CppcEntry.{CppcEntry}
-use Rattle.pw_cppc_state.specs.History.{Faultless, LawfulSerial, StatesRequest, entry_of, request_of, requests, stopped_at}
+use Rattle.pw_cppc_state.specs.History.{Faultless, StatesRequest, entry_of, request_of, requests, stopped_at}
 use Rattle.pw_cppc_state.proofs.Joining.{fault_none}
 use Rattle.pw_cppc_script.specs.declared.script.CppcLine.{CppcLine}
 use Rattle.pw_cppc_script.specs.HistoryText.{history_text}
 use Rattle.pw_cppc_script.specs.Reading.{requests_of}
+use Rattle.pw_cppc_workers.specs.Lawful.{Lawful}
 use Rattle.pw_cppc_runs.specs.Runs.{IsSerialRun, entries_of}
 
 -- the entries of a history that lines allow state requests
-pub entries_state : (P : CppcPlan) (asked : List CppcRequest) (opening : Option ℕ) (es : List CppcEntry) → LawfulSerial P asked opening es
+pub entries_state : (P : CppcPlan) (asked : List CppcRequest) (opening : Option ℕ) (es : List CppcEntry) → Lawful P asked opening es
     → AllByRecursion (StatesRequest P) es
 entries_state P asked (Some k) es run = rw run.1 tt
-entries_state P asked None es run = run.legal.entries
+entries_state P asked None es run = run.0.entries
 
 -- an entry that is no fault is that of its request
 of_request : (P : CppcPlan) (e : CppcEntry) → StatesRequest P e → e.seat ≡ 0 → e.fault ≡ 0 → entry_of 0 (request_of e) ≡ e

@@ -1,4 +1,4 @@
--- A run has one text of what files hold, or is refused in one way.
+-- A serial run has one text of what files hold, or is refused in one way; one by workers is refused just so.
 use Rattle.std.proofs.Common.{◌≡◌, ℕ, false, true, List, ◌∷◌, map, Option, Some, None, inl, inr, ◌⊎◌, refl, sym, ap, subst, ◌∙◌, arith}
 use Rattle.pw_base.specs.Seen.{FilesSeen}
 use Rattle.aml_block.specs.declared.block.Block.{Block}
@@ -8,7 +8,7 @@ use Rattle.pw_plan.specs.declared.parts.CpuParts.{CpuParts}
 use Rattle.pw_plan.specs.declared.plan.Plan.{Plan}
 use Rattle.pw_script.specs.declared.script.ScriptFault.{ScriptFault}
 use Rattle.pw_ends.specs.Seen.{NoneFailed}
-use Rattle.pw_ends.proofs.Completeness.{IsOne}
+use Rattle.pw_ends.proofs.Completeness.{IsJudged, IsOne}
 use Rattle.pw_load.specs.Steps.{AreHeldBy, IsNoPlanOf, IsUnspelled}
 use Rattle.pw_runs.specs.Runs.{IsRefusalOn as DriveRefuses}
 use Rattle.pw_runs.specs.Runs.IsRefusalOn.{unspelled as blocks_unspelled, unplanned as blocks_unplanned}
@@ -23,6 +23,7 @@ use Rattle.pw_cppc_script.specs.Reading.IsNoScript.{bad, too_much}
 use Rattle.pw_cppc_runs.specs.Scripts.{HoldsNoScript, HoldsScript}
 use Rattle.pw_cppc_runs.specs.Runs.{AreGiven, AreSteered, IsRefusalOn, IsTextOn, IsUnscripted, entries_of, steering}
 use Rattle.pw_cppc_runs.specs.Runs.IsRefusalOn.{unspelled, unplanned, unscripted}
+use Rattle.pw_cppc_runs.specs.Workers.{IsTextBy, steering_together}
 use Rattle.pw_cppc_runs.proofs.OnePlan.{one_plan}
 
 -- # Scripts
@@ -124,13 +125,22 @@ module _ (script : List ℕ) (names : List (List ℕ)) (files : FilesSeen) (tell
   apart : (status : ℕ) (text line : List ℕ) → IsTextOn files script names text → IsRefusalOn files script names status line → ⊥
   apart status text line made r = given_apart made.plan made.lines status line made.given r
 
--- A run of what files hold has one text, or is refused in one way, and never both.
+  apart_by : (status : ℕ) (text line : List ℕ) → IsTextBy files script names text → IsRefusalOn files script names status line → ⊥
+  apart_by status text line made r = given_apart made.plan made.lines status line made.given r
+
+-- A serial run of what files hold has one text, or is refused in one way, and never both.
 pub steer_is_one : (script : List ℕ) (names : List (List ℕ)) (before after : FilesSeen) → before.told ≡ true → IsOne (steering script names before after)
 steer_is_one script names before after tells = record {
   texts = one_text script names before tells;
   refusals = one_refusal script names before tells;
   apart = apart script names before tells;
 }
+
+-- One by workers is refused in one way, and never where it has a text.
+pub together_is_judged : (script : List ℕ) (names : List (List ℕ)) (before after : FilesSeen) → before.told ≡ true
+    → IsJudged (steering_together script names before after)
+together_is_judged script names before after tells =
+    record { refusals = one_refusal script names before tells; apart = apart_by script names before tells }
 
 -- What is given isn't refused.
 pub given_not_refused : (script : List ℕ) (names : List (List ℕ)) (files : FilesSeen) → files.told ≡ true → (P : CppcPlan) (lines : List CppcLine)
@@ -139,7 +149,7 @@ given_not_refused script names files tells P lines given status text r = given_a
 
 -- # Files of which no read failed
 
--- No file is unread where no read of the script or of a block failed.
+-- No file is unread where no read of the script or of a block failed, whoever makes the lines.
 pub never_unread : (script : List ℕ) (names : List (List ℕ)) (before after : FilesSeen) → NoneFailed (script ∷ names) before after
     → (steering script names before after).unread → ⊥
 never_unread script names before after none (inl u) = drive_never_unread false script names before after none (inl u)

@@ -1,5 +1,5 @@
 -- What the parts of a run do is what a run does.
-use Rattle.std.proofs.Common.{◌≡◌, ◌≢◌, ◌≤◌, ℕ, List, Result, Ok, Err, IfOk, inl, inr, refl, sym, subst}
+use Rattle.std.proofs.Common.{◌≡◌, ◌≢◌, ◌≤◌, ℕ, List, [], Result, Ok, Err, IfOk, codes, inl, inr, refl, sym, ap, subst}
 use Rattle.std.proofs.lemmas.Bool.{false≢true}
 use Rattle.pw_base.specs.declared.files.Files.{Ghosts as Files}
 use Rattle.pw_base.specs.Outside.{KeepsFiles}
@@ -7,12 +7,14 @@ use Rattle.pw_base.specs.Seen.{FilesSeen, OfFiles, files_seen}
 use Rattle.aml_block.specs.declared.block.Block.{Block}
 use Rattle.acpi_space.specs.Distinct.{IsDistinct}
 use Rattle.acpi_space.specs.Namespace.{Entry, entries_in, places_of}
+use Rattle.pw_regs.specs.declared.registers.Registers.{Ghosts as Registers}
+use Rattle.pw_regs.specs.Seen.{registers_seen}
 use Rattle.pw_script.specs.declared.script.ScriptFault.{ScriptFault}
 use Rattle.pw_script.specs.declared.script.ScriptFault.TheVariants.{Line, Memory, TooLong}
 use Rattle.pw_script.specs.declared.script.TheConstants.{MOST_OPERATIONS}
-use Rattle.pw_ends.specs.Seen.{Seen}
+use Rattle.pw_ends.specs.Seen.{Outputs, Seen}
 use Rattle.pw_ends.specs.Ends.{Stops}
-use Rattle.pw_ends.specs.Ends.Stops.{refused, without_memory}
+use Rattle.pw_ends.specs.Ends.Stops.{refused, unread, without_memory}
 use Rattle.pw_ends.proofs.Outcomes.{IsWithin}
 use Rattle.pw_load.specs.Steps.{AreHeldBy}
 use Rattle.pw_runs.specs.Scripts.{script_line, script_status}
@@ -23,12 +25,18 @@ use Rattle.pw_cppc.specs.declared.plan.CppcPlan.{CppcPlan}
 use Rattle.pw_cppc_script.specs.declared.script.CppcLine.{CppcLine}
 use Rattle.pw_cppc_script.specs.declared.script.CppcScript.{CppcScript}
 use Rattle.pw_cppc_script.specs.Reading.{IsNoScript, operations}
+use Rattle.pw_cppc_workers.specs.Lawful.{GivesBack}
 use Rattle.pw_cppc_runs.specs.Scripts.{HoldsNoScript, HoldsScript}
 use Rattle.pw_cppc_runs.specs.Runs.{AreGiven, AreSteered, SteersSerially, steering}
 use Rattle.pw_cppc_runs.specs.Runs.SteersSerially.{steered, stopped}
 use Rattle.pw_cppc_runs.specs.Runs.IsRefusalOn.{unplanned as unplanned_on, unscripted, unspelled as unspelled_on}
+use Rattle.pw_cppc_runs.specs.Workers.{Steers, steering_together}
+use Rattle.pw_cppc_runs.specs.Workers.Steers.{opened as opened_by, steered as steered_together, stopped as stopped_by}
 use Rattle.pw_cppc_runs.specs.inner.Parts.{IsNotScripted, IsPlanBy, IsPlanOver, RunsSerially, parsing, scripting}
 use Rattle.pw_cppc_runs.specs.inner.Parts.RunsSerially.{ran, undone}
+use Rattle.pw_cppc_runs.specs.inner.Works.{Works}
+use Rattle.pw_cppc_runs.specs.inner.Works.Works.{opened, worked}
+use Rattle.pw_cppc_runs.specs.inner.Works.Works.{undone as undone_by}
 
 -- # The plan
 
@@ -120,9 +128,30 @@ module _ {S : Type 0} (F : Files S) (old mid : S) (kept : KeepsFiles F.told F.ho
 
 -- # The whole
 
--- what came of a plan and of lines that are given is a run
+-- what came of a plan and of lines that are given is a serial run
 pub runs_steer : (script : List ℕ) (names : List (List ℕ)) (before after : Seen) (P : CppcPlan) (lines : List CppcLine)
     → AreGiven before.files script names P lines → (status : ℕ) (written text : List ℕ)
     → RunsSerially P lines before.outputs after.outputs before.regs after.regs status written text → SteersSerially script names before after status written text
 runs_steer script names before after P lines given status written text (undone same) = stopped without_memory same
 runs_steer script names before after P lines given status written text (ran run prints) = steered given run prints
+
+-- a run by workers stops where a serial one does
+pub stops_together : (script : List ℕ) (names : List (List ℕ)) (before after : FilesSeen) {status : ℕ} {line : List ℕ}
+    → Stops (steering script names before after) status line → Stops (steering_together script names before after) status line
+stops_together script names before after (refused r) = refused r
+stops_together script names before after (unread u) = unread u
+stops_together script names before after without_memory = without_memory
+
+-- where workers had no memory
+pub works_none : {R : Type 0} (by : Registers R) (P : CppcPlan) (lines : List CppcLine) (before after : Outputs) (regs back : R) → GivesBack by P regs back
+    → Works P lines before after (registers_seen by regs) (registers_seen by back) 6 [] (codes "no memory\n")
+works_none by P lines before after regs back (inl same) = undone_by (ap (registers_seen by) same)
+works_none by P lines before after regs back (inr opens) = opened opens
+
+-- what came of them by workers is a run by workers
+pub works_steer : (script : List ℕ) (names : List (List ℕ)) (before after : Seen) (P : CppcPlan) (lines : List CppcLine)
+    → AreGiven before.files script names P lines → (status : ℕ) (written text : List ℕ)
+    → Works P lines before.outputs after.outputs before.regs after.regs status written text → Steers script names before after status written text
+works_steer script names before after P lines given status written text (undone_by same) = stopped_by without_memory same
+works_steer script names before after P lines given status written text (opened opens) = opened_by given opens
+works_steer script names before after P lines given status written text (worked run prints) = steered_together given run prints

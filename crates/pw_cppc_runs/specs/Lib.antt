@@ -1,3 +1,4 @@
 pub mod Scripts
 pub mod Runs
+pub mod Workers
 pub mod inner

@@ -8,6 +8,7 @@ ghost use Rattle.pw_cppc_runs.specs.Runs.{PrintsRun};
 
 use pw_base::Sink;
 use pw_cppc::CppcPlan;
+use pw_cppc_drive::CppcDriven;
 use pw_cppc_script::cppc_print;
 use pw_cppc_state::CppcEntry;
 use pw_ends::printed;
@@ -41,7 +42,7 @@ fn failed_after(opening: Option<u32>, entries: &[CppcEntry]) -> Option<u32>
 
 /// Prints the history of a run on the output, and where a register failed, a line on the error output, by way of
 /// an empty page. It says the status.
-pub fn print_run<K: Sink>(
+fn print_run<K: Sink>(
     alloc: Global,
     plan: &CppcPlan,
     opening: Option<u32>,
@@ -63,4 +64,31 @@ pub fn print_run<K: Sink>(
         None => printed(err, outcome),
         Some(done) => end_failed(page, err, done, outcome),
     }
+}
+
+/// Prints the history of what was driven, by way of an empty page. It says the status, and gives the registers back.
+pub fn print_driven<K: Sink, R>(
+    alloc: Global,
+    driven: CppcDriven<R>,
+    page: &mut Page,
+    out: &mut K,
+    err: &mut K,
+) -> (u8, R)
+    requires empty { page.old ≡ [] }
+    requires entries { AllByRecursion (StatesRequest driven.plan) driven.entries }
+    ensures keeps_out { KeepsSink K.told K.faults out.old out.new }
+    ensures keeps_err { KeepsSink K.told K.faults err.old err.new }
+    ensures regs { result.1 ≡ driven.regs }
+    ensures printed { Ended (PrintsRun driven.plan driven.opening driven.entries
+        (outputs_seen K.Sink out.old err.old) (outputs_seen K.Sink out.new err.new))
+        (outputs_seen K.Sink out.old err.old) (outputs_seen K.Sink out.new err.new) result.0 }
+{
+    let CppcDriven {
+        plan,
+        opening,
+        entries,
+        regs,
+    } = driven;
+    let status = print_run(alloc, &plan, opening, entries.as_slice(), page, out, err);
+    (status, regs)
 }

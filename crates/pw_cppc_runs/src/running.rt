@@ -9,10 +9,10 @@ ghost use Rattle.pw_cppc_runs.specs.Runs.{SteersSerially};
 ghost use Rattle.pw_cppc_runs.specs.inner.Parts.{RunsSerially};
 
 use crate::given::given_in;
-use crate::print::print_run;
+use crate::print::print_driven;
 use pw_base::{Files, Sink};
 use pw_cppc::CppcPlan;
-use pw_cppc_drive::{CppcDriven, cppc_serial};
+use pw_cppc_drive::cppc_serial;
 use pw_cppc_script::CppcScript;
 use pw_ends::without_memory;
 use pw_regs::Registers;
@@ -41,16 +41,7 @@ fn run<K: Sink, R: Registers>(
 {
     match cppc_serial(alloc, plan, script, regs) {
         Err(regs) => (without_memory(err), regs),
-        Ok(driven) => {
-            let CppcDriven {
-                plan,
-                opening,
-                entries,
-                regs,
-            } = driven;
-            let status = print_run(alloc, &plan, opening, entries.as_slice(), page, out, err);
-            (status, regs)
-        }
+        Ok(driven) => print_driven(alloc, driven, page, out, err),
     }
 }
 

@@ -1,5 +1,5 @@
 -- What an accepted request sets, and how it is taken back.
-use Rattle.std.proofs.Common.{◌≡◌, ◌==◌, ℕ, suc, zero, cond, List, [], ◌∷◌, refl, ap}
+use Rattle.std.proofs.Common.{◌≡◌, ◌==◌, ℕ, suc, zero, cond, List, [], ◌∷◌, Option, Some, None, refl, ap}
 use Rattle.std.specs.Prelude.{slice_index_or, slice_set}
 use Rattle.std.specs.List.{flat_map}
 use Rattle.pw_model.specs.Operations.{set_at}
@@ -9,6 +9,8 @@ use Rattle.pw_cppc.specs.declared.request.CppcRequest.{CppcRequest}
 use Rattle.pw_cppc.specs.declared.request.CppcRequest.TheVariants.{Desired, Minimum, Maximum}
 use Rattle.pw_cppc.specs.Planning.{domain_at, domain_of}
 use Rattle.pw_cppc_state.specs.declared.numbers.CppcNumbers.{CppcNumbers}
+use Rattle.pw_cppc_state.specs.declared.reply.CppcReply.{CppcReply}
+use Rattle.pw_cppc_state.specs.Answers.{after, if_accepted, refusal}
 use Rattle.pw_cppc_state.specs.States.{changed, number_of, standing}
 use Rattle.pw_cppc_state.specs.Operations.{set_on, standing_ops}
 use Rattle.pw_cppc_state.specs.inner.Changes.{with_number}
@@ -26,3 +28,22 @@ pub taken_back : (S : CppcNumbers) (q : CppcRequest) → with_number (changed S 
 taken_back S (Desired p v) = ap (λ (xs : List ℕ). record S { asks = xs }) (set_back S.asks p v)
 taken_back S (Minimum p v) = ap (λ (xs : List ℕ). record S { minima = xs }) (set_back S.minima p v)
 taken_back S (Maximum p v) = ap (λ (xs : List ℕ). record S { maxima = xs }) (set_back S.maxima p v)
+
+same_element : (xs : List ℕ) (p : ℕ) → slice_set xs p (slice_index_or xs p 0) ≡ xs
+same_element [] p = refl
+same_element (x ∷ xs) zero = refl
+same_element (x ∷ xs) (suc p) = ap (λ ys. x ∷ ys) (same_element xs p)
+
+with_own : (S : CppcNumbers) (q : CppcRequest) → with_number S q (number_of S q) ≡ S
+with_own S (Desired p v) = ap (λ (xs : List ℕ). record S { asks = xs }) (same_element S.asks p)
+with_own S (Minimum p v) = ap (λ (xs : List ℕ). record S { minima = xs }) (same_element S.minima p)
+with_own S (Maximum p v) = ap (λ (xs : List ℕ). record S { maxima = xs }) (same_element S.maxima p)
+
+-- refused or not
+undone : (S : CppcNumbers) (q : CppcRequest) (o : Option CppcReply) → with_number (if_accepted o (λ reply. S) (changed S q)) q (number_of S q) ≡ S
+undone S q None = taken_back S q
+undone S q (Some reply) = with_own S q
+
+pub after_taken_back : (P : CppcPlan) (S : CppcNumbers) (q : CppcRequest) → with_number (after P S q) q (number_of S q) ≡ S
+unfolding after
+after_taken_back P S q = undone S q (refusal P S q)

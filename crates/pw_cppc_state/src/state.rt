@@ -65,9 +65,10 @@ impl Model for CppcState {
 
 impl CppcState {
     ghost use Rattle.std.specs.Prelude.{◌≡◌, ◌++◌, IfOk};
+    ghost use Rattle.pw_cppc_state.specs.declared.numbers.CppcNumbers.{CppcNumbers as plain};
     ghost use Rattle.pw_cppc.specs.Requests.{Has, ops_bound};
     ghost use Rattle.pw_ops.specs.Rooms.{HasRoom};
-    ghost use Rattle.pw_cppc_state.specs.States.{AreNumbers, opening};
+    ghost use Rattle.pw_cppc_state.specs.States.{AreNumbers, number_of, opening};
     ghost use Rattle.pw_cppc_state.specs.Answers.{after, answer};
     ghost use Rattle.pw_cppc_state.specs.Operations.{ops_of};
 
@@ -87,6 +88,22 @@ impl CppcState {
         ensures { result.now ≡ self.now }
     {
         &self.numbers
+    }
+
+    /// The number that the request would change.
+    pub fn number_of(&self, request: CppcRequest) -> u64
+        ensures { result ≡ number_of self.now request }
+    {
+        number_of(&self.numbers, request)
+    }
+
+    /// Undoes what a request noted, by the number that stood before where it would write its own.
+    pub fn set_back(&mut self, plan: &CppcPlan, request: CppcRequest, number: u64)
+        requires request { Has plan.now request }
+        requires fits { AreNumbers plan.now self.old }
+        ensures { (S : plain) → self.old ≡ after plan.now S request → number ≡ number_of S request → self.new ≡ S }
+    {
+        put(&mut self.numbers, request, number);
     }
 
     /// Notes what the request asks for. A refusal changes nothing.

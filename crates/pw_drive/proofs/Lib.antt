@@ -5,7 +5,6 @@ pub mod Putting
 pub mod Upwards
 pub mod Grouped
 pub mod Served
-pub mod Operating
 pub mod Entering
 pub mod Requesting
 pub mod Lining

@@ -27,12 +27,12 @@ use Rattle.pw_journal.specs.Entries.{fault_entry}
 use Rattle.pw_regs.specs.Seen.{RegistersSeen}
 use Rattle.pw_drive.specs.declared.records.Records.{Records}
 use Rattle.pw_drive.specs.declared.restoring.Old.{Old}
-use Rattle.pw_drive.specs.Doing.{Did}
+use Rattle.pw_doing.specs.Doing.{Did}
 use Rattle.pw_drive.specs.Keeping.{AreRecordsOf, Serves, part_in}
 use Rattle.pw_drive.specs.inner.Restoring.{old_of, old_takes}
 use Rattle.pw_drive.specs.inner.Running.{Keeps, Stands, Turned, opening_done}
 use Rattle.pw_drive.proofs.Entering.{each_states, faultless_done, legal_done, legal_stopped, ops_done, ops_stopped, replay_done, replay_stopped, seat_of-entry, stopped_last}
-use Rattle.pw_drive.proofs.Operating.{did_as, did_within, ops_by}
+use Rattle.pw_doing.proofs.Operating.{did_as, did_within, ops_by}
 use Rattle.pw_drive.proofs.Undone.{restored}
 
 module _ (P : Plan) (q : Request) (es : List HistoryEntry) (was : Records) (has : Has P q) (h : Stands P es was) where

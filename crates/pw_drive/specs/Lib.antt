@@ -1,4 +1,3 @@
-pub mod Doing
 pub mod Driven
 pub mod Keeping
 pub mod inner

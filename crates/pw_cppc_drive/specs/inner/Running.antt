@@ -1,29 +1,15 @@
 -- A run as it goes: what each request does, and what the lines have come to.
-use Rattle.std.specs.Prelude.{◌≡◌, ◌++◌, ◌∷◌, [], ℕ, List, take, Option, Some, None}
+use Rattle.std.specs.Prelude.{◌≡◌, ◌++◌, ◌∷◌, [], ℕ, List}
 use Rattle.std.specs.List.{AllByRecursion, sum_by}
-use Rattle.acpi_values.specs.declared.operation.Op.{Op}
 use Rattle.pw_regs.specs.Seen.{RegistersSeen}
-use Rattle.pw_drive.specs.Doing.{Did}
+use Rattle.pw_doing.specs.Doing.{Did}
 use Rattle.pw_cppc.specs.declared.plan.CppcPlan.{CppcPlan}
 use Rattle.pw_cppc.specs.declared.request.CppcRequest.{CppcRequest}
 use Rattle.pw_cppc.specs.Requests.{ops_bound}
 use Rattle.pw_cppc_state.specs.declared.entry.CppcEntry.{CppcEntry}
-use Rattle.pw_cppc_state.specs.declared.numbers.CppcNumbers.{CppcNumbers}
-use Rattle.pw_cppc_state.specs.History.{Faultless, IsSerialRunOf, Legal, entry_ops, fault_at, history_ops, replay, request_of}
-use Rattle.pw_cppc_state.specs.Operations.{opening_ops}
+use Rattle.pw_cppc_state.specs.History.{IsSerialRunOf, Legal, entry_ops, fault_at, history_ops, replay, request_of}
 use Rattle.pw_cppc_script.specs.declared.script.CppcLine.{CppcLine as line}
 use Rattle.pw_cppc_script.specs.Reading.{requests_of}
-
--- the operations at the start: of those that a fault ended the ones before it
-abbrev pub opening_done : CppcPlan → Option ℕ → List Op
-opening_done P (Some k) = take k (opening_ops P)
-opening_done P None = opening_ops P
-
--- The numbers are those that this history leaves, in which no register failed.
-pub record Stands (P : CppcPlan) (es : List CppcEntry) (S : CppcNumbers) : Type 0 where
-  pub legal : Legal P es
-  pub faultless : Faultless es
-  pub left : S ≡ replay P es
 
 -- A request was made: its entry follows, and its operations were done.
 pub record Turned (P : CppcPlan) (q : CppcRequest) (es fs : List CppcEntry) (old new : RegistersSeen) : Type 0 where

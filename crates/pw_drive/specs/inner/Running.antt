@@ -14,7 +14,7 @@ use Rattle.pw_script.specs.declared.script.Line.{Line as line}
 use Rattle.pw_script.specs.Lawful.{IsSerialRunOf}
 use Rattle.pw_script.specs.Reading.{requests_of}
 use Rattle.pw_drive.specs.declared.records.Records.{Records}
-use Rattle.pw_drive.specs.Doing.{Did}
+use Rattle.pw_doing.specs.Doing.{Did}
 use Rattle.pw_drive.specs.Keeping.{AreRecordsOf, part_in}
 
 -- the operations at the start: of those that a fault ended the ones before it

@@ -12,4 +12,4 @@ returns-in-Audit-clause-obeyed g c =
 
 pub returns-in-Cppc-clause-obeyed : goal.returns-in-Cppc-clause-obeyed
 returns-in-Cppc-clause-obeyed g c =
-    rw c.in-Cppc.is (ended_as (λ text line way. (way, refl)) (rw c.as_slice-in-Cppc.ensures.value at c.cppc_serially-status.ensures.did))
+    rw c.in-Cppc.is (ended_as (λ text line way. (way, refl)) (rw c.as_slice-in-Cppc.ensures.value at c.steer_by-status.ensures.steered))

@@ -1,44 +1,47 @@
-use Rattle.std.proofs.Common.{◌≤◌, ◌+◌, ◌∙◌, ap, arith, length, refl, sym, take_all}
+use Rattle.std.proofs.Common.{◌≤◌, ◌+◌, ◌∙◌, Ok, Err, ap, arith, length, length-append, sym, take_all}
 use Rattle.pw_regs.specs.Seen.{registers_seen}
-use Rattle.pw_drive.proofs.Lining.{where_err, where_ok}
+use Rattle.pw_cppc_state.specs.declared.reply.CppcReply.{CppcReply}
 use Rattle.pw_cppc_drive.proofs.Lining.{ran_all, ran_so_far, runs_further, runs_none}
+use Rattle.pw_cppc_drive.proofs.Requesting.{goes_on, stops, turned}
 use Rattle.pw_cppc_drive.proofs.running.make_all.Goals as goal
 
 pub loop-line-init : goal.loop-line-init
 loop-line-init g c = record {
-  runs = rw c.requires.empty (runs_none c.args.plan.now c.args.state.now (registers_seen g.R.Registers c.args.regs.now) c.requires.stands);
+  runs = rw c.requires.empty (runs_none c.args.plan.now (registers_seen g.R.Registers c.args.work.now.regs));
+  of = c.requires.of;
   count = ap length c.requires.empty;
   space = c.requires.space;
-  room = refl;
 }
 
-pub returns-then-is_err-clause-ran : goal.returns-then-is_err-clause-ran
-returns-then-is_err-clause-ran g c =
-    let seen = registers_seen g.R.Registers in
-    let l = c.loop-line in
-    let fails = sym c.is_err.ensures.value ∙ c.if-is_err.true in
-    ran_so_far c.args.plan.now c.args.lines.now l.line-index _ c.loop-line-test.true l.entries.items c.make.new.entries.items l.state
-    (seen c.args.regs.now) (seen l.regs) (seen c.make.new.regs) l.invariant.runs c.make.ensures.turned
-    (where_err c.make.result fails c.make.ensures.stopped)
+pub returns-in-Err : goal.returns-in-Err
+returns-in-Err g c =
+    let seen = registers_seen g.R.Registers in let l = c.loop-line in let P = c.args.plan.now in let a = c.in-Err.ensures in
+    let es = l.work.entries in let fs = c.make.new.self.entries in let old = seen c.args.work.now.regs in let mid = seen l.work.regs in let new = seen c.make.new.self.regs in
+    record {
+      ran = ran_so_far P c.args.lines.now l.line-index _ c.loop-line-test.true es fs old mid new l.invariant.runs
+          (turned P _ es fs mid new l.invariant.runs.faultless a.of.legal (Err c.in-Err._done) a.entry a.fault a.did)
+          (stops P _ es fs mid new l.invariant.runs.faultless a.of.legal c.in-Err._done a.fault);
+    }
 
 pub loop-line-preserved : goal.loop-line-preserved
 loop-line-preserved g c =
-    let seen = registers_seen g.R.Registers in
-    let l = c.loop-line in
-    let goes = sym c.is_err.ensures.value ∙ c.if-is_err.false in
+    let seen = registers_seen g.R.Registers in let l = c.loop-line in let P = c.args.plan.now in let a = c.in_default.ensures in
+    let es = l.work.entries in let fs = c.make.new.self.entries in let old = seen c.args.work.now.regs in let mid = seen l.work.regs in let new = seen c.make.new.self.regs in
     record {
-      runs = runs_further c.args.plan.now c.args.lines.now l.line-index _ c.loop-line-test.true l.entries.items c.make.new.entries.items l.state
-          (seen c.args.regs.now) (seen l.regs) (seen c.make.new.regs) l.invariant.runs c.make.ensures.turned
-          c.make.new.state (where_ok c.make.result goes c.make.ensures.stands);
-      count = c.make.ensures.more ∙ ap (λ n. n + 1) l.invariant.count;
-      space = rw c.make.ensures.space l.invariant.space;
-      room = c.make.ensures.room ∙ l.invariant.room;
+      runs = runs_further P c.args.lines.now l.line-index _ c.loop-line-test.true es fs old mid new l.invariant.runs
+          (turned P _ es fs mid new l.invariant.runs.faultless a.of.legal (Ok c.in_default.field-0) a.entry a.fault a.did)
+          (goes_on P _ es fs mid new l.invariant.runs.faultless a.of.legal a.entry);
+      of = a.of;
+      count = ap length a.entry ∙ length-append es _ ∙ ap (λ n. n + 1) l.invariant.count;
+      space = rw a.capacity l.invariant.space;
     }
 
-pub returns-clause-ran : goal.returns-clause-ran
-returns-clause-ran g c =
+pub returns : goal.returns
+returns g c =
     let seen = registers_seen g.R.Registers in
     let l = c.loop-line in
     let past : length c.args.lines.now ≤ l.line-index = omega arith in
-    ran_all c.args.plan.now c.args.lines.now l.entries.items l.state (seen c.args.regs.now) (seen l.regs)
-    (rw (take_all l.line-index c.args.lines.now past) at l.invariant.runs)
+    record {
+      ran = ran_all c.args.plan.now c.args.lines.now l.work.entries (seen c.args.work.now.regs) (seen l.work.regs)
+          (rw (take_all l.line-index c.args.lines.now past) at l.invariant.runs);
+    }

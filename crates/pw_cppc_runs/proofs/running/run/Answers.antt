@@ -2,15 +2,18 @@ use Rattle.std.proofs.Common.{ap, codes}
 use Rattle.pw_regs.specs.Seen.{registers_seen}
 use Rattle.pw_ends.proofs.Outcomes.{ended_as, ended_saying}
 use Rattle.pw_cppc_script.specs.Reading.{requests_of}
+use Rattle.pw_cppc_workers.proofs.Serial.{serial-lawful}
 use Rattle.pw_cppc_runs.specs.Runs.{IsSerialRun}
 use Rattle.pw_cppc_runs.specs.inner.Parts.RunsSerially.{ran, undone}
 use Rattle.pw_cppc_runs.proofs.Histories.{entries_state}
 use Rattle.pw_cppc_runs.proofs.running.run.Goals as goal
 
-pub print_run-status-requires-clause-entries : goal.print_run-status-requires-clause-entries
-print_run-status-requires-clause-entries g c =
+pub print_driven-requires-clause-entries : goal.print_driven-requires-clause-entries
+print_driven-requires-clause-entries g c =
     let driven = c.in-Ok.driven in
-    rw (c.in-Ok.ensures.plan, c.as_slice.ensures) (entries_state c.args.plan (requests_of c.args.script.now.lines) driven.opening driven.entries c.in-Ok.ensures.lawful)
+    let asked = requests_of c.args.script.now.lines in
+    rw c.in-Ok.ensures.plan (entries_state c.args.plan asked driven.opening driven.entries
+    (serial-lawful c.args.plan asked driven.opening driven.entries c.in-Ok.ensures.lawful))
 
 pub returns-in-Err-clause-ran : goal.returns-in-Err-clause-ran
 returns-in-Err-clause-ran g c =
@@ -19,9 +22,9 @@ returns-in-Err-clause-ran g c =
 
 pub returns-in-Ok-clause-ran : goal.returns-in-Ok-clause-ran
 returns-in-Ok-clause-ran g c =
-    let printed = rw (c.in-Ok.ensures.plan, c.as_slice.ensures) at c.print_run-status.ensures.printed in
+    let printed = rw c.in-Ok.ensures.plan at c.print_driven.ensures.printed in
     let driven = c.in-Ok.driven in
     let before = registers_seen g.R.Registers c.args.regs in
     let run : IsSerialRun c.args.plan c.args.script.now.lines driven.opening driven.entries before (registers_seen g.R.Registers driven.regs) =
     record { lawful = c.in-Ok.ensures.lawful; seats = c.in-Ok.ensures.seats; operates = c.in-Ok.ensures.operates } in
-    ended_as (λ written text prints. ran run prints) printed
+    rw c.print_driven.ensures.regs (ended_as (λ written text prints. ran run prints) printed)

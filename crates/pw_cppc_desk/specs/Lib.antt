@@ -1,0 +1,13 @@
+pub mod Views
+pub mod Asked
+pub mod Steps
+pub mod Owning
+pub mod Looks
+pub mod Splits
+pub mod Told
+pub mod Trying
+pub mod Finished
+pub mod Alone
+pub mod Opens
+pub mod Ends
+pub mod inner

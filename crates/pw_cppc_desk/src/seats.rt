@@ -1,0 +1,189 @@
+ghost use Rattle.std.specs.Prelude.{◌≡◌, ◌≢◌, ℕ, ◌+◌, ◌<◌, ◌≤◌, ◌↔◌, [], ◌∷◌, true, Some, None, IfErr, IfOk, IfSome, length};
+ghost use Rattle.pw_desk.specs.Steps.{IsIdle, IsSpare, joined, left_of, missed, right_of};
+ghost use Rattle.pw_cppc_desk.specs.Looks.{IsDraw, IsJoin, IsLook};
+ghost use Rattle.pw_cppc_desk.specs.Views.{view_in};
+
+use crate::desk::{CppcDesk, CppcSeat, Raw, out};
+use crate::plays::{Cut, Draw, Glue, Look, Share};
+use pw_regs::Registers;
+use std::marker::Brand;
+
+/// How many parts the seats of a desk have together.
+pub const ALL_PARTS: u32 = 65536;
+
+/// Why no seat was made.
+#[derive(Drop)]
+pub enum CppcSplitFault {
+    /// So many seats were made, and there is no number for one more.
+    Many { made: u32 },
+}
+
+impl CppcSeat {
+    /// Its number. No two seats of a desk have the same.
+    pub fn number(&self) -> u32
+        ensures { result ≡ (view_in self.now.badge.views).number }
+    {
+        self.number
+    }
+
+    /// How many of the desk's 65,536 parts it has.
+    pub fn parts(&self) -> u32
+        ensures { result ≡ (view_in self.now.badge.views).parts }
+    {
+        self.parts
+    }
+
+    /// How many entries of the history it has seen.
+    pub fn seen(&self) -> u32
+        ensures { result ≡ length (view_in self.now.badge.views).seen }
+    {
+        self.seen
+    }
+
+    /// Whether it has all parts: then each other seat that was made has been joined into it.
+    pub fn alone(&self) -> bool
+        ensures { result ≡ true ↔ (view_in self.now.badge.views).parts ≡ 65536 }
+    {
+        self.parts == ALL_PARTS
+    }
+
+    /// The number of the seat that had the turn when this one last found it held; None where it never
+    /// did.
+    pub fn met(&self) -> Option<u32>
+        ensures none { result ≡ None ↔ (view_in self.now.badge.views).meets ≡ 0 }
+        ensures holder { IfSome result (λ holder. (view_in self.now.badge.views).met ≡ Some holder) }
+    {
+        self.met
+    }
+}
+
+impl<R: Registers> CppcDesk<R> {
+    ghost use Rattle.pw_cppc_desk.specs.Owning.{Owns};
+    ghost use Rattle.pw_cppc_desk.specs.Splits.{IsSplit};
+
+    /// Reads how many seats are made. What a join told is seen.
+    fn look(&self, raw: &mut Raw<R>) -> u32
+        requires id { raw.old.table_id ≡ self.now.table.shared.table_id }
+        requires idle { IsIdle raw.old.me.0 }
+        ensures id { raw.new.table_id ≡ raw.old.table_id }
+        ensures slots { raw.new.me.1 ≡ raw.old.me.1 }
+        ensures look { IsLook raw.old.me.0 result raw.new.me.0 }
+    {
+        self.table.shared.load::<Look>(raw, 0) as u32
+    }
+
+    /// Draws a number that no seat has, or answers how many seats are made where all are given.
+    fn draw(&self, raw: &mut Raw<R>, read: u32) -> Result<u32, u32>
+        requires id { raw.old.table_id ≡ self.now.table.shared.table_id }
+        requires idle { IsIdle raw.old.me.0 }
+        requires read { (raw.old.me.0.read ≡ Some read) × (read ≤ 65536) }
+        ensures id { raw.new.table_id ≡ raw.old.table_id }
+        ensures slots { raw.new.me.1 ≡ raw.old.me.1 }
+        ensures drawn { IfOk result (λ n. IsDraw raw.old.me.0 read n raw.new.me.0) }
+        ensures none { IfErr result (λ made. (made ≡ 65536) × (raw.new.me.0 ≡ missed made raw.old.me.0)) }
+    {
+        let mut made = u64::from(read);
+        while made < 65536 {
+            let found = self
+                .table
+                .shared
+                .compare_exchange::<Draw>(raw, 0, made, made + 1);
+            if found == made {
+                return Ok(made as u32);
+            }
+            made = found;
+        }
+        Err(made as u32)
+    }
+
+    /// The seat with this number, which the other drew, and these of its parts.
+    fn cut<Q: Share>(&self, raw: &mut Raw<R>, _number: u32, _parts: u32) -> Raw<R>
+        requires id { raw.old.table_id ≡ self.now.table.shared.table_id }
+        requires idle { IsIdle raw.old.me.0 × (raw.old.me.0.told ≡ None) }
+        requires share { (Q.number ≡ _number) × (Q.parts ≡ _parts) }
+        requires spare { IsSpare _number raw.old.me.0 }
+        requires parts { (0 < _parts) × (_parts < raw.old.me.0.parts) }
+        ensures old { raw.new.table_id ≡ raw.old.table_id }
+        ensures new { result.table_id ≡ raw.old.table_id }
+        ensures left { raw.new.me ≡ (left_of _number _parts raw.old.me.0, raw.old.me.1) }
+        ensures right { result.me ≡ (right_of _number _parts raw.old.me.0, []) }
+    {
+        self.table.shared.split_seat::<Cut<Q>>(raw)
+    }
+
+    /// A new seat, which has seen what this one has, with so many of its parts and a number that no
+    /// seat has. It takes no memory.
+    pub fn split(&self, seat: &mut CppcSeat, parts: u32) -> Result<CppcSeat, CppcSplitFault>
+        requires owns { Owns self.now.table.shared.table_id seat.old }
+        requires some { 0 < parts }
+        requires fewer { parts < (view_in seat.old.badge.views).parts }
+        ensures owns { Owns self.now.table.shared.table_id seat.new }
+        ensures split { IsSplit seat.old parts result seat.new self.now.table.shared.table_id }
+    {
+        let seen = seat.seen;
+        let mut raw: Raw<R> = out(&mut seat.badge);
+        let read = self.look(&mut raw);
+        let number = match self.draw(&mut raw, read) {
+            Ok(number) => number,
+            Err(made) => {
+                seat.badge = raw.into_badge();
+                return Err(CppcSplitFault::Many { made });
+            }
+        };
+        let new = self.cut::<Brand>(&mut raw, number, parts);
+        seat.badge = raw.into_badge();
+        seat.parts -= parts;
+        Ok(CppcSeat {
+            badge: new.into_badge(),
+            number,
+            parts,
+            seen,
+            met: None,
+        })
+    }
+
+    /// Joins another seat into this one.
+    fn glue(&self, raw: &mut Raw<R>, other: Raw<R>)
+        requires id { raw.old.table_id ≡ self.now.table.shared.table_id }
+        requires other { (other.table_id ≡ self.now.table.shared.table_id) × (other.me.1 ≡ []) }
+        requires idle { IsIdle raw.old.me.0 × IsIdle other.me.0 }
+        requires none_told { (raw.old.me.0.told ≡ None) × (other.me.0.told ≡ None) }
+        ensures id { raw.new.table_id ≡ raw.old.table_id }
+        ensures joined { raw.new.me ≡ (joined raw.old.me.0 other.me.0, raw.old.me.1) }
+    {
+        self.table.shared.join_seat::<Glue>(raw, other);
+    }
+
+    /// One seat that knows what both have seen and called, with the first one's number.
+    pub fn join(&self, a: CppcSeat, b: CppcSeat) -> CppcSeat
+        requires first { Owns self.now.table.shared.table_id a }
+        requires second { Owns self.now.table.shared.table_id b }
+        ensures owns { Owns self.now.table.shared.table_id result }
+        ensures joined { IsJoin (view_in a.badge.views) (view_in b.badge.views) (view_in result.badge.views) }
+    {
+        let CppcSeat {
+            mut badge,
+            number,
+            parts,
+            seen,
+            met,
+        } = a;
+        let CppcSeat {
+            badge: mut other,
+            number: _,
+            parts: more,
+            seen: others,
+            met: _,
+        } = b;
+        let mut raw: Raw<R> = out(&mut badge);
+        self.glue(&mut raw, out(&mut other));
+        self.look(&mut raw);
+        CppcSeat {
+            badge: raw.into_badge(),
+            number,
+            parts: parts + more,
+            seen: seen.max(others),
+            met,
+        }
+    }
+}

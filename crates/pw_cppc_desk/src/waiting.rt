@@ -1,0 +1,64 @@
+//! A request that sleeps while another seat has the turn.
+ghost use Rattle.std.specs.Prelude.{◌≡◌, ◌<◌, length, true};
+ghost use Rattle.pw_cppc.specs.Requests.{Has};
+ghost use Rattle.pw_desk.specs.Steps.{IsIdle};
+ghost use Rattle.pw_cppc_rule.specs.Rule.{given_of};
+ghost use Rattle.pw_cppc_desk.specs.Steps.{LedOn};
+ghost use Rattle.pw_cppc_desk.specs.Views.{is_met, view_in};
+
+use crate::desk::{CppcDesk, CppcSeat, Raw, out};
+use crate::serving::CppcDone;
+use pw_cppc::CppcRequest;
+use pw_cppc_work::Work;
+use pw_regs::Registers;
+use std::marker::Brand;
+use std::sync::Wait;
+
+impl<R: Registers> CppcDesk<R> {
+    ghost use Rattle.pw_cppc_desk.specs.Finished.{Finished};
+    ghost use Rattle.pw_cppc_desk.specs.Owning.{Owns};
+
+    /// What the turn holds, once no other seat has it.
+    fn take_on<W: Wait>(
+        &self,
+        rt: &W,
+        raw: &mut Raw<R>,
+        met: &mut Option<u32>,
+        number: u32,
+    ) -> Work<R>
+        requires id { raw.old.table_id ≡ self.now.table.shared.table_id }
+        requires idle { IsIdle raw.old.me.0 }
+        requires number { (number ≡ raw.old.me.0.number) × (number < 65536) }
+        requires met { is_met met.old raw.old.me.0 ≡ true }
+        ensures id { raw.new.table_id ≡ raw.old.table_id }
+        ensures view { LedOn R.Registers (given_of R.Registers self.now.table.shared.key) raw.old.me result raw.new.me }
+        ensures met { is_met met.new raw.new.me.0 ≡ true }
+    {
+        for _ in rt.forever() {
+            match self.take::<Brand>(raw, number) {
+                Ok(work) => return work,
+                Err(holder) => {
+                    *met = Some(holder);
+                    self.wait_on(rt, holder + 1);
+                }
+            }
+        }
+        unreachable!()
+    }
+
+    /// Makes a request. It waits where another seat has the turn, and takes no memory.
+    pub fn request<W: Wait>(&self, rt: &W, seat: &mut CppcSeat, request: CppcRequest) -> CppcDone
+        requires owns { Owns self.now.table.shared.table_id seat.old }
+        requires has { Has self.now.plan request }
+        ensures owns { Owns self.now.table.shared.table_id seat.new }
+        ensures told { Finished self.now.plan self.now.capacity (view_in seat.old.badge.views) request result
+            (view_in seat.new.badge.views) }
+    {
+        let number = seat.number;
+        let mut raw: Raw<R> = out(&mut seat.badge);
+        let work = self.take_on(rt, &mut raw, &mut seat.met, number);
+        let done = self.serve(&mut raw, work, &mut seat.seen, number, request);
+        seat.badge = raw.into_badge();
+        done
+    }
+}

@@ -1,0 +1,4 @@
+pub mod Slots
+pub mod Rule
+pub mod Plays
+pub mod Moves

@@ -1,0 +1,94 @@
+-- Each step on a word of the table is a step of the machine, or two, and tells its seat what it found.
+use Rattle.std.specs.Prelude.{map, ◌≡◌, ◌==◌, ℕ, suc, ◌+◌, ◌<◌, List, [], ◌∷◌, true, false, Option, Some, None, length}
+use mathlib.Core.Option.{some, none}
+use lib.ListN.{get_elem?}
+use prog.Atomic.{either}
+use Rattle.atomic_table.specs.Table.{Allows, Final, Joins, Seen, Splits, State, opening, step}
+use Rattle.pw_regs.specs.declared.registers.Registers.{Ghosts as Registers}
+use Rattle.pw_cppc_state.specs.declared.entry.CppcEntry.{CppcEntry}
+use Rattle.pw_cppc_work.specs.Worked.{Worked}
+use Rattle.pw_desk.specs.declared.view.View.{View}
+use Rattle.pw_desk.specs.Books.{Knows, count_in, entries_of, furthest}
+use Rattle.pw_desk.specs.Machine.{spent_view}
+use Rattle.pw_desk.specs.Steps.{IsIdle, IsSpare, joined, left_of, right_of}
+use Rattle.pw_cppc_rule.specs.declared.limit.Limit.{Limit}
+use Rattle.pw_cppc_rule.specs.Slots.{Given, Homes, IsHeld, seat_of}
+use Rattle.pw_cppc_rule.specs.Rule.{Ruled, first_of, given_of}
+use Rattle.pw_cppc_rule.specs.Plays.{IsFirst, IsFound, IsGrown, Mine, claimed, drew, gone_with, led_to, looked_at, opened_by, put}
+
+module _ {R : Type 0} (by : Registers R) where
+  -- # The start
+
+  -- one seat is made, the turn is seat 0's, and the slot is empty
+  abbrev pub TableBegins : Type 0
+  TableBegins = (key : Limit R) → Ruled by key (opening (1 ∷ 1 ∷ []) (None ∷ []) (first_of key))
+
+  -- it takes the slot in hand
+  abbrev pub SlotIsClaimed : Type 0
+  SlotIsClaimed = (n : ℕ) (key : Limit R) (id : ℕ) (m : Mine R) (a b : ℕ) → m.0.mark ≡ true → m.0.out ≡ false
+      → Allows (Ruled by key) n id m 1 (λ y. y) (claimed (step n 1 a b none) m)
+
+  -- and puts the value there
+  abbrev pub DeskIsOpened : Type 0
+  DeskIsOpened = (n : ℕ) (key : Limit R) (id : ℕ) (v : View CppcEntry) (more : List (ℕ × Option (Worked R))) (w : Worked R) (m : Mine R)
+      → 0 < n → m ≡ (v, (0, Some w) ∷ more) → IsFirst by (given_of by key) v w
+      → Allows (Ruled by key) n id m 1 (λ _. 0) (λ r. opened_by (by.faults w.regs) (step n 1 0 0 none) m r)
+
+  -- # A request
+
+  abbrev pub TurnIsTaken : Type 0
+  TurnIsTaken = (n : ℕ) (key : Limit R) (id : ℕ) (m : Mine R) (new : ℕ) → new ≡ suc m.0.number → IsIdle m.0
+      → Allows (Ruled by key) n id m 1 (λ y. either (y == 0) new y) (led_to by (given_of by key) (step n 1 0 new none) m)
+
+  abbrev pub EntryIsMade : Type 0
+  EntryIsMade = (n : ℕ) (key : Limit R) (id : ℕ) (v : View CppcEntry) (more : List (ℕ × Option (Worked R))) (w : Worked R) (e : CppcEntry)
+      (m : Mine R)
+      → 0 < n → m ≡ (v, (0, Some w) ∷ more) → IsGrown by (given_of by key) v e w
+      → Allows (Ruled by key) n id m 1 (λ _. 0) (λ r. put e (by.faults w.regs) (step n 1 0 0 none) m r)
+
+  abbrev pub TurnIsLetGo : Type 0
+  TurnIsLetGo = (n : ℕ) (key : Limit R) (id : ℕ) (v : View CppcEntry) (more : List (ℕ × Option (Worked R))) (w : Worked R) (m : Mine R)
+      → 0 < n → m ≡ (v, (0, Some w) ∷ more) → IsFound by (given_of by key) v w
+      → Allows (Ruled by key) n id m 1 (λ _. 0) (λ r. gone_with (by.faults w.regs) (step n 1 0 0 none) m r)
+
+  -- # Seats
+
+  abbrev pub NumberIsDrawn : Type 0
+  NumberIsDrawn = (n : ℕ) (key : Limit R) (id : ℕ) (m : Mine R) (made new : ℕ) → new ≡ made + 1 → made < 65536 → IsIdle m.0
+      → m.0.read ≡ Some made
+      → Allows (Ruled by key) n id m 0 (λ y. either (y == made) new y) (drew (step n 0 made new none) m)
+
+  abbrev pub NumberIsRead : Type 0
+  NumberIsRead = (n : ℕ) (key : Limit R) (id : ℕ) (m : Mine R) → IsIdle m.0
+      → Allows (Ruled by key) n id m 0 (λ y. y) (looked_at (step n 0 0 0 none) m)
+
+  abbrev pub SeatIsSplit : Type 0
+  SeatIsSplit = (key : Limit R) (id : ℕ) (v : View CppcEntry) (n parts : ℕ) → IsIdle v → v.told ≡ None → IsSpare n v → 0 < parts
+      → parts < v.parts
+      → Splits (Ruled by key) id v (left_of n parts v) (right_of n parts v)
+
+  abbrev pub SeatsAreJoined : Type 0
+  SeatsAreJoined = (key : Limit R) (id : ℕ) (v : View CppcEntry) (other : ℕ) (w : View CppcEntry) → IsIdle v → IsIdle w → v.told ≡ None
+      → w.told ≡ None
+      → Joins (Ruled by key) id v other w (joined v w) spent_view
+
+  -- # The end
+
+  -- What the slot has where an idle seat has all parts: the history that the seat knows.
+  pub record IsWhole (given : Given) (v : View CppcEntry) (hs : Homes R) : Type 0 where
+    pub work : Worked R
+    pub there : get_elem? hs 0 ≡ some (some (Some work))
+    pub held : IsHeld by given work
+    pub seen : furthest v.told v.seen ≡ work.entries
+    -- the seat's book has the entries of each of its numbers, and has each number once that made one
+    pub book : Knows seat_of v.book work.entries
+    pub seats : (n : ℕ) → 0 < length (entries_of seat_of n work.entries) → count_in n v.book ≡ 1
+
+  abbrev pub AloneHasAll : Type 0
+  AloneHasAll = (key : Limit R) (s : State (Option (Worked R)) (View CppcEntry)) (id : ℕ) (v : View CppcEntry) → Ruled by key s
+      → get_elem? s.views id ≡ some v → IsIdle v → v.parts ≡ 65536 → IsWhole (given_of by key) v s.homes
+
+  -- so it is with the slot of a table that was closed with such a seat
+  abbrev pub TableCloses : Type 0
+  TableCloses = (key : Limit R) (id : ℕ) (v : View CppcEntry) (ws : List ℕ) (xs : List (Option (Worked R)))
+      → Final (Seen (Ruled by key) id v) ws xs → IsIdle v → v.parts ≡ 65536 → IsWhole (given_of by key) v (map some xs)
