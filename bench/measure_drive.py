@@ -60,30 +60,40 @@ def peak(program, words):
     return int(done.stderr)
 
 
-def main():
-    programs = sys.argv[1:]
+def begin(first):
+    """Prints the machine and the heads of a table, the first of which is given."""
     print(f"{os.cpu_count()} processor cores, {processor() or 'of no known name'}; least of {RUNS} runs.")
     print()
-    heads = ["idle states", "processors", "lines", "script, bytes", "output, bytes", "processor, ms", "ns a line", "peak memory, KiB"]
+    heads = [first, "processors", "lines", "script, bytes", "output, bytes", "processor, ms", "ns a line", "peak memory, KiB"]
     heads += ["plain Rust, ms", "against plain Rust", "plain Rust, KiB", "memory against plain Rust"]
     print("| " + " | ".join(heads) + " |")
     print("|---" * len(heads) + "|")
+
+
+def put_row(programs, words, first, processors, count, size):
+    """Measures runs of so many lines, a text of this size, and prints their row."""
+    outputs = [subprocess.run([program, *words], stdout=subprocess.PIPE, check=True).stdout for program in programs]
+    if any(output != outputs[0] for output in outputs):
+        raise SystemExit(f"{programs[1]} prints other bytes")
+    took = milliseconds(programs, words)
+    peaks = [peak(program, words) for program in programs]
+    cells = [first, processors, count, size, len(outputs[0]), f"{took[0]:.1f}", f"{took[0] * 1e6 / count:.0f}"]
+    cells += [peaks[0] or "no GNU time"]
+    cells += [f"{took[1]:.1f}", f"{took[0] / took[1]:.2f}"] if len(took) > 1 else ["", ""]
+    cells += [peaks[1], f"{peaks[0] / peaks[1]:.2f}"] if len(took) > 1 and peaks[0] else ["", ""]
+    print("| " + " | ".join(str(cell) for cell in cells) + " |", flush=True)
+
+
+def main():
+    programs = sys.argv[1:]
+    begin("idle states")
     with tempfile.TemporaryDirectory() as folder:
         text, table = Path(folder) / "script", Path(folder) / "block"
         words = ["drive", "--serial", str(text), str(table)]
         for idle, (processors, count) in itertools.product(("low power", "C states too"), SIZES):
             table.write_bytes(machine(processors, idle != "low power"))
             text.write_text(script(processors, count), encoding="ascii")
-            outputs = [subprocess.run([program, *words], stdout=subprocess.PIPE, check=True).stdout for program in programs]
-            if any(output != outputs[0] for output in outputs):
-                raise SystemExit(f"{programs[1]} prints other bytes")
-            took = milliseconds(programs, words)
-            peaks = [peak(program, words) for program in programs]
-            cells = [idle, processors, count, text.stat().st_size, len(outputs[0]), f"{took[0]:.1f}", f"{took[0] * 1e6 / count:.0f}"]
-            cells += [peaks[0] or "no GNU time"]
-            cells += [f"{took[1]:.1f}", f"{took[0] / took[1]:.2f}"] if len(took) > 1 else ["", ""]
-            cells += [peaks[1], f"{peaks[0] / peaks[1]:.2f}"] if len(took) > 1 and peaks[0] else ["", ""]
-            print("| " + " | ".join(str(cell) for cell in cells) + " |", flush=True)
+            put_row(programs, words, idle, processors, count, text.stat().st_size)
 
 
 if __name__ == "__main__":

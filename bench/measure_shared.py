@@ -1,4 +1,5 @@
-"""Measures requests of several threads on a shared coordinator, beside plain Rust with one lock and with a lock for each record.
+"""Measures requests of several threads on a shared coordinator, beside plain Rust: with one lock, with a lock for each record, and with
+the proved coordinator's own steps, its turns side by side or a cache line and more apart.
 
 usage: measure_shared.py PROGRAM [PLAIN]
 A run makes rounds of 65,536 requests in all: a coordinator is opened, threads make the requests, each by a seat and for a
@@ -55,8 +56,8 @@ def main():
     programs = [[sys.argv[1]]]
     names = ["proved"]
     if len(sys.argv) > 2:
-        programs += [[sys.argv[2], "shared", "one-lock"], [sys.argv[2], "shared", "each-lock"]]
-        names += ["one lock", "a lock for each record"]
+        programs += [[sys.argv[2], "shared", locks] for locks in ("one-lock", "each-lock", "each-turn", "each-turn-apart")]
+        names += ["one lock", "a lock for each record", "a turn for each record", "turns apart"]
     print(f"{os.cpu_count()} processor cores, {processor() or 'of no known name'}; least of {RUNS} runs of {ROUNDS} rounds.")
     print()
     heads = ["machine", "threads"]
@@ -64,6 +65,7 @@ def main():
         heads += [f"{name}: thousand requests a second", "processor, ns a request", "processors busy"]
     if len(programs) > 1:
         heads += ["wall clock against one lock", "against the better", "processor against one lock", "against the better"]
+        heads += ["turns in plain Rust, wall clock against the better", "turns apart"]
     print("| " + " | ".join(heads) + " |")
     print("|---" * len(heads) + "|")
     for machine, threads in itertools.product(MACHINES, THREADS):
@@ -73,8 +75,9 @@ def main():
             cells += [rate(wall), f"{took:.0f}", f"{kept:.2f}"]
         if len(costs) > 1:
             for place in (0, 1):
-                own, one, each = (cost[place] for cost in costs)
+                own, one, each = (cost[place] for cost in costs[:3])
                 cells += [f"{own / one:.2f}", f"{own / min(one, each):.2f}"]
+            cells += [f"{cost[0] / min(costs[1][0], costs[2][0]):.2f}" for cost in costs[3:]]
         print("| " + " | ".join(str(cell) for cell in cells) + " |", flush=True)
 
 

@@ -15,11 +15,11 @@ use crate::tables;
 use crate::workers;
 use std::io::{self, Write};
 
-const MOST_OPERATIONS: usize = 1_048_576;
+pub const MOST_OPERATIONS: usize = 1_048_576;
 
 // # The machine
 
-fn register(of: tables::Register) -> Register {
+pub fn register(of: tables::Register) -> Register {
     let tables::Register { space, width, offset, access, address } = of;
     Register { space, width, offset, access, address }
 }
@@ -35,7 +35,7 @@ fn rows(idle: machine::Idle) -> Vec<Row> {
     idle.rows.into_iter().map(row).collect()
 }
 
-fn segs(space: &Space, mut place: u32) -> Vec<[u8; 4]> {
+pub fn segs(space: &Space, mut place: u32) -> Vec<[u8; 4]> {
     let mut segs = Vec::new();
     while place != 0 {
         segs.push(space.places[place as usize].seg);

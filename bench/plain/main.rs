@@ -6,18 +6,20 @@
 //! the machine. Which fault a block has it doesn't tell; that of a table it does.
 //! `--json` makes values first, as the program does, and `--json --direct` writes the text without.
 //! `drive` makes the requests of a script on the machine, and prints their history: by a thread for each processor, or on one
-//! thread. `audit` tells whether a history is one that a script allows. `generate` makes a block of so many
+//! thread. `cppc --serial` does so by requests for performance. `audit` tells whether a history is one that a script allows. `generate` makes a block of so many
 //! clusters, reads it again, makes the requests of a load on its machine by threads, and prints their summary. `shared` makes
 //! requests of one coordinator by several threads.
 //! usage: plain show|rewrite|check [--json [--direct]] FILE..
 //!        plain drive [--serial] [--step] SCRIPT FILE..
+//!        plain cppc --serial SCRIPT FILE..
 //!        plain audit [--step] SCRIPT HISTORY FILE..
 //!        plain generate N
 //!        plain read|print SCRIPT ROUNDS
-//!        plain shared one-lock|each-lock one-cluster|eight-clusters|domains THREADS ROUNDS
+//!        plain shared one-lock|each-lock|each-turn|each-turn-apart one-cluster|eight-clusters|domains THREADS ROUNDS
 
 mod audit;
 mod check;
+mod cppc;
 mod drive;
 mod generate;
 mod json;
@@ -29,6 +31,7 @@ mod shared;
 mod show;
 mod space;
 mod tables;
+mod turns;
 mod values;
 mod workers;
 mod written;
@@ -81,6 +84,16 @@ fn drive_script(script: &str, flags: &[String], blocks: &[(Vec<u8>, Vec<Term>)])
     drive(blocks, Asked::Script { text: &text, steps: has("--step"), serial: has("--serial") })
 }
 
+/// Steers the processors of the blocks by a script.
+fn steer(script: &str, blocks: &[(Vec<u8>, Vec<Term>)]) -> io::Result<ExitCode> {
+    let text = std::fs::read(script)?;
+    let space = Space::of(blocks).expect("no place is given twice");
+    let machine = machine::machine(&space).unwrap_or_else(|_| panic!("the objects make a machine"));
+    cppc::cppc(&space, &machine, &text, BufWriter::with_capacity(1 << 16, io::stdout()))?;
+    std::mem::forget(space);
+    Ok(ExitCode::SUCCESS)
+}
+
 /// Tells whether a history is one that a script allows on the machine of the blocks.
 fn audit(script: &str, history: &str, flags: &[String], blocks: &[(Vec<u8>, Vec<Term>)]) -> io::Result<ExitCode> {
     let (script, text) = (std::fs::read(script)?, std::fs::read(history)?);
@@ -129,7 +142,7 @@ fn main() -> ExitCode {
     let (flags, words): (Vec<String>, Vec<String>) =
         std::env::args().skip(1).partition(|word| word.starts_with("--"));
     let Some((command, files)) = words.split_first() else {
-        panic!("usage: plain show|rewrite|check|drive|audit|generate|read|print|shared [FLAG..] FILE..");
+        panic!("usage: plain show|rewrite|check|drive|cppc|audit|generate|read|print|shared [FLAG..] FILE..");
     };
     if let ("read" | "print", [file, rounds]) = (command.as_str(), files) {
         script::rounds(command, file, rounds.parse().expect("a number of rounds"));
@@ -144,7 +157,7 @@ fn main() -> ExitCode {
         return generate(clusters.parse().expect("a number of clusters")).expect("the output can be written");
     }
     let (scripts, files) = files.split_at(match command.as_str() {
-        "drive" => 1,
+        "drive" | "cppc" => 1,
         "audit" => 2,
         _ => 0,
     });
@@ -155,6 +168,7 @@ fn main() -> ExitCode {
     let done = match command.as_str() {
         "rewrite" => rewrite(&blocks, io::stdout().lock()),
         "drive" => drive_script(&scripts[0], &flags, &blocks),
+        "cppc" => steer(&scripts[0], &blocks),
         "audit" => audit(&scripts[0], &scripts[1], &flags, &blocks),
         command => on_objects(command, &flags, &blocks),
     };

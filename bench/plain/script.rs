@@ -225,7 +225,7 @@ pub struct Line {
 }
 
 /// A number of digits alone; none inside where 32 bits don't hold it.
-fn number(text: &[u8]) -> Option<Option<u32>> {
+pub fn number(text: &[u8]) -> Option<Option<u32>> {
     if text.is_empty() || !text.iter().all(u8::is_ascii_digit) {
         return None;
     }
@@ -234,7 +234,7 @@ fn number(text: &[u8]) -> Option<Option<u32>> {
 }
 
 /// Writes the segments of a path, each of four bytes, over the name.
-fn write_name(text: &[u8], name: &mut Vec<u8>) -> Option<()> {
+pub fn write_name(text: &[u8], name: &mut Vec<u8>) -> Option<()> {
     name.clear();
     for part in text.strip_prefix(b"\\")?.split(|byte| *byte == b'.') {
         let is_word = |byte: &u8| byte.is_ascii_uppercase() || byte.is_ascii_digit() || *byte == b'_';
@@ -378,7 +378,7 @@ impl<'a> Reader<'a> {
 }
 
 /// The lines, without their endings.
-fn lines_of(bytes: &[u8]) -> impl Iterator<Item = &[u8]> {
+pub fn lines_of(bytes: &[u8]) -> impl Iterator<Item = &[u8]> {
     bytes.split_inclusive(|byte| *byte == b'\n').map(|line| match line.strip_suffix(b"\n") {
         Some(ended) => ended.strip_suffix(b"\r").unwrap_or(ended),
         None => line,

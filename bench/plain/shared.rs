@@ -1,12 +1,13 @@
 //! A coordinator that threads share, with one lock round the whole of it, or with one for each record, taken in the order of the
-//! climb, and one for the journal. `shared` makes requests of several threads on it, over and over, as `bench/shared_program`
-//! does. Machines with C states aren't coordinated here.
+//! climb, and one for the journal; `turns` has a third way. `shared` makes requests of several threads on it, over and over, as
+//! `bench/shared_program` does. Machines with C states aren't coordinated here.
 
 use crate::drive::{Levels, Node, Places};
 use crate::script::{
     ANY_LATENCY, Chain, Child, Container, Coord, Cpu, Domain, Entry, Kind, Machine, Op, RUNNING, Register, Reply, Request, Row, Scale, Vote,
     entered, set_each,
 };
+use crate::turns::EachTurn;
 use std::sync::Mutex;
 use std::thread;
 
@@ -146,13 +147,13 @@ pub enum Unanswered {
 pub type Told = Result<Reply, Unanswered>;
 
 impl<E: Kept> Journal<E> {
-    fn open(opening: &mut Vec<Op>, entries: usize, operations: usize) -> Journal<E> {
+    pub fn open(opening: &mut Vec<Op>, entries: usize, operations: usize) -> Journal<E> {
         let mut registers = Vec::with_capacity(operations);
         registers.append(opening);
         Journal { entries: Vec::with_capacity(entries), registers, stopped: false }
     }
 
-    fn may_append(&self) -> Result<(), Unanswered> {
+    pub fn may_append(&self) -> Result<(), Unanswered> {
         if self.stopped {
             return Err(Unanswered::Stopped);
         }
@@ -160,7 +161,7 @@ impl<E: Kept> Journal<E> {
     }
 
     /// Does the operations, up to the first that finds no room, and appends the entry.
-    fn append(&mut self, seat: u32, request: Request, reply: Reply, ops: &mut Vec<Op>) -> Told {
+    pub fn append(&mut self, seat: u32, request: Request, reply: Reply, ops: &mut Vec<Op>) -> Told {
         let room = self.registers.capacity() - self.registers.len();
         self.stopped = ops.len() > room;
         self.registers.extend(ops.drain(..).take(room));
@@ -172,10 +173,10 @@ impl<E: Kept> Journal<E> {
 // # Requests
 
 /// Where a vote stands on its way up.
-struct Climb {
-    next: Option<u32>,
-    place: usize,
-    vote: Vote,
+pub struct Climb {
+    pub next: Option<u32>,
+    pub place: usize,
+    pub vote: Vote,
     rising: bool,
     chain: Chain,
 }
@@ -187,9 +188,16 @@ pub struct Plan {
 }
 
 /// What a request changed in the record of a domain.
-struct Old {
+pub struct Old {
     is_limit: bool,
     level: u8,
+}
+
+impl Old {
+    pub fn set_back(&self, levels: &mut Levels, member: usize) {
+        let of = if self.is_limit { &mut levels.limits } else { &mut levels.asks };
+        of[member] = self.level;
+    }
 }
 
 impl Plan {
@@ -199,7 +207,7 @@ impl Plan {
     }
 
     /// The vote of a processor, below its container; or the reply of one that may not idle so.
-    fn begin(&self, request: Request) -> Result<Climb, Reply> {
+    pub fn begin(&self, request: Request) -> Result<Climb, Reply> {
         let (cpu, own) = match request {
             Request::Idle { cpu, state, tolerance } => (cpu, self.idle(cpu, state, tolerance)?),
             Request::Wake { cpu } => (cpu, RUNNING),
@@ -229,7 +237,7 @@ impl Plan {
     }
 
     /// Goes past a container, to the one around it where a vote goes on.
-    fn past(&self, climb: &mut Climb, number: u32, (before, after): (Vote, Vote)) {
+    pub fn past(&self, climb: &mut Climb, number: u32, (before, after): (Vote, Vote)) {
         climb.rising &= after.state > 0;
         if climb.rising {
             climb.chain.states[climb.chain.len] = after.state;
@@ -242,7 +250,7 @@ impl Plan {
     }
 
     /// The reply of a climb that is over, and its operation.
-    fn over(&self, request: Request, climb: &Climb, ops: &mut Vec<Op>) -> Reply {
+    pub fn over(&self, request: Request, climb: &Climb, ops: &mut Vec<Op>) -> Reply {
         let (Request::Idle { cpu, .. }, chain) = (request, climb.chain) else {
             return Reply::Running;
         };
@@ -251,7 +259,7 @@ impl Plan {
     }
 
     /// The states and the member of a processor that asks, or whose limit moves.
-    fn scale(&self, kind: Kind, cpu: u32) -> Result<(&Scale, usize), Reply> {
+    pub fn scale(&self, kind: Kind, cpu: u32) -> Result<(&Scale, usize), Reply> {
         let scale = self.machine.scale_of(kind, cpu).ok_or(Reply::NoTable)?;
         match self.machine.domains[scale.domain].unfit {
             0 => Ok((scale, self.places.member[cpu as usize][kind as usize])),
@@ -260,7 +268,7 @@ impl Plan {
     }
 
     /// Makes an ask or moves a limit in the record of a domain, and answers what stood there before.
-    fn change(&self, levels: &mut Levels, (scale, member): (&Scale, usize), request: Request, ops: &mut Vec<Op>) -> Result<(Old, Reply), Reply> {
+    pub fn change(&self, levels: &mut Levels, (scale, member): (&Scale, usize), request: Request, ops: &mut Vec<Op>) -> Result<(Old, Reply), Reply> {
         let domain = &self.machine.domains[scale.domain];
         let before = levels.standing(domain.coord, member);
         let old = match request {
@@ -283,16 +291,16 @@ impl Plan {
         Ok((old, Reply::Stands(stands)))
     }
 
-    fn nodes(&self) -> impl Iterator<Item = Node> + '_ {
+    pub fn nodes(&self) -> impl Iterator<Item = Node> + '_ {
         self.machine.containers.iter().map(Node::new)
     }
 
-    fn levels(&self) -> impl Iterator<Item = Levels> + '_ {
+    pub fn levels(&self) -> impl Iterator<Item = Levels> + '_ {
         self.machine.domains.iter().map(|domain| Levels::new(&self.machine, domain))
     }
 
     /// The operations at the start.
-    fn opening(&self) -> Vec<Op> {
+    pub fn opening(&self) -> Vec<Op> {
         let mut ops = Vec::new();
         for (domain, levels) in self.machine.domains.iter().zip(self.levels()).filter(|(domain, _)| domain.unfit == 0) {
             let mut set = |members: &[u32], member| set_each(&self.machine, domain.kind, members, levels.standing(domain.coord, member), &mut ops);
@@ -418,8 +426,7 @@ impl<E: Kept> EachLock<E> {
             Ok((old, reply)) => {
                 let told = self.finish(seat, request, reply, ops);
                 if told.is_err() {
-                    let of = if old.is_limit { &mut levels.limits } else { &mut levels.asks };
-                    of[scale.1] = old.level;
+                    old.set_back(&mut levels, scale.1);
                 }
                 told
             }
@@ -483,13 +490,15 @@ fn round<S: Shared<Bare>>(load: Load, threads: u32) -> (usize, usize) {
     (entries.len(), registers.len())
 }
 
-/// Makes so many rounds with one lock or with one for each record, and prints what each left.
+/// Makes so many rounds with one lock, or with a lock or a turn for each record, and prints what each left.
 pub fn rounds(locks: &str, machine: &str, threads: u32, rounds: u32) {
     assert!((1..=THREADS).contains(&threads));
     let load = Load::named(machine);
     let one = match locks {
         "one-lock" => round::<OneLock<Bare>>,
         "each-lock" => round::<EachLock<Bare>>,
+        "each-turn" => round::<EachTurn<Bare, 1>>,
+        "each-turn-apart" => round::<EachTurn<Bare, 16>>,
         _ => panic!("no such locks"),
     };
     let mut left = (0, 0);
