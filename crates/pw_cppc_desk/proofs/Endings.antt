@@ -11,7 +11,7 @@ use Rattle.pw_cppc_state.specs.History.{Legal, run_ops, stopped_at}
 use Rattle.pw_cppc_work.specs.Worked.{Worked}
 use Rattle.pw_desk.specs.declared.view.View.{View}
 use Rattle.pw_desk.specs.Law.{first_view}
-use Rattle.pw_desk.specs.Books.{furthest}
+use Rattle.pw_books.specs.Books.{furthest}
 use Rattle.pw_desk.specs.Steps.{IsIdle}
 use Rattle.pw_cppc_rule.specs.declared.limit.Limit.{Limit}
 use Rattle.pw_cppc_rule.specs.Slots.{bound_of}

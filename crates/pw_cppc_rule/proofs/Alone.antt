@@ -8,7 +8,7 @@ use lib.ListN.{get_elem?}
 use Rattle.atomic_table.proofs.Lists.{at_map}
 use Rattle.pw_regs.specs.declared.registers.Registers.{Ghosts as Registers}
 use Rattle.pw_cppc_state.specs.declared.entry.CppcEntry.{CppcEntry}
-use Rattle.pw_desk.specs.Books.{Knows, entries_of}
+use Rattle.pw_books.specs.Books.{Knows, entries_of}
 use Rattle.pw_desk.proofs.Told.{is_told}
 use Rattle.pw_cppc_rule.specs.Slots.{MayBe, seat_of}
 use Rattle.pw_cppc_rule.specs.Rule.{given_of}

@@ -7,11 +7,12 @@ use Rattle.atomic_table.proofs.Lists.{exchanged, set_else}
 use Rattle.pw_regs.specs.declared.registers.Registers.{Ghosts as Registers}
 use Rattle.pw_cppc_state.specs.declared.entry.CppcEntry.{CppcEntry}
 use Rattle.pw_desk.specs.declared.view.View.{View}
-use Rattle.pw_desk.specs.Books.{IsPrefix, count_in}
-use Rattle.pw_desk.specs.Machine.{AtMost, Machine, spent_view}
+use Rattle.pw_books.specs.Books.{IsPrefix, count_in}
+use Rattle.pw_books.specs.Sums.{AtMost}
+use Rattle.pw_desk.specs.Machine.{Machine, spent_view}
 use Rattle.pw_desk.specs.Steps.{IsSpare, draw_number, drawn, join_seats, joined, left_of, looked, miss_draw, missed, read_made, right_of, split_seat}
-use Rattle.pw_desk.proofs.Lists.{at_set, at_snoc, off, term_le}
-use Rattle.pw_desk.proofs.Books.{longer_both}
+use Rattle.pw_books.proofs.Lists.{at_set, at_snoc, off, term_le}
+use Rattle.pw_books.proofs.Books.{longer_both}
 use Rattle.pw_desk.proofs.Told.{is_told}
 use Rattle.pw_cppc_rule.specs.declared.limit.Limit.{Limit}
 use Rattle.pw_cppc_rule.specs.Slots.{Homes, MayBe, seat_of}

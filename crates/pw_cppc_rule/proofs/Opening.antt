@@ -11,7 +11,7 @@ use Rattle.pw_cppc_state.proofs.Joining.{legal-empty}
 use Rattle.pw_desk.specs.declared.view.View.{View}
 use Rattle.pw_desk.specs.Steps.{after, in_hand, in_place, let_go, release_without_entry, slot_back, slot_out}
 use Rattle.pw_desk.specs.Law.{opened}
-use Rattle.pw_desk.proofs.Lists.{at_set, bit_one, elem_below, off}
+use Rattle.pw_books.proofs.Lists.{at_set, bit_one, elem_below, off}
 use Rattle.pw_desk.proofs.Facts.{live_holds, other_unmarked}
 use Rattle.pw_desk.proofs.Keeps.{opens, step_keeps}
 use Rattle.pw_desk.proofs.Turns.{turn_is}

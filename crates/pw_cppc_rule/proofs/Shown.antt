@@ -9,7 +9,7 @@ use Rattle.pw_cppc_state.specs.declared.entry.CppcEntry.{CppcEntry}
 use Rattle.pw_cppc_work.specs.Worked.{Worked}
 use Rattle.pw_desk.specs.declared.view.View.{View}
 use Rattle.pw_desk.specs.Steps.{Kind, May, after}
-use Rattle.pw_desk.proofs.Lists.{at_set, off}
+use Rattle.pw_books.proofs.Lists.{at_set, off}
 use Rattle.pw_desk.proofs.Facts.{other_unmarked}
 use Rattle.pw_desk.proofs.Keeps.{step_keeps}
 use Rattle.pw_cppc_rule.specs.declared.limit.Limit.{Limit}

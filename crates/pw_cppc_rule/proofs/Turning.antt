@@ -6,7 +6,7 @@ use lib.ListN.{get_elem?}
 use Rattle.atomic_table.specs.Table.{Allows, gives, keeps, step, takes}
 use Rattle.atomic_table.proofs.Lists.{exchanged, set_here}
 use Rattle.pw_regs.specs.declared.registers.Registers.{Ghosts as Registers}
-use Rattle.pw_desk.specs.Books.{Begins, Knows}
+use Rattle.pw_books.specs.Books.{Begins, Knows}
 use Rattle.pw_desk.specs.Steps.{Enters, entered, find_held, led, let_go, met_with, release_with_entry, release_without_entry, take_turn}
 use Rattle.pw_desk.proofs.Facts.{live_holds}
 use Rattle.pw_desk.proofs.Told.{is_told}

@@ -8,7 +8,7 @@ use Rattle.pw_regs.specs.declared.registers.Registers.{Ghosts as Registers}
 use Rattle.pw_cppc_state.specs.declared.entry.CppcEntry.{CppcEntry}
 use Rattle.pw_cppc_work.specs.Worked.{Worked}
 use Rattle.pw_desk.specs.declared.view.View.{View}
-use Rattle.pw_desk.specs.Books.{Knows, count_in, entries_of, furthest}
+use Rattle.pw_books.specs.Books.{Knows, count_in, entries_of, furthest}
 use Rattle.pw_desk.specs.Machine.{spent_view}
 use Rattle.pw_desk.specs.Steps.{IsIdle, IsSpare, joined, left_of, right_of}
 use Rattle.pw_cppc_rule.specs.declared.limit.Limit.{Limit}

@@ -5,8 +5,8 @@ use Rattle.pw_regs.specs.declared.registers.Registers.{Ghosts as Registers}
 use Rattle.pw_cppc_state.specs.declared.entry.CppcEntry.{CppcEntry}
 use Rattle.pw_cppc_work.specs.Worked.{Worked}
 use Rattle.pw_desk.specs.declared.view.View.{View}
-use Rattle.pw_desk.specs.Books.{Begins, Knows, count_in, furthest, longer}
-use Rattle.pw_desk.specs.Machine.{AtMost}
+use Rattle.pw_books.specs.Books.{Begins, Knows, count_in, furthest, longer}
+use Rattle.pw_books.specs.Sums.{AtMost}
 use Rattle.pw_desk.specs.Steps.{IsSpare, drawn, entered, in_hand, in_place, led, let_go, looked, met_with, missed}
 use Rattle.pw_desk.specs.Told.{MeetsOther}
 use Rattle.pw_cppc_rule.specs.Slots.{Given, IsHeld, seat_of}

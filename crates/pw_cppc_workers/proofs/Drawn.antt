@@ -7,13 +7,13 @@ use Rattle.std.proofs.lemmas.List.Sums.{sum_by-cons}
 use Rattle.pw_regs.specs.declared.registers.Registers.{Ghosts as Registers}
 use Rattle.pw_regs.specs.Seen.{registers_seen}
 use Rattle.pw_doing.proofs.Operating.{did_within}
-use Rattle.pw_desk_runs.specs.Asked.{IsRunOf, cpu_of}
-use Rattle.pw_desk_runs.specs.Seats.{SeatsTell, SitAlike}
-use Rattle.pw_desk_runs.specs.Workers.{MadeByWorkers, seat_of}
-use Rattle.pw_desk_runs.proofs.Joins.{each_map}
-use Rattle.pw_desk_runs.proofs.Seats.{asked-run, seats-tell}
-use Rattle.pw_desk_runs.proofs.Sums.{asks_no_more}
-use Rattle.pw_desk_runs.proofs.Workers.{workers-asked}
+use Rattle.pw_interleaved.specs.Asked.{IsRunOf, cpu_of}
+use Rattle.pw_interleaved.specs.Seats.{SeatsTell, SitAlike}
+use Rattle.pw_interleaved.specs.Workers.{MadeByWorkers, seat_of}
+use Rattle.pw_interleaved.proofs.Joins.{each_map}
+use Rattle.pw_interleaved.proofs.Seats.{asked-run, seats-tell}
+use Rattle.pw_interleaved.proofs.Sums.{asks_no_more}
+use Rattle.pw_interleaved.proofs.Workers.{workers-asked}
 use Rattle.pw_cppc.specs.declared.plan.CppcPlan.{CppcPlan}
 use Rattle.pw_cppc.specs.declared.request.CppcRequest.{CppcRequest}
 use Rattle.pw_cppc.specs.Requests.{Has, ops_bound}

@@ -9,20 +9,20 @@ use Rattle.pw_cppc.specs.declared.plan.CppcPlan.{CppcPlan}
 use Rattle.pw_cppc.specs.declared.request.CppcRequest.{CppcRequest}
 use Rattle.pw_cppc.specs.Requests.{Has, opening_bound}
 use Rattle.pw_cppc_state.specs.declared.entry.CppcEntry.{CppcEntry}
-use Rattle.pw_desk.specs.declared.view.Calls.{Calls}
+use Rattle.pw_books.specs.declared.calls.Calls.{Calls}
 use Rattle.pw_desk.specs.declared.view.View.{View}
-use Rattle.pw_desk.specs.Books.{Begins, Knows, calls_of, count_in, entries_of}
-use Rattle.pw_desk_runs.specs.Asked.{own}
+use Rattle.pw_books.specs.Books.{Begins, Knows, calls_of, count_in, entries_of}
+use Rattle.pw_interleaved.specs.Asked.{own}
 use Rattle.pw_regs.specs.declared.registers.Registers.{Ghosts as Registers}
 use Rattle.pw_regs.specs.Seen.{registers_seen}
 use Rattle.pw_doing.proofs.Operating.{did_within}
 use Rattle.pw_cppc_rule.specs.Slots.{bound_of}
 use Rattle.pw_cppc_desk.specs.Ends.{Ends}
-use Rattle.pw_desk_runs.specs.Seats.{IsSeat}
-use Rattle.pw_desk_runs.specs.Workers.{AreApart, Ended, HasWorker, joined_down, seat_of}
-use Rattle.pw_desk_runs.specs.Workers.{Worker as Gathered}
-use Rattle.pw_desk_runs.proofs.Gathering.{counted_once, each_append, has_all}
-use Rattle.pw_desk_runs.proofs.Workers.{workers-asked}
+use Rattle.pw_interleaved.specs.Seats.{IsSeat}
+use Rattle.pw_interleaved.specs.Workers.{AreApart, Ended, HasWorker, joined_down, seat_of}
+use Rattle.pw_interleaved.specs.Workers.{Worker as Gathered}
+use Rattle.pw_interleaved.proofs.Gathering.{counted_once, each_append, has_all}
+use Rattle.pw_interleaved.proofs.Workers.{workers-asked}
 use Rattle.pw_cppc_workers.specs.declared.working.Worker.{Worker}
 use Rattle.pw_cppc_workers.specs.Lawful.{Opened, telling}
 use Rattle.pw_cppc_workers.specs.inner.Lists.{AreLists, AreListsFor}

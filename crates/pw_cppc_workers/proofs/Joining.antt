@@ -3,10 +3,10 @@ use Rattle.std.proofs.Common.{◌≡◌, List, [], ◌∷◌, ◌++◌, map, len
 use Rattle.std.specs.List.{AllByRecursion}
 use Rattle.pw_cppc_state.specs.declared.entry.CppcEntry.{CppcEntry}
 use Rattle.pw_desk.specs.declared.view.View.{View}
-use Rattle.pw_desk.specs.Books.{Begins}
+use Rattle.pw_books.specs.Books.{Begins}
 use Rattle.pw_cppc_desk.specs.Looks.{IsJoin}
-use Rattle.pw_desk_runs.specs.Workers.{joined_down}
-use Rattle.pw_desk_runs.proofs.Gathering.{down_more, each_append}
+use Rattle.pw_interleaved.specs.Workers.{joined_down}
+use Rattle.pw_interleaved.proofs.Gathering.{down_more, each_append}
 use Rattle.pw_cppc_workers.specs.declared.working.Worker.{Worker}
 use Rattle.pw_cppc_workers.specs.inner.Workers.{gathered, view_of}
 use Rattle.pw_cppc_workers.specs.inner.Gathered.{IsGathered}

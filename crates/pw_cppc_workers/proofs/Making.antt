@@ -3,9 +3,9 @@ use Rattle.std.proofs.Common.{◌≡◌, ◌≤◌, ◌<◌, ◌+◌, ℕ, true,
 use Rattle.std.proofs.Common.{sym, ◌∙◌, subst, arith, refl, inl, inr}
 use Rattle.std.proofs.lemmas.Bool.{false≢true, true≢false}
 use Rattle.pw_desk.specs.declared.view.View.{View}
-use Rattle.pw_desk.specs.Books.{grown}
-use Rattle.pw_desk_runs.specs.Workers.{HasAsked}
-use Rattle.pw_desk_runs.proofs.Lines.{asked_next, faults, filled_part, worked_part}
+use Rattle.pw_books.specs.Books.{grown}
+use Rattle.pw_interleaved.specs.Workers.{HasAsked}
+use Rattle.pw_interleaved.proofs.Lines.{asked_next, faults, filled_part, worked_part}
 use Rattle.pw_cppc.specs.declared.plan.CppcPlan.{CppcPlan}
 use Rattle.pw_cppc.specs.declared.request.CppcRequest.{CppcRequest}
 use Rattle.pw_cppc.specs.declared.request.CppcRequest.TheVariants.{Desired, Minimum, Maximum}

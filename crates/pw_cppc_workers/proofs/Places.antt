@@ -8,9 +8,9 @@ use mathlib.Core.Logic.{dite}
 use native.Mathlib.Decide.{ℕ_discrete}
 use Rattle.atomic_table.specs.Seated.{TableId}
 use Rattle.pw_cppc.specs.declared.request.CppcRequest.{CppcRequest}
-use Rattle.pw_desk_runs.specs.Workers.{AreApart, HasWorker}
-use Rattle.pw_desk_runs.specs.Workers.{Worker as Gathered}
-use Rattle.pw_desk_runs.proofs.Gathering.{apart_more, each_append, has_last, has_more}
+use Rattle.pw_interleaved.specs.Workers.{AreApart, HasWorker}
+use Rattle.pw_interleaved.specs.Workers.{Worker as Gathered}
+use Rattle.pw_interleaved.proofs.Gathering.{apart_more, each_append, has_last, has_more}
 use Rattle.pw_cppc_state.specs.declared.entry.CppcEntry.{CppcEntry}
 use Rattle.pw_cppc_workers.specs.declared.working.Worker.{Worker}
 use Rattle.pw_cppc_workers.specs.inner.Workers.{gathered}

@@ -1,6 +1,6 @@
 -- Histories of requests in their order.
 use Rattle.std.proofs.Common.{ℕ, List, Option, Some, None}
-use Rattle.pw_desk_runs.proofs.Runs.{serial-run}
+use Rattle.pw_interleaved.proofs.Runs.{serial-run}
 use Rattle.pw_cppc.specs.declared.plan.CppcPlan.{CppcPlan}
 use Rattle.pw_cppc.specs.declared.request.CppcRequest.{CppcRequest}
 use Rattle.pw_cppc_state.specs.declared.entry.CppcEntry.{CppcEntry}

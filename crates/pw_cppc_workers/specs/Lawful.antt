@@ -2,8 +2,8 @@
 use Rattle.std.specs.Prelude.{◌≡◌, ◌<◌, ◌⊎◌, ℕ, List, [], length, Option, Some, None}
 use Rattle.pw_regs.specs.declared.registers.Registers.{Ghosts as Registers}
 use Rattle.pw_regs.specs.Seen.{registers_seen}
-use Rattle.pw_desk_runs.specs.Asked.{IsRunOf, Telling}
-use Rattle.pw_desk_runs.specs.Seats.{SeatsTell}
+use Rattle.pw_interleaved.specs.Asked.{IsRunOf, Telling}
+use Rattle.pw_interleaved.specs.Seats.{SeatsTell}
 use Rattle.pw_cppc.specs.declared.plan.CppcPlan.{CppcPlan}
 use Rattle.pw_cppc.specs.declared.request.CppcRequest.{CppcRequest}
 use Rattle.pw_cppc.specs.Requests.{cpu_of, opening_bound}

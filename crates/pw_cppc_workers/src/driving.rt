@@ -2,7 +2,7 @@
 ghost use Rattle.std.specs.Prelude.{◌≡◌, ◌≤◌, ◌∷◌, [], length, vec_capacity, IfErr, IfOk};
 ghost use Rattle.std.specs.List.{AllByRecursion};
 ghost use Rattle.pw_regs.specs.Seen.{registers_seen};
-ghost use Rattle.pw_desk.specs.Books.{calls_of};
+ghost use Rattle.pw_books.specs.Books.{calls_of};
 ghost use Rattle.pw_cppc.specs.Requests.{Has};
 ghost use Rattle.pw_cppc_script.specs.declared.script.CppcLine.{CppcLine as line};
 ghost use Rattle.pw_cppc_script.specs.Reading.{operations, requests_of};

@@ -2,7 +2,7 @@
 ghost use Rattle.std.specs.Prelude.{◌≡◌, ◌∷◌, ◌<◌, [], ℕ, length, slice_index_or};
 ghost use Rattle.std.specs.List.{AllByRecursion};
 ghost use Rattle.pw_cppc.specs.Requests.{Has};
-ghost use Rattle.pw_desk.specs.Books.{calls_of};
+ghost use Rattle.pw_books.specs.Books.{calls_of};
 ghost use Rattle.pw_cppc_desk.specs.Owning.{Owns};
 ghost use Rattle.pw_cppc_desk.specs.Views.{view_in};
 ghost use Rattle.pw_cppc_workers.specs.declared.working.Worker.{Worker as worker};

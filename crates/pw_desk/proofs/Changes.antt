@@ -3,9 +3,10 @@ use Rattle.std.proofs.Common.{◌≡◌, ◌≢◌, ⊎_elim, ℕ, ◌+◌, ◌<
 use mathlib.Core.Option.{some}
 use lib.ListN.{get_elem?}
 use Rattle.pw_desk.specs.declared.view.View.{View}
-use Rattle.pw_desk.specs.Books.{count_in}
-use Rattle.pw_desk.specs.Machine.{Machine, once_below, AtMost, NamesHolder, Fits, IsOpening, Invariant}
-use Rattle.pw_desk.proofs.Lists.{at_set, total-set}
+use Rattle.pw_books.specs.Books.{count_in}
+use Rattle.pw_desk.specs.Machine.{Machine, NamesHolder, Fits, IsOpening, Invariant}
+use Rattle.pw_books.specs.Sums.{once_below, AtMost}
+use Rattle.pw_books.proofs.Lists.{at_set, total-set}
 use Rattle.pw_desk.proofs.Facts.{other_unmarked}
 
 pub at_most_more : (o : Option ℕ) (a b : ℕ) → a ≤ b → AtMost o a → AtMost o b

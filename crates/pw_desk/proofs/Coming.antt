@@ -4,7 +4,7 @@ use mathlib.Core.Logic.{dite}
 use native.Mathlib.Decide.{dec_le}
 use Rattle.std.specs.List.{AllByRecursion}
 use Rattle.pw_desk.specs.declared.view.View.{View}
-use Rattle.pw_desk.specs.Books.{Begins, entries_of}
+use Rattle.pw_books.specs.Books.{Begins, entries_of}
 use Rattle.pw_desk.specs.Machine.{Machine}
 use Rattle.pw_desk.specs.Steps.{Kind, take_turn, find_held, slot_out, slot_back, release_with_entry, release_without_entry, draw_number, miss_draw, split_seat, join_seats, read_made, May, after}
 use Rattle.pw_desk.specs.Law.{Steps, opened}

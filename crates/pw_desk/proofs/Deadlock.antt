@@ -1,7 +1,7 @@
 -- Where a seat finds the turn held, its holder can go on.
 use Rattle.std.proofs.Common.{◌≡◌, inl, inr, ⊎_elim, ℕ, List, true, false}
 use Rattle.pw_desk.specs.Waits.{NoDeadlock}
-use Rattle.pw_desk.proofs.Lists.{is_true, either_is}
+use Rattle.pw_books.proofs.Lists.{is_true, either_is}
 use Rattle.pw_desk.proofs.Turns.{holder}
 use Rattle.pw_desk.proofs.Keeps.{law}
 

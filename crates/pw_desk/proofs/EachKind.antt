@@ -9,7 +9,7 @@ use Rattle.pw_desk.specs.Machine.{Machine}
 use Rattle.pw_desk.specs.Steps.{Kind, find_held, slot_out, slot_back, release_with_entry, release_without_entry, take_turn, draw_number, drawn, in_hand, join_seats, looked, miss_draw, read_made, IsIdle, May, after}
 use Rattle.pw_desk.specs.Law.{first_view, opened}
 use Rattle.pw_desk.specs.Kinds.{EachKindIsTaken, IsTaken, kind_number}
-use Rattle.pw_desk.proofs.Lists.{elem_below, set_else, set_here}
+use Rattle.pw_books.proofs.Lists.{elem_below, set_else, set_here}
 use Rattle.pw_desk.proofs.Seating.{Path, Splits, after_draw, cut, drew, drew_at, joins, leader, leader_at, may_cut, may_enter, may_take, one_seat, path_draw, path_take, seat, splits, taken, then_path, then_step}
 
 module _ {E : Type 0} (seat_of : E → ℕ) (Good : List E → Type 0) where

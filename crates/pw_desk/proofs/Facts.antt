@@ -5,9 +5,10 @@ use mathlib.Core.Logic.{dite}
 use native.Mathlib.Decide.{ℕ_discrete, dec_le}
 use lib.ListN.{get_elem?}
 use Rattle.pw_desk.specs.declared.view.View.{View}
-use Rattle.pw_desk.specs.Books.{count_in}
-use Rattle.pw_desk.specs.Machine.{Machine, bit, Invariant}
-use Rattle.pw_desk.proofs.Lists.{term_le, terms_le, bit_one, once_le, once_no}
+use Rattle.pw_books.specs.Books.{count_in}
+use Rattle.pw_desk.specs.Machine.{Machine, Invariant}
+use Rattle.pw_books.specs.Sums.{bit}
+use Rattle.pw_books.proofs.Lists.{term_le, terms_le, bit_one, once_le, once_no}
 
 module _ {E : Type 0} (seat_of : E → ℕ) (Good : List E → Type 0) (m : Machine E) (i : Invariant seat_of Good m) where
   -- a view that has the turn is live

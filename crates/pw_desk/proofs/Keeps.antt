@@ -8,7 +8,7 @@ use Rattle.pw_desk.specs.declared.view.View.{View}
 use Rattle.pw_desk.specs.Machine.{Machine, Fits, IsOpening, Invariant}
 use Rattle.pw_desk.specs.Steps.{Kind, take_turn, find_held, slot_out, slot_back, release_with_entry, release_without_entry, draw_number, miss_draw, split_seat, join_seats, read_made, after}
 use Rattle.pw_desk.specs.Law.{first_view, opened, Steps, StepKeeps, TurnLaw}
-use Rattle.pw_desk.proofs.Lists.{one, none-of, once_yes, once_no}
+use Rattle.pw_books.proofs.Lists.{one, none-of, once_yes, once_no}
 use Rattle.pw_desk.proofs.Turns.{as_named}
 use Rattle.pw_desk.proofs.Turning.{keeps_take, keeps_find, keeps_slot_out, keeps_slot_back, keeps_let_go, keeps_enter}
 use Rattle.pw_desk.proofs.Seats.{keeps_draw, keeps_miss, keeps_split, keeps_join, keeps_read}

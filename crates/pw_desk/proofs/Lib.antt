@@ -1,5 +1,3 @@
-pub mod Lists
-pub mod Books
 pub mod Turns
 pub mod Facts
 pub mod Changes

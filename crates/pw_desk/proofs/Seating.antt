@@ -9,7 +9,7 @@ use Rattle.pw_desk.specs.declared.view.View.{View}
 use Rattle.pw_desk.specs.Machine.{Machine, Invariant}
 use Rattle.pw_desk.specs.Steps.{Kind, IsIdle, May, after, draw_number, drawn, entered, led, left_of, let_go, release_with_entry, release_without_entry, right_of, split_seat, take_turn}
 use Rattle.pw_desk.specs.Law.{Steps, first_view, opened}
-use Rattle.pw_desk.proofs.Lists.{at_longer, elem_below, set_else, set_here}
+use Rattle.pw_books.proofs.Lists.{at_longer, elem_below, set_else, set_here}
 use Rattle.pw_desk.proofs.Keeps.{opens, step_keeps}
 use Rattle.pw_desk.proofs.Told.{is_told}
 

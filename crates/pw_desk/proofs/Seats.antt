@@ -5,11 +5,12 @@ use mathlib.Core.Logic.{dite}
 use native.Mathlib.Decide.{ℕ_discrete}
 use lib.ListN.{get_elem?}
 use Rattle.pw_desk.specs.declared.view.View.{View}
-use Rattle.pw_desk.specs.Books.{longer, entries_of, count_in, furthest, Knows}
-use Rattle.pw_desk.specs.Machine.{Machine, spent_view, total, bit, holds_as, Fits, Invariant}
+use Rattle.pw_books.specs.Books.{longer, entries_of, count_in, furthest, Knows}
+use Rattle.pw_desk.specs.Machine.{Machine, spent_view, holds_as, Fits, Invariant}
+use Rattle.pw_books.specs.Sums.{total, bit}
 use Rattle.pw_desk.specs.Steps.{draw_number, miss_draw, split_seat, join_seats, read_made, drawn, missed, left_of, right_of, joined, looked, May, after}
-use Rattle.pw_desk.proofs.Lists.{at_set, at_snoc, set_else, total-append, total-set, one, none-of, off, once_more}
-use Rattle.pw_desk.proofs.Books.{begins_furthest, empty_front, knows_without, count_without, longer_both, knows-append, count-append, knows_between, list_is}
+use Rattle.pw_books.proofs.Lists.{at_set, at_snoc, set_else, total-append, total-set, one, none-of, off, once_more}
+use Rattle.pw_books.proofs.Books.{begins_furthest, empty_front, knows_without, count_without, longer_both, knows-append, count-append, knows_between, list_is}
 use Rattle.pw_desk.proofs.Turns.{as_none, one_more, stays}
 use Rattle.pw_desk.proofs.Facts.{other_unmarked, number_below, other_count}
 use Rattle.pw_desk.proofs.Turning.{unturned}

@@ -5,12 +5,13 @@ use mathlib.Core.Logic.{dite}
 use native.Mathlib.Decide.{ℕ_discrete, dec_le}
 use lib.ListN.{get_elem?}
 use Rattle.pw_desk.specs.declared.view.View.{View}
-use Rattle.pw_desk.specs.Books.{entries_of, count_in, furthest, list_of}
-use Rattle.pw_desk.specs.Machine.{Machine, total, bit, holds, AtMost, Invariant}
+use Rattle.pw_books.specs.Books.{entries_of, count_in, furthest, list_of}
+use Rattle.pw_desk.specs.Machine.{Machine, holds, Invariant}
+use Rattle.pw_books.specs.Sums.{total, bit, AtMost}
 use Rattle.pw_desk.specs.Steps.{IsSpare, drawn}
 use Rattle.pw_desk.specs.Told.{MeetsOther, KnowsAlone, IsTold, SeatsAreTold}
-use Rattle.pw_desk.proofs.Lists.{term_le, terms_le, one, is_true, either_is, once_yes, once_no}
-use Rattle.pw_desk.proofs.Books.{begins_furthest, empty_front, known_both, entries_of-append}
+use Rattle.pw_books.proofs.Lists.{term_le, terms_le, one, is_true, either_is, once_yes, once_no}
+use Rattle.pw_books.proofs.Books.{begins_furthest, empty_front, known_both, entries_of-append}
 use Rattle.pw_desk.proofs.Turns.{holder}
 use Rattle.pw_desk.proofs.Facts.{other_unmarked, live_holds, number_below, other_count}
 

@@ -3,11 +3,12 @@ use Rattle.std.proofs.Common.{◌≡◌, ◌≢◌, ⊎_elim, ℕ, suc, ◌+◌,
 use mathlib.Core.Option.{some}
 use lib.ListN.{get_elem?}
 use Rattle.pw_desk.specs.declared.view.View.{View}
-use Rattle.pw_desk.specs.Books.{count_in, grown}
-use Rattle.pw_desk.specs.Machine.{Machine, bit, once_below, Reads, Fits, Invariant}
+use Rattle.pw_books.specs.Books.{count_in, grown, Reads}
+use Rattle.pw_desk.specs.Machine.{Machine, Fits, Invariant}
+use Rattle.pw_books.specs.Sums.{bit, once_below}
 use Rattle.pw_desk.specs.Steps.{take_turn, find_held, slot_out, slot_back, release_with_entry, release_without_entry, led, met_with, let_go, entered, May, after}
-use Rattle.pw_desk.proofs.Lists.{at_set, total-set, off, bit_one, is_false}
-use Rattle.pw_desk.proofs.Books.{reads_all, reads_other, count_grown, knows_grown, entries_of-other, prefix_more}
+use Rattle.pw_books.proofs.Lists.{at_set, total-set, off, bit_one, is_false}
+use Rattle.pw_books.proofs.Books.{reads_all, reads_other, count_grown, knows_grown, entries_of-other, prefix_more}
 use Rattle.pw_desk.proofs.Turns.{stays, gains, loses, one_has}
 use Rattle.pw_desk.proofs.Facts.{live_holds, other_unmarked, number_below, other_count}
 use Rattle.pw_desk.proofs.Changes.{changed}

@@ -5,8 +5,9 @@ use mathlib.Core.Logic.{dite}
 use native.Mathlib.Decide.{ℕ_discrete}
 use lib.ListN.{get_elem?}
 use Rattle.pw_desk.specs.declared.view.View.{View}
-use Rattle.pw_desk.specs.Machine.{names, holds, holds_as, NamesHolder}
-use Rattle.pw_desk.proofs.Lists.{total-append, total-set, term_le, terms_le, total_some, one, none-of, names_zero, names_same, names_le, names_is}
+use Rattle.pw_books.specs.Sums.{names}
+use Rattle.pw_desk.specs.Machine.{holds, holds_as, NamesHolder}
+use Rattle.pw_books.proofs.Lists.{total-append, total-set, term_le, terms_le, total_some, one, none-of, names_zero, names_same, names_le, names_is}
 
 abbrev none_at : Bool → ℕ
 none_at b = cond b 0 0

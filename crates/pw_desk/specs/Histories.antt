@@ -2,7 +2,7 @@
 use Rattle.std.specs.Prelude.{◌≡◌, ◌↔◌, ℕ, ◌<◌, List, []}
 use Rattle.std.specs.List.{AllByRecursion}
 use Rattle.pw_desk.specs.declared.view.View.{View}
-use Rattle.pw_desk.specs.Books.{Begins}
+use Rattle.pw_books.specs.Books.{Begins}
 use Rattle.pw_desk.specs.Machine.{Machine}
 use Rattle.pw_desk.specs.Steps.{Kind}
 use Rattle.pw_desk.specs.Law.{opened, Steps}

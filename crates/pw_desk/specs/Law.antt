@@ -3,7 +3,7 @@ use Rattle.std.specs.Prelude.{◌≡◌, ℕ, true, List, [], ◌∷◌, Some}
 use mathlib.Core.Option.{some}
 use lib.ListN.{get_elem?}
 use Rattle.pw_desk.specs.declared.view.View.{View}
-use Rattle.pw_desk.specs.Books.{calls_of}
+use Rattle.pw_books.specs.Books.{calls_of}
 use Rattle.pw_desk.specs.Machine.{Machine, spent_view, Invariant}
 use Rattle.pw_desk.specs.Steps.{Kind, May, after}
 

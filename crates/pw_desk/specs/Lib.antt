@@ -1,4 +1,3 @@
-pub mod Books
 pub mod Machine
 pub mod Steps
 pub mod Law

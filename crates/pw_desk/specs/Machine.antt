@@ -1,10 +1,10 @@
 -- The desk's machine: its state and its invariant.
-use Rattle.std.specs.Prelude.{◌≡◌, ℕ, suc, ◌+◌, ◌<◌, ◌≤◌, Bool, true, false, List, [], ◌∷◌, Option, Some, None, ◌==◌, nat_lt, cond}
+use Rattle.std.specs.Prelude.{◌≡◌, ℕ, ◌<◌, ◌≤◌, true, false, List, [], None, ◌==◌, cond}
 use mathlib.Core.Option.{some}
 use lib.ListN.{get_elem?}
-use Rattle.pw_desk.specs.declared.view.Calls.{Calls}
+use Rattle.pw_books.specs.Books.{Reads, count_in, entries_of}
+use Rattle.pw_books.specs.Sums.{AtMost, bit, names, once_below, total}
 use Rattle.pw_desk.specs.declared.view.View.{View}
-use Rattle.pw_desk.specs.Books.{Begins, IsPrefix, entries_of, count_in, Knows, furthest}
 
 -- # State
 
@@ -34,25 +34,6 @@ spent_view = record {
   read = None;
 }
 
--- # Sums over views
-
-abbrev pub total : {A : Type 0} → (A → ℕ) → List A → ℕ
-total f [] = 0
-total f (x ∷ xs) = f x + total f xs
-
-abbrev pub bit : Bool → ℕ
-bit b = cond b 1 0
-
-abbrev pub once_below : ℕ → ℕ → ℕ
-once_below n made = bit (nat_lt n made)
-
-abbrev pub names : ℕ → ℕ → ℕ
-names turn n = bit (turn == suc n)
-
-abbrev pub AtMost : Option ℕ → ℕ → Type 0
-AtMost None n = Unit {0}
-AtMost (Some k) n = k ≤ n
-
 module _ {E : Type 0} where
   abbrev pub holds : View E → ℕ
   holds v = bit v.holds
@@ -76,16 +57,9 @@ module _ {E : Type 0} where
 module _ {E : Type 0} (seat_of : E → ℕ) where
   -- # What is true of one view
 
-  -- What a seat saw begins the history. Of each number of its book it saw all entries, and the book has them.
-  pub record Reads (history seen : List E) (told : Option (List E)) (book : List (Calls E)) : Type 0 where
-    pub begins : Begins history seen
-    pub begins_too : IsPrefix history told
-    pub lists : Knows seat_of book history
-    pub entries : Knows seat_of book (furthest told seen)
-
   -- What a seat knows and holds.
   pub record Fits (history : List E) (made : ℕ) (v : View E) : Type 0 where
-    pub reads : Reads history v.seen v.told v.book
+    pub reads : Reads seat_of history v.seen v.told v.book
     pub own : 0 < v.parts → count_in v.number v.book ≡ 1
     -- the slot's value is in the hands of who has the turn, and that seat has seen the whole history
     pub slot : v.out ≡ true → v.holds ≡ true

@@ -3,7 +3,7 @@ use Rattle.std.specs.Prelude.{◌≡◌, ◌≢◌, ◌⊎◌, ℕ, suc, ◌+◌
 use mathlib.Core.Option.{some}
 use lib.ListN.{get_elem?}
 use Rattle.pw_desk.specs.declared.view.View.{View}
-use Rattle.pw_desk.specs.Books.{calls_of, count_in, furthest, grown, list_of, without}
+use Rattle.pw_books.specs.Books.{calls_of, count_in, furthest, grown, list_of, without}
 use Rattle.pw_desk.specs.Machine.{Machine, spent_view}
 
 -- with the registers' count where the turn is taken or released

@@ -3,7 +3,7 @@ use Rattle.std.specs.Prelude.{◌≡◌, ◌≢◌, ℕ, ◌+◌, ◌-◌, ◌<�
 use mathlib.Core.Option.{some}
 use lib.ListN.{get_elem?}
 use Rattle.pw_desk.specs.declared.view.View.{View}
-use Rattle.pw_desk.specs.Books.{count_in, entries_of, furthest}
+use Rattle.pw_books.specs.Books.{count_in, entries_of, furthest}
 use Rattle.pw_desk.specs.Machine.{Machine, Invariant}
 use Rattle.pw_desk.specs.Steps.{IsSpare, May, drawn, find_held}
 

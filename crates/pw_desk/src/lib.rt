@@ -9,4 +9,4 @@ mod view;
 pub use laws::{
     Histories, each_kind_is_taken, histories_come_about, no_deadlock, seats_are_told, turn_law,
 };
-pub use view::{Calls, View};
+pub use view::View;

@@ -1,10 +1,5 @@
+use pw_books::Calls;
 use std::collections::LinkedList;
-
-/// A seat number with its entries.
-pub struct Calls<E> {
-    pub seat: u32,
-    pub entries: LinkedList<E>,
-}
 
 /// What a seat knows. No value of it is made.
 pub struct View<E> {

@@ -5,3 +5,4 @@ pub mod Counting
 pub mod Workers
 pub mod Gathering
 pub mod Runs
+pub mod Sums

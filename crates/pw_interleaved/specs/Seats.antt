@@ -1,31 +1,30 @@
--- Histories that seats made, each asking the lines of one processor.
+-- Histories that seats made, each asking the requests of one processor.
 use Rattle.std.specs.Prelude.{◌≡◌, ◌≢◌, ℕ, List, []}
 use Rattle.std.specs.List.{AllByRecursion}
-use Rattle.pw_plan.specs.declared.request.Request.{Request}
-use Rattle.pw_model.specs.declared.entry.HistoryEntry.{HistoryEntry}
-use Rattle.pw_model.specs.History.{Faultless}
-use Rattle.pw_machine.specs.Books.{entries_of}
-use Rattle.pw_notice.specs.Limits.{own, requests}
-use Rattle.pw_script.specs.Lawful.{Begins}
+use Rattle.pw_books.specs.Books.{Begins, entries_of}
+use Rattle.pw_interleaved.specs.Asked.{Faultless, Telling, own, requests}
 
--- It is the seat of a processor with lines.
-pub record IsSeat (asked : List Request) (seats : ℕ → ℕ) (n : ℕ) : Type 0 where
-  pub cpu : ℕ
-  pub some : own cpu asked ≢ []
-  pub is : n ≡ seats cpu
+module _ {E Q : Type 0} (T : Telling E Q) where
+  -- It is the seat of a processor with requests.
+  pub record IsSeat (asked : List Q) (seats : ℕ → ℕ) (n : ℕ) : Type 0 where
+    pub cpu : ℕ
+    pub some : own T cpu asked ≢ []
+    pub is : n ≡ seats cpu
 
--- Each entry is of the seat of a processor with lines; and each such seat asked a beginning of its processor's lines, in their
--- order, all of them where no entry is a fault.
-pub record AskedBySeats (asked : List Request) (seats : ℕ → ℕ) (es : List HistoryEntry) : Type 0 where
-  pub seated : AllByRecursion (λ e. IsSeat asked seats e.seat) es
-  pub begins : (p : ℕ) → own p asked ≢ [] → Begins (requests (entries_of (seats p) es)) (own p asked)
-  pub whole : Faultless es → (p : ℕ) → own p asked ≢ [] → requests (entries_of (seats p) es) ≡ own p asked
+  -- Each entry is of the seat of a processor with requests; and each such seat asked a beginning of its processor's, in their
+  -- order, all of them where no entry is a fault.
+  pub record AskedBySeats (asked : List Q) (seats : ℕ → ℕ) (es : List E) : Type 0 where
+    pub seated : AllByRecursion (λ e. IsSeat asked seats (T.seat e)) es
+    pub begins : (p : ℕ) → own T p asked ≢ [] → Begins (own T p asked) (requests T (entries_of T.seat (seats p) es))
+    pub whole : Faultless T es → (p : ℕ) → own T p asked ≢ [] → requests T (entries_of T.seat (seats p) es) ≡ own T p asked
 
--- Two entries have the same seat exactly where they have the same processor.
-pub record SitAlike (e f : HistoryEntry) : Type 0 where
-  pub same_cpu : e.seat ≡ f.seat → e.cpu ≡ f.cpu
-  pub same_seat : e.cpu ≡ f.cpu → e.seat ≡ f.seat
+-- by what tells an entry's seat and its processor
+module _ {E : Type 0} (seat cpu : E → ℕ) where
+  -- Two entries have the same seat exactly where they have the same processor.
+  pub record SitAlike (e f : E) : Type 0 where
+    pub same_cpu : seat e ≡ seat f → cpu e ≡ cpu f
+    pub same_seat : cpu e ≡ cpu f → seat e ≡ seat f
 
--- So do any two of the history.
-abbrev pub SeatsTell : List HistoryEntry → Type 0
-SeatsTell es = AllByRecursion (λ e. AllByRecursion (SitAlike e) es) es
+  -- So do any two of the history.
+  abbrev pub SeatsTell : List E → Type 0
+  SeatsTell es = AllByRecursion (λ e. AllByRecursion (SitAlike e) es) es

@@ -6,9 +6,10 @@ use Rattle.acpi_values.specs.declared.operation.Op.{Op}
 use Rattle.pw_parts.specs.Records.{Part}
 use Rattle.pw_plan.specs.declared.plan.Plan.{Plan}
 use Rattle.pw_machine.specs.declared.view.View.{View}
-use Rattle.pw_machine.specs.Books.{count_in}
-use Rattle.pw_machine.specs.Machine.{Machine, now, count_held, total, bit, once_below, holds, leads, marks, AtMost, NotesWithin, Fits, HasTurns, IsOpening, HasValues, HasRegisters, Invariant}
-use Rattle.pw_machine.proofs.Lists.{at_set, total-set}
+use Rattle.pw_books.specs.Books.{count_in}
+use Rattle.pw_machine.specs.Machine.{Machine, now, count_held, holds, leads, marks, NotesWithin, Fits, HasTurns, IsOpening, HasValues, HasRegisters, Invariant}
+use Rattle.pw_books.specs.Sums.{total, bit, once_below, AtMost}
+use Rattle.pw_books.proofs.Lists.{at_set, total-set}
 use Rattle.pw_machine.proofs.Turns.{stays}
 use Rattle.pw_machine.proofs.Facts.{other_unmarked}
 

@@ -15,14 +15,13 @@ use Rattle.pw_parts.specs.Records.{Part, record_count}
 use Rattle.pw_machine.specs.declared.view.Held.{Held}
 use Rattle.pw_machine.specs.declared.view.View.{View}
 use Rattle.pw_machine.specs.Turns.{count_turn, part_at, way}
-use Rattle.pw_machine.specs.Books.{count_in}
+use Rattle.pw_books.specs.Books.{count_in}
 use Rattle.pw_machine.specs.Machine.{Machine, Invariant, count_held, held_as, now, turns_of}
 use Rattle.pw_machine.specs.Steps.{HoldsAs, IsIdle, IsNext, IsSpare, May, after, drawn, entered, release_record, release_with_entry, release_without_entry, renoted, sign_left}
 use Rattle.pw_machine.specs.Choices.{IsDrawn, IsLeading, IsOnRoute, any_fault}
-use Rattle.pw_machine.proofs.Lists.{none-of, one}
+use Rattle.pw_books.proofs.Lists.{none-of, one, either_is}
 use Rattle.pw_machine.proofs.Plans.{count_turn-append, replay_snoc, route_is, way_within}
 use Rattle.pw_machine.proofs.Requests.{fault_stays}
-use Rattle.pw_machine.proofs.Takes.{either_is}
 use Rattle.pw_machine.proofs.Told.{drawn_is_new, drawn_is_spare}
 use Rattle.pw_machine.proofs.Turns.{count-turns}
 use Rattle.pw_machine.proofs.Meeting.{entry_fault, entry_seat}

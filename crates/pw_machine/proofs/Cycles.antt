@@ -13,10 +13,10 @@ use Rattle.pw_parts.specs.Routes.{route}
 use Rattle.pw_machine.specs.declared.view.Held.{Held}
 use Rattle.pw_machine.specs.declared.view.View.{View}
 use Rattle.pw_machine.specs.Turns.{StartsWith, count_turn, part_at, way}
-use Rattle.pw_machine.specs.Books.{grown}
-use Rattle.pw_machine.specs.Machine.{Machine, Given, Invariant, held_as, now, turns_of}
+use Rattle.pw_books.specs.Books.{grown}
+use Rattle.pw_machine.specs.Machine.{Machine, Given, Invariant, held_as, now, turns_of, seat_of}
 use Rattle.pw_machine.specs.Steps.{Asks, Enters, IsIdle, Leaves, May, after, entered, led, left_with, release_record, release_with_entry, renoted, take_journal, take_record, taken, without_record}
-use Rattle.pw_machine.proofs.Lists.{one}
+use Rattle.pw_books.proofs.Lists.{one}
 use Rattle.pw_machine.proofs.Plans.{count_turn-append, ends_route, on_route, route_is, way_apart, way_within}
 use Rattle.pw_machine.proofs.Turns.{count-turns, turns-snoc}
 use Rattle.pw_machine.proofs.Requests.{next_in}
@@ -73,7 +73,7 @@ gathers (t ∷ rest) m i j v at q a e clear =
 
 -- the view that made its entry, but for what it holds
 abbrev pub written : List HistoryEntry → HistoryEntry → ℕ → Request → View → View
-written history e count q v = record (led history count q v) { leads = false; seen = history ++ e ∷ []; book = grown v.book e; second = Some (count + 1); releasing = true }
+written history e count q v = record (led history count q v) { leads = false; seen = history ++ e ∷ []; book = grown seat_of v.book e; second = Some (count + 1); releasing = true }
 
 pub record Entered (m : Machine) (j : ℕ) (v : View) (q : Request) (e : HistoryEntry) : Type 0 where
   pub end : Machine

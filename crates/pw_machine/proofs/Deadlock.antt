@@ -16,11 +16,10 @@ use Rattle.pw_machine.specs.declared.view.View.{View}
 use Rattle.pw_machine.specs.Machine.{Machine, now, held_as, turns_of, count_held, holds, leads, Invariant}
 use Rattle.pw_machine.specs.Steps.{Kind, take_record, find_record_held, record_out, record_back, release_record, take_journal, find_journal_held, journal_out, journal_back, release_with_entry, release_without_entry, draw_number, miss_draw, split_seat, join_seats, read_made, Asks, IsNext, HoldsAs, May}
 use Rattle.pw_machine.specs.Waits.{Waits, CanGoOn, NoDeadlock}
-use Rattle.pw_machine.proofs.Lists.{one, none-of, is_true, turn_below}
+use Rattle.pw_books.proofs.Lists.{one, none-of, is_true, turn_below, either_is}
 use Rattle.pw_machine.proofs.Turns.{holder, count-turns}
 use Rattle.pw_machine.proofs.Facts.{live_held}
 use Rattle.pw_machine.proofs.Requests.{next_in}
-use Rattle.pw_machine.proofs.Takes.{either_is}
 use Rattle.pw_machine.proofs.Keeps.{law}
 
 some_held : (t : ℕ) (hs : List Held) → 0 < count_held t hs → 0 < length hs

@@ -28,7 +28,7 @@ use Rattle.pw_machine.specs.Machine.{Given, Machine, Invariant, count_held, now,
 use Rattle.pw_machine.specs.Steps.{Kind, Asks, IsIdle, May, after, draw_number, drawn, find_journal_held, find_record_held, in_hand, join_seats, journal_back, journal_out, led, left_with, looked, miss_draw, read_made, record_back, record_out, release_record, release_with_entry, release_without_entry, split_seat, take_journal, take_record, taken}
 use Rattle.pw_machine.specs.Law.{Steps, first_view, opened}
 use Rattle.pw_machine.specs.Kinds.{EachKindIsTaken, IsTaken, kind_number}
-use Rattle.pw_machine.proofs.Lists.{elem_below, one, set_else, set_here}
+use Rattle.pw_books.proofs.Lists.{elem_below, one, set_else, set_here}
 use Rattle.pw_machine.proofs.Plans.{ends_route, way_within}
 use Rattle.pw_machine.proofs.Requests.{next_in}
 use Rattle.pw_machine.proofs.Turns.{count-snoc}

@@ -12,16 +12,17 @@ use Rattle.pw_parts.specs.Records.{record_count}
 use Rattle.pw_machine.specs.Turns.{part_at}
 use Rattle.pw_machine.proofs.Plans.{legal_next, legal_state, ops_snoc}
 use Rattle.pw_machine.specs.declared.view.View.{View}
-use Rattle.pw_machine.specs.Books.{count_in, grown}
-use Rattle.pw_machine.specs.Machine.{Machine, now, count_held, bit, holds, leads, Reads, Fits, HasRegisters, Invariant}
+use Rattle.pw_books.specs.Books.{count_in, grown, Reads}
+use Rattle.pw_machine.specs.Machine.{Machine, now, count_held, holds, leads, Fits, HasRegisters, Invariant, seat_of}
+use Rattle.pw_books.specs.Sums.{bit}
 use Rattle.pw_machine.specs.Steps.{release_with_entry, renoted, entered, Enters, after}
-use Rattle.pw_machine.proofs.Lists.{at_set, total-set, bit_one, off}
-use Rattle.pw_machine.proofs.Books.{reads_all, reads_other, prefix_more, knows_grown, count_grown, entries_of-other}
+use Rattle.pw_books.proofs.Lists.{at_set, total-set, bit_one, off, either_is}
+use Rattle.pw_books.proofs.Books.{reads_all, reads_other, prefix_more, knows_grown, count_grown, entries_of-other}
 use Rattle.pw_machine.proofs.Turns.{none_has, one_has, stays, loses, count-turns, count_renoted, noted_renoted}
 use Rattle.pw_machine.proofs.Facts.{is_state, live_leads, other_unmarked, number_below, other_count}
 use Rattle.pw_machine.proofs.Changes.{at_most_more, notes_more}
 use Rattle.pw_machine.proofs.Requests.{no_some, serves_releasing, serves_still, entry_stays}
-use Rattle.pw_machine.proofs.Takes.{either_is, registers_stay}
+use Rattle.pw_machine.proofs.Takes.{registers_stay}
 
 fault_snoc : (es : List HistoryEntry) (e : HistoryEntry) (k : ℕ) → Faultless es → fault_at (es ++ e ∷ []) ≡ Some k → e.fault ≢ 0
 fault_snoc [] e k none has z = let is : fault_at (e ∷ []) ≡ None = ap (λ b. cond b None (Some (e.fault - 1))) (eq-eqb e.fault 0 z) in absurd (cc)
@@ -57,8 +58,8 @@ module _ (m : Machine) (i : Invariant m) (j : ℕ) (v : View) (at : get_elem? m.
       let live = live_leads m i j v at may.leads in
       let seen : H ≡ v.seen ++ e ∷ [] = ap (λ l. l ++ e ∷ []) (sym (f.leader may.leads)) in
       record {
-        reads = subst (λ l. Reads H l v.told (grown v.book e)) seen (reads_all H v.told (grown v.book e) (prefix_more m.history (e ∷ []) v.told f.reads.begins_too) (knows_grown v.book m.history e f.reads.lists));
-        own = λ h. count_grown v.number v.book e ∙ f.own h;
+        reads = subst (λ l. Reads seat_of H l v.told (grown seat_of v.book e)) seen (reads_all seat_of H v.told (grown seat_of v.book e) (prefix_more m.history (e ∷ []) v.told f.reads.begins_too) (knows_grown seat_of v.book m.history e f.reads.lists));
+        own = λ h. count_grown seat_of v.number v.book e ∙ f.own h;
         serves = λ _. serves_releasing P S (renoted P S v.held) v.request g.of_plan (λ n. nil_renoted P S v (g.rests n).0) (noted_renoted P S v.held);
         holds_records = λ t more. f.holds_records t (omega (arith, more, count_renoted t P S v.held));
         slots = λ t more. ⊎_elim (λ (h : 0 < count_held t v.held). inl (omega (arith, h, count_renoted t P S v.held))) (λ (h : (t ≡ record_count P) × (v.leads ≡ true)). absurd (omega (arith, more, may.back, ap (λ t. count_turn t v.out) h.0))) (f.slots t more);
@@ -78,7 +79,7 @@ module _ (m : Machine) (i : Invariant m) (j : ℕ) (v : View) (at : get_elem? m.
       let same : (t : ℕ) → 0 < count_held t u.held → part_at P t (replay P H) ≡ part_at P t (now m) = λ t more.
       let low = g.holds_records t more in off_entry t low (one_has (get_or m.turns t 0) (holds t) m.views (i.turns.holders t low) k j u v (λ s. ne (sym s)) there at more) in
       record {
-        reads = reads_other m.history u.seen u.told u.book e (other_count m i j k v u ne at there e.seat own_count) g.reads;
+        reads = reads_other seat_of m.history u.seen u.told u.book e (other_count m i j k v u ne at there e.seat own_count) g.reads;
         own = g.own;
         serves = λ unmarked. serves_still P (now m) (replay P H) u.held u.leads u.request u.releasing (is_state m i) (legal_state P H (legal_next P m.history e i.history.legal may.follows)) no-journal same (g.serves unmarked);
         holds_records = g.holds_records;
@@ -107,8 +108,8 @@ module _ (m : Machine) (i : Invariant m) (j : ℕ) (v : View) (at : get_elem? m.
       record {
         history = record { legal = legal_next P m.history e i.history.legal may.follows; room = omega (arith, length-append m.history (e ∷ []), may.room) };
         numbers = record {
-          books = λ n. omega (arith, total-set (λ u. count_in n u.book) m.views j v w at, i.numbers.books n, count_grown n v.book e);
-          strangers = λ n h. let low = number_below m i j v at e.seat own_count in entries_of-other n m.history e (λ s. omega (arith, s, low, h)) ∙ i.numbers.strangers n h;
+          books = λ n. omega (arith, total-set (λ u. count_in n u.book) m.views j v w at, i.numbers.books n, count_grown seat_of n v.book e);
+          strangers = λ n h. let low = number_below m i j v at e.seat own_count in entries_of-other seat_of n m.history e (λ s. omega (arith, s, low, h)) ∙ i.numbers.strangers n h;
           most = i.numbers.most;
         };
         turns = record {

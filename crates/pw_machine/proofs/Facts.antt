@@ -7,9 +7,10 @@ use lib.ListN.{get_elem?}
 use Rattle.pw_model.specs.States.{IsState}
 use Rattle.pw_machine.proofs.Plans.{legal_state}
 use Rattle.pw_machine.specs.declared.view.View.{View}
-use Rattle.pw_machine.specs.Books.{count_in}
-use Rattle.pw_machine.specs.Machine.{Machine, now, count_held, bit, Invariant}
-use Rattle.pw_machine.proofs.Lists.{term_le, terms_le, bit_one, once_le, once_no}
+use Rattle.pw_books.specs.Books.{count_in}
+use Rattle.pw_machine.specs.Machine.{Machine, now, count_held, Invariant}
+use Rattle.pw_books.specs.Sums.{bit}
+use Rattle.pw_books.proofs.Lists.{term_le, terms_le, bit_one, once_le, once_no}
 
 module _ (m : Machine) (i : Invariant m) where
   -- the state of the history is one of the plan

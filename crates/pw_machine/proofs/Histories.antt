@@ -13,8 +13,8 @@ use Rattle.pw_model.proofs.Joining.{legal-first, legal-follows}
 use Rattle.pw_parts.specs.Records.{Part, record_count}
 use Rattle.pw_machine.specs.declared.view.View.{View}
 use Rattle.pw_machine.specs.Turns.{way}
-use Rattle.pw_machine.specs.Books.{entries_of}
-use Rattle.pw_machine.specs.Machine.{Given, Machine, Invariant, now, turns_of}
+use Rattle.pw_books.specs.Books.{entries_of}
+use Rattle.pw_machine.specs.Machine.{Given, Machine, Invariant, now, turns_of, seat_of}
 use Rattle.pw_machine.specs.Steps.{Asks, IsIdle}
 use Rattle.pw_machine.specs.Law.{opened}
 use Rattle.pw_machine.specs.Histories.{ComesAbout, HistoriesComeAbout, MayComeAbout}
@@ -78,17 +78,17 @@ comes given values history sized may =
     record { steps = p.0; end = g.end; allowed = p.1; ends = g.history ∙ same }
 
 -- who made no entry of a list is none of its seats
-numbers_below : (made : ℕ) (H : List HistoryEntry) → ((n : ℕ) → made ≤ n → entries_of n H ≡ []) → made ≤ 65536
+numbers_below : (made : ℕ) (H : List HistoryEntry) → ((n : ℕ) → made ≤ n → entries_of seat_of n H ≡ []) → made ≤ 65536
     → AllByRecursion (λ (e : HistoryEntry). e.seat < 65536) H
 numbers_below made [] none most = tt
 numbers_below made (e ∷ es) none most = (
   dite (dec_le made e.seat)
-      (λ le. absurd (let z = none e.seat le in let is : entries_of e.seat (e ∷ es) ≡ e ∷ entries_of e.seat es = ap (λ b. cond b (e ∷ entries_of e.seat es) (entries_of e.seat es)) (eq-eqb e.seat e.seat refl) in cc))
+      (λ le. absurd (let z = none e.seat le in let is : entries_of seat_of e.seat (e ∷ es) ≡ e ∷ entries_of seat_of e.seat es = ap (λ b. cond b (e ∷ entries_of seat_of e.seat es) (entries_of seat_of e.seat es)) (eq-eqb e.seat e.seat refl) in cc))
       (λ lt. omega (arith, lt, most)),
   numbers_below made es (λ n le. tail n (e.seat == n) (none n le)) most,
 )
   where
-    tail : (n : ℕ) (b : Bool) → cond b (e ∷ entries_of n es) (entries_of n es) ≡ [] → entries_of n es ≡ []
+    tail : (n : ℕ) (b : Bool) → cond b (e ∷ entries_of seat_of n es) (entries_of seat_of n es) ≡ [] → entries_of seat_of n es ≡ []
     tail n true z = cc
     tail n false z = z
 

@@ -8,10 +8,11 @@ use Rattle.pw_parts.specs.Records.{Part}
 use Rattle.pw_parts.specs.Records.{record_count}
 use Rattle.pw_machine.proofs.Plans.{legal_nil}
 use Rattle.pw_machine.specs.declared.view.View.{View}
-use Rattle.pw_machine.specs.Machine.{Given, Machine, count_held, names, holds, leads, Fits, IsOpening, Invariant}
+use Rattle.pw_machine.specs.Machine.{Given, Machine, count_held, holds, leads, Fits, IsOpening, Invariant}
+use Rattle.pw_books.specs.Sums.{names}
 use Rattle.pw_machine.specs.Steps.{Kind, take_record, find_record_held, record_out, record_back, release_record, take_journal, find_journal_held, journal_out, journal_back, release_with_entry, release_without_entry, draw_number, miss_draw, split_seat, join_seats, read_made, May, after}
 use Rattle.pw_machine.specs.Law.{all_held, all_turns, first_view, opened, Steps, TurnLaw}
-use Rattle.pw_machine.proofs.Lists.{one, none-of, off, once_yes, once_no}
+use Rattle.pw_books.proofs.Lists.{one, none-of, off, once_yes, once_no}
 use Rattle.pw_machine.proofs.Turns.{as_named}
 use Rattle.pw_machine.proofs.Takes.{keeps_take, keeps_lead, keeps_find_record, keeps_find_journal, keeps_record_out, keeps_record_back, keeps_journal_out, keeps_journal_back, keeps_release, keeps_let_go}
 use Rattle.pw_machine.proofs.Entries.{keeps_enter}

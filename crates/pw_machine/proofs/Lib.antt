@@ -1,6 +1,4 @@
 pub mod Plans
-pub mod Lists
-pub mod Books
 pub mod Turns
 pub mod Facts
 pub mod Changes

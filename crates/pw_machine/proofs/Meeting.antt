@@ -17,15 +17,15 @@ use Rattle.pw_machine.specs.declared.view.View.{View}
 use Rattle.pw_machine.specs.Turns.{StartsWith, part_at, way}
 use Rattle.pw_machine.specs.Machine.{Given, Machine, Invariant, count_held, held_as, now, spent_view, turns_of}
 use Rattle.pw_machine.specs.Steps.{Kind, Asks, IsIdle, May, after, find_record_held, join_seats, joined, looked, met_with, read_made, split_seat, take_record, taken}
-use Rattle.pw_machine.specs.Books.{longer}
+use Rattle.pw_books.specs.Books.{longer}
 use Rattle.pw_machine.specs.Law.{opened, Steps}
 use Rattle.pw_machine.specs.Meetings.{TheyMeet, TwoSeatsMeet}
-use Rattle.pw_machine.proofs.Lists.{at_set, elem_below, set_else, set_here}
+use Rattle.pw_books.proofs.Lists.{at_set, elem_below, set_else, set_here}
 use Rattle.pw_machine.proofs.Plans.{first_stays, on_route, opening_state, way_within}
 use Rattle.pw_machine.proofs.Requests.{next_in}
 use Rattle.pw_machine.proofs.Facts.{is_state}
 use Rattle.pw_machine.proofs.Keeps.{step_keeps}
-use Rattle.pw_machine.proofs.Books.{longer_whole}
+use Rattle.pw_books.proofs.Books.{longer_whole}
 use Rattle.pw_machine.proofs.Paths.{Leads, Path, Quiet, joins, path_keeps, record_free}
 use Rattle.pw_machine.proofs.Cycles.{cycles}
 use Rattle.pw_machine.proofs.Seating.{Seated, Splits, seated_quiet, splits}

@@ -8,10 +8,11 @@ use Rattle.std.specs.List.{AllByRecursion}
 use Rattle.pw_plan.proofs.Lists.{each_append}
 use Rattle.pw_parts.specs.Records.{record_count}
 use Rattle.pw_machine.specs.declared.view.View.{View}
-use Rattle.pw_machine.specs.Machine.{Machine, Invariant, bit, count_held, holds, leads}
+use Rattle.pw_machine.specs.Machine.{Machine, Invariant, count_held, holds, leads}
+use Rattle.pw_books.specs.Sums.{bit}
 use Rattle.pw_machine.specs.Steps.{Kind, May, after, take_record, find_record_held, record_out, record_back, release_record, take_journal, find_journal_held, journal_out, journal_back, release_with_entry, release_without_entry, draw_number, miss_draw, split_seat, join_seats, read_made}
 use Rattle.pw_machine.specs.Law.{Steps}
-use Rattle.pw_machine.proofs.Lists.{elem_below, set_else, set_here}
+use Rattle.pw_books.proofs.Lists.{elem_below, set_else, set_here}
 use Rattle.pw_machine.proofs.Turns.{holder}
 use Rattle.pw_machine.proofs.Keeps.{step_keeps}
 

@@ -15,7 +15,7 @@ use Rattle.pw_machine.proofs.Plans.{legal_state, follows_has, replay_snoc, part_
 use Rattle.pw_machine.specs.declared.view.Held.{Held}
 use Rattle.pw_machine.specs.Machine.{turns_of, count_held, IsNoted, ServesRequest}
 use Rattle.pw_machine.specs.Steps.{request_left, sign_left}
-use Rattle.pw_machine.proofs.Lists.{off, one}
+use Rattle.pw_books.proofs.Lists.{off, one}
 use Rattle.pw_machine.proofs.Turns.{count-turns, noted_off}
 
 pub no_some : {A : Type 0} (q : Request) → Some q ≡ None → A

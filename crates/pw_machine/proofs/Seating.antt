@@ -9,7 +9,7 @@ use Rattle.pw_machine.specs.declared.view.View.{View}
 use Rattle.pw_machine.specs.Machine.{Given, Machine, Invariant}
 use Rattle.pw_machine.specs.Steps.{Kind, IsIdle, May, after, drawn, draw_number, left_of, left_with, let_go, release_without_entry, right_of, split_seat}
 use Rattle.pw_machine.specs.Law.{all_held, first_view, opened}
-use Rattle.pw_machine.proofs.Lists.{elem_below, at_set, at_snoc, at_longer, set_else, set_here}
+use Rattle.pw_books.proofs.Lists.{elem_below, at_set, at_snoc, at_longer, set_else, set_here}
 use Rattle.pw_machine.proofs.Keeps.{opens, step_keeps}
 use Rattle.pw_machine.proofs.Told.{drawn_is_spare}
 use Rattle.pw_machine.proofs.Paths.{Leads, Path, Quiet, leads_on, once, one_step, path_keeps, then_path}

@@ -8,11 +8,12 @@ use Rattle.pw_plan.specs.declared.plan.Plan.{Plan}
 use Rattle.pw_model.specs.declared.entry.HistoryEntry.{HistoryEntry}
 use Rattle.pw_model.specs.History.{replay}
 use Rattle.pw_machine.specs.declared.view.View.{View}
-use Rattle.pw_machine.specs.Books.{longer, entries_of, count_in, Knows}
-use Rattle.pw_machine.specs.Machine.{Machine, now, count_held, spent_view, furthest, total, bit, as_number, holds, leads, marks, ServesRequest, Fits, Invariant}
+use Rattle.pw_books.specs.Books.{longer, entries_of, count_in, Knows, furthest}
+use Rattle.pw_machine.specs.Machine.{Machine, now, count_held, spent_view, as_number, holds, leads, marks, ServesRequest, Fits, Invariant, seat_of}
+use Rattle.pw_books.specs.Sums.{total, bit}
 use Rattle.pw_machine.specs.Steps.{draw_number, miss_draw, split_seat, join_seats, read_made, drawn, missed, left_of, right_of, joined, looked, IsIdle, May, after}
-use Rattle.pw_machine.proofs.Lists.{at_set, at_snoc, set_else, total-append, total-set, one, none-of, off, once_more}
-use Rattle.pw_machine.proofs.Books.{begins_furthest, empty_front, knows_without, count_without, longer_both, knows-append, count-append, knows_between, list_is}
+use Rattle.pw_books.proofs.Lists.{at_set, at_snoc, set_else, total-append, total-set, one, none-of, off, once_more}
+use Rattle.pw_books.proofs.Books.{begins_furthest, empty_front, knows_without, count_without, longer_both, knows-append, count-append, knows_between, list_is}
 use Rattle.pw_machine.proofs.Turns.{as_none, one_more}
 use Rattle.pw_machine.proofs.Facts.{other_unmarked, number_below, other_count}
 use Rattle.pw_machine.proofs.Changes.{turns_stay}
@@ -41,13 +42,13 @@ module _ (m : Machine) (i : Invariant m) (j : ℕ) (v : View) (at : get_elem? m.
   pub keeps_draw : May m j v draw_number → Invariant (after m j v draw_number)
   keeps_draw may =
       let a = may.0 in let f = i.fits j v at in
-      let none-yet : entries_of m.made m.history ≡ [] = i.numbers.strangers m.made (omega arith) in
+      let none-yet : entries_of seat_of m.made m.history ≡ [] = i.numbers.strangers m.made (omega arith) in
       unturned m i j v at (drawn m.made v) (m.made + 1) a.live a.unmarked a.unmarked refl refl refl refl (λ n. omega (arith, once_more n m.made)) (omega arith) (omega (arith, may.1)) record {
         reads = record {
           begins = f.reads.begins;
           begins_too = f.reads.begins_too;
           lists = (none-yet, f.reads.lists);
-          entries = (empty_front m.made m.history (furthest v.told v.seen) (begins_furthest m.history v.seen v.told f.reads.begins f.reads.begins_too) none-yet, f.reads.entries);
+          entries = (empty_front seat_of m.made m.history (furthest v.told v.seen) (begins_furthest m.history v.seen v.told f.reads.begins f.reads.begins_too) none-yet, f.reads.entries);
         };
         own = λ h. let own = f.own h in let low = number_below m i j v at v.number (omega (arith, own)) in omega (arith, own, none-of m.made v.number (λ e. omega (arith, e, low)));
         serves = f.serves;
@@ -96,7 +97,7 @@ module _ (m : Machine) (i : Invariant m) (j : ℕ) (v : View) (at : get_elem? m.
     fits_left =
         let a = may.0 in let spare = may.2 in let f = i.fits j v at in
         record {
-          reads = record { begins = f.reads.begins; begins_too = f.reads.begins_too; lists = knows_without n v.book m.history f.reads.lists; entries = knows_without n v.book (furthest v.told v.seen) f.reads.entries };
+          reads = record { begins = f.reads.begins; begins_too = f.reads.begins_too; lists = knows_without seat_of n v.book m.history f.reads.lists; entries = knows_without seat_of n v.book (furthest v.told v.seen) f.reads.entries };
           own = λ h. (count_without n v.number v.book).1 spare.other ∙ f.own (omega (arith, may.4));
           serves = f.serves;
           holds_records = f.holds_records;
@@ -108,14 +109,14 @@ module _ (m : Machine) (i : Invariant m) (j : ℕ) (v : View) (at : get_elem? m.
         }
 
     -- the number has no entry yet
-    no_entry : entries_of n m.history ≡ []
-    no_entry = let spare = may.2 in list_is n v.book m.history (omega (arith, spare.in_book)) (i.fits j v at).reads.lists ∙ spare.no_entry
+    no_entry : entries_of seat_of n m.history ≡ []
+    no_entry = let spare = may.2 in list_is seat_of n v.book m.history (omega (arith, spare.in_book)) (i.fits j v at).reads.lists ∙ spare.no_entry
 
     fits_right : Fits m.given.plan m.history m.made m.count (right_of n parts v)
     fits_right =
         let f = i.fits j v at in
         record {
-          reads = record { begins = f.reads.begins; begins_too = tt; lists = (no_entry, tt); entries = (empty_front n m.history v.seen f.reads.begins no_entry, tt) };
+          reads = record { begins = f.reads.begins; begins_too = tt; lists = (no_entry, tt); entries = (empty_front seat_of n m.history v.seen f.reads.begins no_entry, tt) };
           own = λ h. omega (arith, one n n refl);
           serves = λ _. serves_nothing m.given.plan (now m);
           holds_records = λ t more. absurd (omega (arith, more));
@@ -171,8 +172,8 @@ module _ (m : Machine) (i : Invariant m) (j : ℕ) (v : View) (at : get_elem? m.
     fits_joined : Fits m.given.plan m.history m.made m.count (joined v w)
     fits_joined =
         let a = may.2 in let f = i.fits j v at in let g = i.fits k w may.1 in
-        let known-v : Knows v.book v.seen = subst (λ o. Knows v.book (furthest o v.seen)) may.4 f.reads.entries in
-        let known-w : Knows w.book w.seen = subst (λ o. Knows w.book (furthest o w.seen)) may.5 g.reads.entries in
+        let known-v : Knows seat_of v.book v.seen = subst (λ o. Knows seat_of v.book (furthest o v.seen)) may.4 f.reads.entries in
+        let known-w : Knows seat_of w.book w.seen = subst (λ o. Knows seat_of w.book (furthest o w.seen)) may.5 g.reads.entries in
         let far = longer_both m.history w.seen v.seen g.reads.begins f.reads.begins in
         let mine = f.own a.live in
         let apart = other_count m i j k v w may.0 at may.1 v.number (omega (arith, mine)) in
@@ -180,8 +181,8 @@ module _ (m : Machine) (i : Invariant m) (j : ℕ) (v : View) (at : get_elem? m.
           reads = record {
             begins = f.reads.begins;
             begins_too = g.reads.begins;
-            lists = knows-append v.book w.book m.history f.reads.lists g.reads.lists;
-            entries = knows-append v.book w.book (longer w.seen v.seen) (knows_between v.book m.history (longer w.seen v.seen) v.seen far.2 far.0 f.reads.lists known-v) (knows_between w.book m.history (longer w.seen v.seen) w.seen far.1 far.0 g.reads.lists known-w);
+            lists = knows-append seat_of v.book w.book m.history f.reads.lists g.reads.lists;
+            entries = knows-append seat_of v.book w.book (longer w.seen v.seen) (knows_between seat_of v.book m.history (longer w.seen v.seen) v.seen far.2 far.0 f.reads.lists known-v) (knows_between seat_of w.book m.history (longer w.seen v.seen) w.seen far.1 far.0 g.reads.lists known-w);
           };
           own = λ h. omega (arith, count-append v.number v.book w.book, mine, apart);
           serves = f.serves;

@@ -17,11 +17,12 @@ use Rattle.pw_machine.specs.Turns.{part_at, way}
 use Rattle.pw_machine.proofs.Plans.{ops_nil, next_record, next_journal}
 use Rattle.pw_machine.specs.declared.view.Held.{Held}
 use Rattle.pw_machine.specs.declared.view.View.{View}
-use Rattle.pw_machine.specs.Books.{count_in}
-use Rattle.pw_machine.specs.Machine.{Machine, now, HasTurn, turns_of, count_held, total, bit, once_below, holds, leads, marks, IsNoted, ServesRequest, Fits, HasRegisters, Invariant}
+use Rattle.pw_books.specs.Books.{count_in}
+use Rattle.pw_machine.specs.Machine.{Machine, now, HasTurn, turns_of, count_held, holds, leads, marks, IsNoted, ServesRequest, Fits, HasRegisters, Invariant, seat_of}
+use Rattle.pw_books.specs.Sums.{total, bit, once_below}
 use Rattle.pw_machine.specs.Steps.{take_record, find_record_held, record_out, record_back, release_record, take_journal, find_journal_held, journal_out, journal_back, release_without_entry, request_left, sign_left, without_record, in_hand, in_place, without_turn, taken, met_with, goes_on, freed, led, let_go, Asks, Leaves, HoldsAs, May, after}
-use Rattle.pw_machine.proofs.Lists.{elem_below, turn_below, set_here, set_else, total-set, one, none-of, bit_one, off}
-use Rattle.pw_machine.proofs.Books.{reads_all}
+use Rattle.pw_books.proofs.Lists.{elem_below, turn_below, set_here, set_else, total-set, one, none-of, bit_one, off}
+use Rattle.pw_books.proofs.Books.{reads_all}
 use Rattle.pw_machine.proofs.Turns.{none_has, one_has, stays, gains, loses, turned, turns-snoc, count-snoc, noted-snoc, noted_without, count_without, holds_count, noted_is}
 use Rattle.pw_machine.proofs.Facts.{live_held, live_leads}
 use Rattle.pw_machine.proofs.Changes.{changed, moved, turns_stay, at_most_more}
@@ -144,7 +145,7 @@ module _ (m : Machine) (i : Invariant m) (j : ℕ) (v : View) (at : get_elem? m.
         risen = omega arith;
         others = λ u _ k _ _. refl;
         fits = record {
-          reads = reads_all m.history v.told v.book f.reads.begins_too f.reads.lists;
+          reads = reads_all seat_of m.history v.told v.book f.reads.begins_too f.reads.lists;
           own = f.own;
           serves = λ _. subst (λ b. ServesRequest m.given.plan (now m) v.held true (Some q) b) (sym a.before) (serves_leading m.given.plan (now m) v.held q a.of_plan (next_journal m.given.plan (now m) q (turns_of v.held) a.of_plan may.1) g.noted);
           holds_records = f.holds_records;

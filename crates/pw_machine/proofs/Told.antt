@@ -10,16 +10,16 @@ use Rattle.pw_parts.specs.Records.{record_count}
 use Rattle.pw_machine.specs.Turns.{part_at, way}
 use Rattle.pw_machine.proofs.Plans.{next_record, way_rises, way_reached}
 use Rattle.pw_machine.specs.declared.view.View.{View}
-use Rattle.pw_machine.specs.Books.{entries_of, count_in, list_of}
-use Rattle.pw_machine.specs.Machine.{Machine, now, turns_of, count_held, furthest, total, bit, Named, holds, leads, marks, AtMost, HasRegisters, Invariant}
+use Rattle.pw_books.specs.Books.{entries_of, count_in, list_of, furthest}
+use Rattle.pw_machine.specs.Machine.{Machine, now, turns_of, count_held, Named, holds, leads, marks, HasRegisters, Invariant, seat_of}
+use Rattle.pw_books.specs.Sums.{total, bit, AtMost}
 use Rattle.pw_machine.specs.Told.{MeetsOther, KnowsAlone, IsTold, SeatsAreTold}
 use Rattle.pw_machine.specs.Steps.{find_record_held, find_journal_held, IsIdle, IsSpare, drawn, May}
-use Rattle.pw_machine.proofs.Lists.{turn_below, term_le, terms_le, one, is_true, once_yes, once_no}
-use Rattle.pw_machine.proofs.Books.{begins_furthest, empty_front, known_both, entries_of-append}
+use Rattle.pw_books.proofs.Lists.{turn_below, term_le, terms_le, one, is_true, once_yes, once_no, either_is}
+use Rattle.pw_books.proofs.Books.{begins_furthest, empty_front, known_both, entries_of-append}
 use Rattle.pw_machine.proofs.Turns.{holder, count-turns}
 use Rattle.pw_machine.proofs.Facts.{other_unmarked, live_held, live_leads, number_below, other_count}
 use Rattle.pw_machine.proofs.Requests.{next_in}
-use Rattle.pw_machine.proofs.Takes.{either_is}
 
 -- # Sums over views of which one counts
 
@@ -64,8 +64,8 @@ module _ (m : Machine) (i : Invariant m) (j : ℕ) (v : View) (at : get_elem? m.
   -- # The history, as a seat that comes to it knows it
 
   -- the history has no entry of the book's numbers past what the seat has seen
-  pub no_entry_since : (n : ℕ) → 0 < count_in n v.book → entries_of n m.history ≡ entries_of n (furthest v.told v.seen)
-  no_entry_since n h = let r = (i.fits j v at).reads in known_both n v.book m.history (furthest v.told v.seen) h r.lists r.entries
+  pub no_entry_since : (n : ℕ) → 0 < count_in n v.book → entries_of seat_of n m.history ≡ entries_of seat_of n (furthest v.told v.seen)
+  no_entry_since n h = let r = (i.fits j v at).reads in known_both seat_of n v.book m.history (furthest v.told v.seen) h r.lists r.entries
 
   -- # The registers, as a live seat without the mark may rely on them
 
@@ -89,16 +89,16 @@ module _ (m : Machine) (i : Invariant m) (j : ℕ) (v : View) (at : get_elem? m.
     alone_seen =
         let r = (i.fits j v at).reads in let far = begins_furthest m.history v.seen v.told r.begins r.begins_too in
         ended far.0 far.1 (λ n. dite (dec_le m.made n)
-        (λ le. let none = i.numbers.strangers n le in none ∙ sym (empty_front n m.history (furthest v.told v.seen) far none))
+        (λ le. let none = i.numbers.strangers n le in none ∙ sym (empty_front seat_of n m.history (furthest v.told v.seen) far none))
         (λ nle. no_entry_since n (omega (arith, alone_book n (omega arith)))))
       where
         ended : (rest : List HistoryEntry) → m.history ≡ furthest v.told v.seen ++ rest
-            → ((n : ℕ) → entries_of n m.history ≡ entries_of n (furthest v.told v.seen)) → furthest v.told v.seen ≡ m.history
+            → ((n : ℕ) → entries_of seat_of n m.history ≡ entries_of seat_of n (furthest v.told v.seen)) → furthest v.told v.seen ≡ m.history
         ended [] e same = sym (e ∙ append-nil (furthest v.told v.seen))
         ended (x ∷ xs) e same =
-            let c : entries_of x.seat (x ∷ xs) ≡ x ∷ entries_of x.seat xs = ap (λ b. cond b (x ∷ entries_of x.seat xs) (entries_of x.seat xs)) (eq-eqb x.seat x.seat refl) in
-            let l : entries_of x.seat m.history ≡ entries_of x.seat (furthest v.told v.seen) ++ entries_of x.seat (x ∷ xs) = ap (entries_of x.seat) e ∙ entries_of-append x.seat (furthest v.told v.seen) (x ∷ xs) in
-            absurd (omega (arith, ap (length {A = HistoryEntry}) l, ap (length {A = HistoryEntry}) (same x.seat), ap (length {A = HistoryEntry}) c, length-append (entries_of x.seat (furthest v.told v.seen)) (entries_of x.seat (x ∷ xs))))
+            let c : entries_of seat_of x.seat (x ∷ xs) ≡ x ∷ entries_of seat_of x.seat xs = ap (λ b. cond b (x ∷ entries_of seat_of x.seat xs) (entries_of seat_of x.seat xs)) (eq-eqb x.seat x.seat refl) in
+            let l : entries_of seat_of x.seat m.history ≡ entries_of seat_of x.seat (furthest v.told v.seen) ++ entries_of seat_of x.seat (x ∷ xs) = ap (entries_of seat_of x.seat) e ∙ entries_of-append seat_of x.seat (furthest v.told v.seen) (x ∷ xs) in
+            absurd (omega (arith, ap (length {A = HistoryEntry}) l, ap (length {A = HistoryEntry}) (same x.seat), ap (length {A = HistoryEntry}) c, length-append (entries_of seat_of x.seat (furthest v.told v.seen)) (entries_of seat_of x.seat (x ∷ xs))))
 
     -- a turn that it hasn't is free
     alone_free : (turn : ℕ) (has : View → ℕ) → Named turn has m.views → has v ≡ 0

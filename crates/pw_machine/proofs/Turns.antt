@@ -11,9 +11,10 @@ use Rattle.pw_machine.specs.Turns.{count_turn}
 use Rattle.pw_machine.specs.Turns.{part_at}
 use Rattle.pw_machine.specs.declared.view.Held.{Held}
 use Rattle.pw_machine.specs.declared.view.View.{View}
-use Rattle.pw_machine.specs.Machine.{held_as, turns_of, count_held, bit, names, as_number, Named, holds, IsNoted}
+use Rattle.pw_machine.specs.Machine.{held_as, turns_of, count_held, as_number, Named, holds, IsNoted}
+use Rattle.pw_books.specs.Sums.{bit, names}
 use Rattle.pw_machine.specs.Steps.{HoldsAs, without_record, renoted}
-use Rattle.pw_machine.proofs.Lists.{total-append, total-set, term_le, terms_le, total_some, one, none-of, names_zero, names_same, names_le, names_is}
+use Rattle.pw_books.proofs.Lists.{total-append, total-set, term_le, terms_le, total_some, one, none-of, names_zero, names_same, names_le, names_is}
 
 abbrev none_at : Bool → ℕ
 none_at b = cond b 0 0

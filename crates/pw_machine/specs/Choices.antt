@@ -17,7 +17,7 @@ use Rattle.pw_machine.specs.declared.choices.Release.{Release}
 use Rattle.pw_machine.specs.declared.choices.Release.TheVariants.{WithEntry, WithoutEntry}
 use Rattle.pw_machine.specs.declared.view.View.{View}
 use Rattle.pw_machine.specs.Turns.{part_at, way}
-use Rattle.pw_machine.specs.Books.{count_in}
+use Rattle.pw_books.specs.Books.{count_in}
 use Rattle.pw_machine.specs.Machine.{Machine, Invariant, count_held, now, turns_of}
 use Rattle.pw_machine.specs.Steps.{IsIdle, IsNext, IsSpare, May, after, draw_number, drawn, entered, joined, left_of, release_record, release_with_entry, release_without_entry, right_of, split_seat}
 

@@ -6,7 +6,7 @@ use Rattle.pw_parts.specs.Records.{Part}
 use Rattle.pw_parts.specs.Records.{record_count}
 use Rattle.pw_machine.specs.declared.view.Held.{Held}
 use Rattle.pw_machine.specs.declared.view.View.{View}
-use Rattle.pw_machine.specs.Books.{calls_of}
+use Rattle.pw_books.specs.Books.{calls_of}
 use Rattle.pw_machine.specs.Machine.{Given, Machine, held_as, spent_view, Invariant}
 use Rattle.pw_machine.specs.Steps.{Kind, May, after}
 

@@ -1,6 +1,5 @@
 pub mod Parts
 pub mod Turns
-pub mod Books
 pub mod Machine
 pub mod Steps
 pub mod Law

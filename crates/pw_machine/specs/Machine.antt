@@ -1,5 +1,5 @@
 -- The turn machine: its state and its invariant.
-use Rattle.std.specs.Prelude.{◌≡◌, ◌⊎◌, ℕ, suc, ◌+◌, ◌<◌, ◌≤◌, Bool, true, false, List, [], ◌∷◌, ◌++◌, length, Option, Some, None, ◌==◌, nat_lt, cond, slice_index}
+use Rattle.std.specs.Prelude.{◌≡◌, ◌⊎◌, ℕ, ◌+◌, ◌<◌, ◌≤◌, Bool, true, false, List, [], ◌∷◌, ◌++◌, length, Option, Some, None, ◌==◌, cond, slice_index}
 use mathlib.Core.Option.{some}
 use lib.ListN.{get_elem?}
 use Rattle.pw_base.specs.Outside.{Rose}
@@ -15,10 +15,10 @@ use Rattle.pw_model.specs.Operations.{opening_ops}
 use Rattle.pw_model.specs.History.{replay, history_ops, Legal, fault_at}
 use Rattle.pw_parts.specs.Records.{record_count}
 use Rattle.pw_machine.specs.Turns.{part_at, way}
-use Rattle.pw_machine.specs.declared.view.Calls.{Calls}
 use Rattle.pw_machine.specs.declared.view.Held.{Held}
 use Rattle.pw_machine.specs.declared.view.View.{View}
-use Rattle.pw_machine.specs.Books.{Begins, longer, entries_of, count_in, Knows}
+use Rattle.pw_books.specs.Books.{Reads, count_in, entries_of}
+use Rattle.pw_books.specs.Sums.{AtMost, bit, names, once_below, total}
 
 -- # State
 
@@ -40,6 +40,10 @@ pub record Machine : Type 0 where
   pub ops : List Op
   pub count : ℕ
   pub views : List View
+
+-- the number of the seat that made an entry
+abbrev pub seat_of : HistoryEntry → ℕ
+seat_of e = e.seat
 
 -- the state that the history leaves
 abbrev pub now : Machine → State
@@ -77,25 +81,7 @@ spent_view = record {
   read = None;
 }
 
--- the longer of what it saw itself and what it was told by a join
-abbrev pub furthest : Option (List HistoryEntry) → List HistoryEntry → List HistoryEntry
-furthest None seen = seen
-furthest (Some told) seen = longer told seen
-
--- # Sums over views
-
-abbrev pub total : {A : Type 0} → (A → ℕ) → List A → ℕ
-total f [] = 0
-total f (x ∷ xs) = f x + total f xs
-
-abbrev pub bit : Bool → ℕ
-bit b = cond b 1 0
-
-abbrev pub once_below : ℕ → ℕ → ℕ
-once_below n made = bit (nat_lt n made)
-
-abbrev pub names : ℕ → ℕ → ℕ
-names turn n = bit (turn == suc n)
+-- # Turns and their holders
 
 -- what the view has, where it has this number
 abbrev pub as_number : ℕ → (View → ℕ) → View → ℕ
@@ -117,17 +103,6 @@ marks v = bit v.mark
 
 -- # What is true of one view
 
-abbrev pub IsPrefix : List HistoryEntry → Option (List HistoryEntry) → Type 0
-IsPrefix history None = Unit {0}
-IsPrefix history (Some told) = Begins history told
-
--- What a seat saw begins the history. Of each number of its book it saw all entries, and the book has them.
-pub record Reads (history seen : List HistoryEntry) (told : Option (List HistoryEntry)) (book : List Calls) : Type 0 where
-  pub begins : Begins history seen
-  pub begins_too : IsPrefix history told
-  pub lists : Knows book history
-  pub entries : Knows book (furthest told seen)
-
 -- each part that was noted is the state's
 abbrev pub IsNoted : Plan → State → List Held → Type 0
 IsNoted P S [] = Unit {0}
@@ -145,10 +120,6 @@ pub record ServesRequest (P : Plan) (S : State) (held : List Held) (leads : Bool
   pub rests : request ≡ None → (held ≡ []) × (leads ≡ false) × (releasing ≡ false)
   pub noted : IsNoted P S held
 
-abbrev pub AtMost : Option ℕ → ℕ → Type 0
-AtMost None n = Unit {0}
-AtMost (Some k) n = k ≤ n
-
 -- No count of the registers that a seat noted, and no number of seats that it read, is above what there is.
 pub record NotesWithin (made count : ℕ) (first second read : Option ℕ) : Type 0 where
   pub at_take : AtMost first count
@@ -161,7 +132,7 @@ HasTurn P t v = (0 < count_held t v.held) ⊎ ((t ≡ record_count P) × (v.lead
 
 -- What a seat knows and holds. What its request wants of it isn't said while the coordinator is being opened.
 pub record Fits (P : Plan) (history : List HistoryEntry) (made count : ℕ) (v : View) : Type 0 where
-  pub reads : Reads history v.seen v.told v.book
+  pub reads : Reads seat_of history v.seen v.told v.book
   pub own : 0 < v.parts → count_in v.number v.book ≡ 1
   pub serves : v.mark ≡ false → ServesRequest P (replay P history) v.held v.leads v.request v.releasing
   pub holds_records : (t : ℕ) → 0 < count_held t v.held → t < record_count P
@@ -182,7 +153,7 @@ pub record HasHistory (given : Given) (history : List HistoryEntry) : Type 0 whe
 -- Each number made stands in one book, and no other number in any book or in the history.
 pub record HasNumbers (made : ℕ) (history : List HistoryEntry) (views : List View) : Type 0 where
   pub books : (n : ℕ) → total (λ v. count_in n v.book) views ≡ once_below n made
-  pub strangers : (n : ℕ) → made ≤ n → entries_of n history ≡ []
+  pub strangers : (n : ℕ) → made ≤ n → entries_of seat_of n history ≡ []
   pub most : made ≤ 65536
 
 -- Each turn names its holder.

@@ -17,8 +17,8 @@ use Rattle.pw_parts.specs.Routes.{route}
 use Rattle.pw_machine.specs.Turns.{part_at}
 use Rattle.pw_machine.specs.declared.view.Held.{Held}
 use Rattle.pw_machine.specs.declared.view.View.{View}
-use Rattle.pw_machine.specs.Books.{calls_of, count_in, list_of, grown, without}
-use Rattle.pw_machine.specs.Machine.{Machine, now, held_as, turns_of, count_held, spent_view, furthest}
+use Rattle.pw_books.specs.Books.{calls_of, count_in, list_of, grown, without, furthest}
+use Rattle.pw_machine.specs.Machine.{Machine, now, held_as, turns_of, count_held, spent_view, seat_of}
 
 pub data Kind : Type 0 where
   take_record : ℕ → Request → Part → Kind
@@ -95,7 +95,7 @@ in_place t v = record v { out = without_turn t v.out }
 -- it made its entry, which left this state
 abbrev pub entered : Plan → State → HistoryEntry → ℕ → View → View
 entered P S e count v =
-    releasing (renoted P S v.held) (record v { leads = false; seen = v.seen ++ e ∷ []; book = grown v.book e; second = Some count })
+    releasing (renoted P S v.held) (record v { leads = false; seen = v.seen ++ e ∷ []; book = grown seat_of v.book e; second = Some count })
 
 abbrev pub let_go : ℕ → View → View
 let_go count v = releasing v.held (record v { leads = false; second = Some count; mark = false })

@@ -7,8 +7,8 @@ use Rattle.pw_parts.specs.Records.{reach, record_count}
 use Rattle.pw_parts.specs.Routes.{numbers}
 use Rattle.pw_machine.specs.declared.view.View.{View}
 use Rattle.pw_machine.specs.Turns.{count_turn, part_at}
-use Rattle.pw_machine.specs.Books.{count_in, entries_of}
-use Rattle.pw_machine.specs.Machine.{Machine, HasRegisters, Invariant, count_held, furthest, now}
+use Rattle.pw_books.specs.Books.{count_in, entries_of, furthest}
+use Rattle.pw_machine.specs.Machine.{Machine, HasRegisters, Invariant, count_held, now, seat_of}
 use Rattle.pw_machine.specs.Steps.{IsIdle, IsSpare, May, drawn, find_record_held, find_journal_held}
 
 -- Who was met has a number that was given, is none of the seats in the book, and is not gone.
@@ -40,7 +40,7 @@ pub record IsTold (m : Machine) (j : ℕ) (v : View) : Type 0 where
   pub free : (t : ℕ) → t < record_count m.given.plan → slice_index m.turns t ≡ 0
       → get_elem? m.values t ≡ some (part_at m.given.plan t (now m))
   -- past what the seat has seen the history has no entry of its book's numbers
-  pub no_entry_since : (n : ℕ) → 0 < count_in n v.book → entries_of n m.history ≡ entries_of n (furthest v.told v.seen)
+  pub no_entry_since : (n : ℕ) → 0 < count_in n v.book → entries_of seat_of n m.history ≡ entries_of seat_of n (furthest v.told v.seen)
   -- once the coordinator is open the registers are as the history says, or as the journal's holder found them
   pub registers : 0 < v.parts → v.mark ≡ false → HasRegisters m.given m.history m.ops m.count
   pub alone : v.parts ≡ 65536 → KnowsAlone m v

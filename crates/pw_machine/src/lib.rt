@@ -16,4 +16,4 @@ pub use laws::{
     turn_law, two_seats_meet,
 };
 pub use part::{Noted, Part};
-pub use view::{Calls, Held, Met, View};
+pub use view::{Held, Met, View};

@@ -1,13 +1,8 @@
 use crate::part::Part;
+use pw_books::Calls;
 use pw_model::HistoryEntry;
 use pw_plan::Request;
 use std::collections::LinkedList;
-
-/// A seat number with its entries.
-pub struct Calls {
-    pub seat: u32,
-    pub entries: LinkedList<HistoryEntry>,
-}
 
 /// A record that a seat holds, with the part that it noted of it.
 pub struct Held {
@@ -28,7 +23,7 @@ pub struct View {
     pub seen: LinkedList<HistoryEntry>,
     /// What the seat that was joined had seen, until the read after the join.
     pub told: Option<LinkedList<HistoryEntry>>,
-    pub book: LinkedList<Calls>,
+    pub book: LinkedList<Calls<HistoryEntry>>,
     /// The records that it holds, in the order in which it took them.
     pub held: LinkedList<Held>,
     /// Whether it holds the journal.

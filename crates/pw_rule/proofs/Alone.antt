@@ -9,8 +9,8 @@ use Rattle.pw_base.specs.Outside.{Rose}
 use Rattle.pw_model.specs.Operations.{opening_ops}
 use Rattle.pw_model.specs.History.{Legal, fault_at, history_ops, replay}
 use Rattle.pw_machine.specs.Turns.{part_at}
-use Rattle.pw_machine.specs.Books.{Knows, entries_of}
-use Rattle.pw_machine.specs.Machine.{count_held, now}
+use Rattle.pw_books.specs.Books.{Knows, entries_of}
+use Rattle.pw_machine.specs.Machine.{count_held, now, seat_of}
 use Rattle.pw_machine.proofs.Told.{is_told}
 use Rattle.pw_regs.specs.declared.registers.Registers.{Ghosts as Registers}
 use Rattle.pw_rule.specs.Loads.{LiesAt}
@@ -31,8 +31,8 @@ module _ {R : Type 0} (by : Registers R) where
         legal = subst (Legal m.given.plan) (sym h.2.entries) i.history.legal;
         room = subst (λ l. length l ≤ m.given.capacity) (sym h.2.entries) i.history.room;
         seen = knows.seen ∙ sym h.2.entries;
-        book = subst (Knows v.book) (sym h.2.entries) f.reads.lists;
-        seats = (m.made, i.numbers.most, knows.book, λ n le. ap (entries_of n) h.2.entries ∙ i.numbers.strangers n le);
+        book = subst (Knows seat_of v.book) (sym h.2.entries) f.reads.lists;
+        seats = (m.made, i.numbers.most, knows.book, λ n le. ap (entries_of seat_of n) h.2.entries ∙ i.numbers.strangers n le);
         capacity = h.2.capacity;
         same_told = h.2.same_told;
         ops = λ tells. h.2.ops tells ∙ (regs.log ∙ ap (λ l. m.given.ops ++ opening_ops m.given.plan ++ history_ops m.given.plan l)

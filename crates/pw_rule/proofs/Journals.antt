@@ -9,8 +9,8 @@ use Rattle.pw_model.specs.Operations.{opening_ops}
 use Rattle.pw_model.specs.History.{Legal, MayFollow, entry_ops, history_ops, replay}
 use Rattle.pw_parts.specs.Records.{record_count}
 use Rattle.pw_machine.specs.Turns.{count_turn, way}
-use Rattle.pw_machine.specs.Books.{Begins, Knows}
-use Rattle.pw_machine.specs.Machine.{Given, IsNoted, now, turns_of}
+use Rattle.pw_books.specs.Books.{Begins, Knows}
+use Rattle.pw_machine.specs.Machine.{Given, IsNoted, now, turns_of, seat_of}
 use Rattle.pw_machine.specs.Steps.{take_journal, find_journal_held, release_with_entry, release_without_entry, met_with, goes_on, led, entered, let_go, Asks, IsNext, Enters, May}
 use Rattle.pw_machine.proofs.Plans.{next_journal}
 use Rattle.pw_machine.proofs.Facts.{live_leads}
@@ -70,7 +70,7 @@ module _ {R : Type 0} (by : Registers R) where
               room = subst (λ g. length j.entries ≤ g.capacity) o.given (subst (λ l. length l ≤ mach.given.capacity)
                   (sym h.2.entries) i.history.room);
               seen = subst (λ l. Begins l m.0.seen) (sym h.2.entries) f.reads.begins;
-              book = subst (Knows m.0.book) (sym h.2.entries) f.reads.lists;
+              book = subst (Knows seat_of m.0.book) (sym h.2.entries) f.reads.lists;
               same_told = h.2.same_told;
               ops = λ tells. h.2.ops tells ∙ (regs.log ∙ (ap (λ g. g.ops ++ opening_ops g.plan ++ history_ops g.plan mach.history) o.given
                   ∙ ap (λ l. by.log key.regs.value ++ opening_ops key.plan ++ history_ops key.plan l) (sym h.2.entries)));

@@ -5,11 +5,12 @@ use lib.ListN.{get_elem?}
 use Rattle.atomic_table.specs.Table.{keeps, step}
 use Rattle.atomic_table.proofs.Lists.{exchanged, set_else}
 use Rattle.pw_machine.specs.declared.view.View.{View}
-use Rattle.pw_machine.specs.Books.{count_in}
-use Rattle.pw_machine.specs.Machine.{AtMost, IsPrefix, Machine, spent_view}
+use Rattle.pw_books.specs.Books.{count_in, IsPrefix}
+use Rattle.pw_books.specs.Sums.{AtMost}
+use Rattle.pw_machine.specs.Machine.{Machine, spent_view}
 use Rattle.pw_machine.specs.Steps.{draw_number, miss_draw, read_made, split_seat, join_seats, drawn, missed, looked, left_of, right_of, joined, IsSpare}
-use Rattle.pw_machine.proofs.Lists.{at_set, at_snoc, off, term_le}
-use Rattle.pw_machine.proofs.Books.{longer_both}
+use Rattle.pw_books.proofs.Lists.{at_set, at_snoc, off, term_le}
+use Rattle.pw_books.proofs.Books.{longer_both}
 use Rattle.pw_machine.proofs.Told.{drawn_is_new, drawn_is_spare, missed_is_more}
 use Rattle.pw_regs.specs.declared.registers.Registers.{Ghosts as Registers}
 use Rattle.pw_rule.specs.declared.limit.Limit.{Limit}

@@ -17,7 +17,7 @@ use Rattle.pw_machine.specs.Turns.{count_turn, part_at}
 use Rattle.pw_machine.specs.Machine.{held_as, leads, now}
 use Rattle.pw_machine.specs.Steps.{release_record, journal_out, journal_back, release_without_entry, without_record, without_turn, in_hand, in_place, freed, let_go, May, after}
 use Rattle.pw_machine.specs.Law.{all_held, all_turns, opened}
-use Rattle.pw_machine.proofs.Lists.{at_set, off, one, bit_one}
+use Rattle.pw_books.proofs.Lists.{at_set, off, one, bit_one}
 use Rattle.pw_machine.proofs.Facts.{other_unmarked, live_leads}
 use Rattle.pw_machine.proofs.Keeps.{step_keeps, opens}
 use Rattle.pw_machine.proofs.Turns.{turn_is}

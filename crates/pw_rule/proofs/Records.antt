@@ -11,10 +11,9 @@ use Rattle.pw_parts.specs.Routes.{numbers}
 use Rattle.pw_machine.specs.Turns.{count_turn, part_at}
 use Rattle.pw_machine.specs.Machine.{now, holds}
 use Rattle.pw_machine.specs.Steps.{take_record, find_record_held, release_record, taken, met_with, goes_on, freed, Asks, May}
-use Rattle.pw_machine.proofs.Lists.{off}
+use Rattle.pw_books.proofs.Lists.{off, either_is}
 use Rattle.pw_machine.proofs.Facts.{live_held}
 use Rattle.pw_machine.proofs.Turns.{none_has, holds_count}
-use Rattle.pw_machine.proofs.Takes.{either_is}
 use Rattle.pw_machine.proofs.Told.{is_told}
 use Rattle.pw_regs.specs.declared.registers.Registers.{Ghosts as Registers}
 use Rattle.pw_rule.specs.Loads.{Homes, IsRecordOf, LiesAt}

@@ -9,7 +9,7 @@ use Rattle.pw_plan.specs.declared.request.Request.{Request}
 use Rattle.pw_machine.specs.Turns.{StartsWith, way}
 use Rattle.pw_machine.specs.Machine.{Machine, now, turns_of}
 use Rattle.pw_machine.specs.Steps.{Asks, IsNext, Kind, May, after, goes_on}
-use Rattle.pw_machine.proofs.Lists.{at_set, off, set_else}
+use Rattle.pw_books.proofs.Lists.{at_set, off, set_else}
 use Rattle.pw_machine.proofs.Facts.{is_state, other_unmarked}
 use Rattle.pw_machine.proofs.Keeps.{step_keeps}
 use Rattle.pw_regs.specs.declared.registers.Registers.{Ghosts as Registers}

@@ -16,8 +16,8 @@ use Rattle.pw_parts.specs.Records.{Part, record_count}
 use Rattle.pw_parts.specs.Routes.{route}
 use Rattle.pw_machine.specs.declared.view.View.{View}
 use Rattle.pw_machine.specs.Turns.{StartsWith, part_at, way}
-use Rattle.pw_machine.specs.Books.{Knows, count_in, entries_of}
-use Rattle.pw_machine.specs.Machine.{Given, IsNoted, count_held, furthest, spent_view, turns_of}
+use Rattle.pw_books.specs.Books.{Knows, count_in, entries_of, furthest}
+use Rattle.pw_machine.specs.Machine.{Given, IsNoted, count_held, spent_view, turns_of, seat_of}
 use Rattle.pw_machine.specs.Steps.{Asks, HoldsAs, IsIdle, IsSpare, joined, left_of, right_of}
 use Rattle.pw_regs.specs.declared.registers.Registers.{Ghosts as Registers}
 use Rattle.pw_journal.specs.Journaled.{Journaled}
@@ -122,10 +122,10 @@ module _ {R : Type 0} (by : Registers R) where
     pub legal : Legal given.plan journal.entries
     pub room : length journal.entries ≤ given.capacity
     pub seen : furthest v.told v.seen ≡ journal.entries
-    pub book : Knows v.book journal.entries
+    pub book : Knows seat_of v.book journal.entries
     -- its book has every number made, once, and no other number has an entry
     pub seats : (made : ℕ) × (made ≤ 65536) × ((n : ℕ) → n < made → count_in n v.book ≡ 1)
-        × ((n : ℕ) → made ≤ n → entries_of n journal.entries ≡ [])
+        × ((n : ℕ) → made ≤ n → entries_of seat_of n journal.entries ≡ [])
     pub capacity : journal.capacity ≡ given.capacity
     pub same_told : by.told journal.regs ≡ promise.told
     pub ops : promise.told ≡ true → by.log journal.regs ≡ given.ops ++ opening_ops given.plan ++ history_ops given.plan journal.entries

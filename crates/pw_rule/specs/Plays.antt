@@ -11,8 +11,9 @@ use Rattle.pw_parts.specs.Records.{Part, reach, record_count}
 use Rattle.pw_parts.specs.Routes.{numbers}
 use Rattle.pw_machine.specs.declared.view.View.{View}
 use Rattle.pw_machine.specs.Turns.{count_turn, part_at, way}
-use Rattle.pw_machine.specs.Books.{Begins, Knows, count_in, longer}
-use Rattle.pw_machine.specs.Machine.{AtMost, Given, IsNoted, count_held, furthest, turns_of}
+use Rattle.pw_books.specs.Books.{Begins, Knows, count_in, longer, furthest}
+use Rattle.pw_books.specs.Sums.{AtMost}
+use Rattle.pw_machine.specs.Machine.{Given, IsNoted, count_held, turns_of, seat_of}
 use Rattle.pw_machine.specs.Steps.{IsSpare, drawn, entered, freed, goes_on, in_hand, in_place, led, let_go, looked, met_with, missed, taken}
 use Rattle.pw_machine.specs.Told.{MeetsOther}
 use Rattle.pw_regs.specs.declared.registers.Registers.{Ghosts as Registers}
@@ -109,13 +110,13 @@ module _ {R : Type 0} (by : Registers R) where
     pub size : j.capacity ≡ given.capacity
     pub room : length j.entries ≤ given.capacity
     pub seen : Begins j.entries m.0.seen
-    pub book : Knows m.0.book j.entries
+    pub book : Knows seat_of m.0.book j.entries
     pub same_told : by.told j.regs ≡ promise.told
     pub ops : promise.told ≡ true → by.log j.regs ≡ given.ops ++ opening_ops given.plan ++ history_ops given.plan j.entries
     -- the count has not sunk since the coordinator was opened
     pub least : given.count ≤ by.faults j.regs
     pub promised : IsPromised by promise given j.entries j.regs
-    pub known : Knows m.0.book (furthest m.0.told m.0.seen)
+    pub known : Knows seat_of m.0.book (furthest m.0.told m.0.seen)
     pub noted : IsNoted given.plan (replay given.plan j.entries) m.0.held
     pub whole : turns_of m.0.held ≡ way given.plan (replay given.plan j.entries) q
     -- a seat with all parts had seen it all

@@ -28,7 +28,7 @@ use Rattle.pw_rule.specs.Plays.{IsFound, IsGrown, Mine}
 use Rattle.pw_turns.specs.Asked.{entry_as}
 use Rattle.pw_turns.specs.Steps.{LedOut}
 use Rattle.pw_turns.specs.Climb.{Found, Made, looked_in, wrote}
-use Rattle.pw_turns.proofs.Entries.{asks_for, is_legal, may_follow, seat_of, state_done, state_failed}
+use Rattle.pw_turns.proofs.Entries.{asks_for, is_legal, may_follow, entry_seat, state_done, state_failed}
 
 over_reply : (r s : Reply) (xs ys : List Op) → over r xs ≡ over s ys → r ≡ s
 over_reply r s xs ys e = cc
@@ -96,7 +96,7 @@ module _ {R : Type 0} (by : Registers R) (promise : Promise) (given : Given) (la
     grown_is apart entries size kept same done few is left steady failed = subst (λ v. IsGrown by promise given v (entry_as number q fault) k) (sym is_led) record {
       leads = refl;
       none_out = none_out;
-      seat = seat_of number q fault ∙ own;
+      seat = entry_seat number q fault ∙ own;
       request = ap Some (sym (asks_for number q fault));
       room = omega (arith, apart, l.0.room);
       follows = may_follow given.plan j.entries number q fault faultless has within;

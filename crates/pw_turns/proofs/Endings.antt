@@ -8,7 +8,8 @@ use Rattle.pw_plan.specs.declared.plan.Plan.{Plan}
 use Rattle.pw_parts.specs.Records.{record_count}
 use Rattle.pw_model.specs.declared.entry.HistoryEntry.{HistoryEntry}
 use Rattle.pw_machine.specs.declared.view.View.{View}
-use Rattle.pw_machine.specs.Machine.{furthest, now}
+use Rattle.pw_books.specs.Books.{furthest}
+use Rattle.pw_machine.specs.Machine.{now}
 use Rattle.pw_machine.specs.Steps.{IsIdle}
 use Rattle.pw_machine.specs.Turns.{count_turn, part_at}
 use Rattle.pw_regs.specs.declared.registers.Registers.{Ghosts as Registers}

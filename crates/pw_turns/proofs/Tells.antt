@@ -9,10 +9,10 @@ use Rattle.pw_model.specs.Operations.{ops_of}
 use Rattle.pw_model.specs.History.{Faultless, Legal, replay}
 use Rattle.pw_journal.specs.Entries.{fault_place}
 use Rattle.pw_machine.specs.declared.view.View.{View}
-use Rattle.pw_machine.specs.Books.{Begins, Knows, count_in, entries_of}
-use Rattle.pw_machine.specs.Machine.{Given, furthest}
+use Rattle.pw_books.specs.Books.{Begins, Knows, count_in, entries_of, furthest}
+use Rattle.pw_machine.specs.Machine.{Given, seat_of}
 use Rattle.pw_machine.specs.Steps.{Asks, goes_on, met_with, releasing, renoted}
-use Rattle.pw_machine.proofs.Books.{entries_of-append, known_both}
+use Rattle.pw_books.proofs.Books.{entries_of-append, known_both}
 use Rattle.pw_turns.specs.Asked.{entry_as}
 use Rattle.pw_turns.specs.Climb.{Climbs, Found, Made, looked_in, wrote}
 use Rattle.pw_turns.specs.Told.{CountRose, Extends, KeepsMet, Looks, SameSeat, Told}
@@ -44,12 +44,12 @@ module _ (given : Given) (v : View) (q : Request) (rest : IsAtRest v) where
         ∙ ap (λ hs. releasing (renoted given.plan (replay given.plan (m.history ++ entry_as v.number q fault ∷ [])) hs) (wrote m.history (entry_as v.number q fault) m.first m.second q v))
         (nil_of v.held rest.0)
 
-    pub no_other : (n : ℕ) → 0 < count_in n v.book → entries_of n m.begins.0 ≡ []
+    pub no_other : (n : ℕ) → 0 < count_in n v.book → entries_of seat_of n m.begins.0 ≡ []
     no_other n more =
-        let same = known_both n v.book m.history v.seen more m.knows (subst (Knows v.book) seen_is m.known) in
-        let both : entries_of n m.history ≡ entries_of n v.seen ++ entries_of n m.begins.0 = ap (entries_of n) m.begins.1 ∙ entries_of-append n v.seen m.begins.0 in
-        nil_of (entries_of n m.begins.0)
-        (omega (arith, ap (length {A = HistoryEntry}) same, ap (length {A = HistoryEntry}) both, length-append (entries_of n v.seen) (entries_of n m.begins.0)))
+        let same = known_both seat_of n v.book m.history v.seen more m.knows (subst (Knows seat_of v.book) seen_is m.known) in
+        let both : entries_of seat_of n m.history ≡ entries_of seat_of n v.seen ++ entries_of seat_of n m.begins.0 = ap (entries_of seat_of n) m.begins.1 ∙ entries_of-append seat_of n v.seen m.begins.0 in
+        nil_of (entries_of seat_of n m.begins.0)
+        (omega (arith, ap (length {A = HistoryEntry}) same, ap (length {A = HistoryEntry}) both, length-append (entries_of seat_of n v.seen) (entries_of seat_of n m.begins.0)))
 
     pub nothing_between : v.parts ≡ 65536 → m.begins.0 ≡ []
     nothing_between all =

@@ -11,8 +11,8 @@ use Rattle.pw_parts.specs.Routes.{numbers}
 use Rattle.pw_journal.specs.Entries.{fault_place}
 use Rattle.pw_machine.specs.declared.view.View.{View}
 use Rattle.pw_machine.specs.Turns.{StartsWith, count_turn, way}
-use Rattle.pw_machine.specs.Books.{Begins, Knows, count_in, grown}
-use Rattle.pw_machine.specs.Machine.{Given, IsNoted, furthest, turns_of}
+use Rattle.pw_books.specs.Books.{Begins, Knows, count_in, grown, furthest}
+use Rattle.pw_machine.specs.Machine.{Given, IsNoted, turns_of, seat_of}
 use Rattle.pw_machine.specs.Steps.{goes_on, led, met_with, releasing, renoted}
 use Rattle.pw_turns.specs.Asked.{entry_as}
 use Rattle.pw_turns.specs.declared.requests.Try.{Try}
@@ -21,7 +21,7 @@ use Rattle.pw_turns.specs.declared.requests.Try.TheVariants.{Answer, Busy, Full,
 -- the seat made the entry
 abbrev pub wrote : List HistoryEntry → HistoryEntry → ℕ → ℕ → Request → View → View
 wrote history e first second q v =
-    record (led history first q v) { leads = false; seen = history ++ e ∷ []; book = grown v.book e; second = Some second }
+    record (led history first q v) { leads = false; seen = history ++ e ∷ []; book = grown seat_of v.book e; second = Some second }
 
 -- it left the journal as it was
 abbrev pub looked_in : List HistoryEntry → ℕ → Request → View → View
@@ -37,8 +37,8 @@ pub record Made (given : Given) (v : View) (q : Request) (fault : ℕ) (w : View
   pub before : Legal given.plan history
   pub legal : Legal given.plan (history ++ entry_as v.number q fault ∷ [])
   pub begins : Begins history v.seen
-  pub knows : Knows v.book history
-  pub known : Knows v.book (furthest v.told v.seen)
+  pub knows : Knows seat_of v.book history
+  pub known : Knows seat_of v.book (furthest v.told v.seen)
   pub noted : IsNoted given.plan (replay given.plan history) v.held
   pub front : StartsWith (way given.plan (replay given.plan history) q) (turns_of v.held)
   pub rose : fault ≢ 0 → Rose first second
@@ -51,8 +51,8 @@ pub record Found (given : Given) (v : View) (q : Request) (w : View) : Type 0 wh
   pub is : w ≡ releasing v.held (looked_in history count q v)
   pub legal : Legal given.plan history
   pub begins : Begins history v.seen
-  pub knows : Knows v.book history
-  pub known : Knows v.book (furthest v.told v.seen)
+  pub knows : Knows seat_of v.book history
+  pub known : Knows seat_of v.book (furthest v.told v.seen)
   pub alone : v.parts ≡ 65536 → furthest v.told v.seen ≡ history
 
 abbrev pub Climbs : Given → View → Request → Try → View → Type 0

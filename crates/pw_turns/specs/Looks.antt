@@ -2,8 +2,8 @@
 use Rattle.std.specs.Prelude.{◌≡◌, ℕ, ◌+◌, ◌<◌, ◌≤◌, List, ◌++◌, Some}
 use Rattle.pw_model.specs.declared.entry.HistoryEntry.{HistoryEntry}
 use Rattle.pw_machine.specs.declared.view.View.{View}
-use Rattle.pw_machine.specs.Books.{Begins, count_in, longer}
-use Rattle.pw_machine.specs.Machine.{AtMost}
+use Rattle.pw_books.specs.Books.{Begins, count_in, longer}
+use Rattle.pw_books.specs.Sums.{AtMost}
 use Rattle.pw_machine.specs.Steps.{IsSpare, drawn, looked}
 
 -- The seat read how many seats are made, and has seen what a join told.

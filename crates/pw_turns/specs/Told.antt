@@ -12,8 +12,8 @@ use Rattle.pw_parts.specs.Routes.{numbers}
 use Rattle.pw_journal.specs.Entries.{fault_place}
 use Rattle.pw_machine.specs.declared.view.View.{View}
 use Rattle.pw_machine.specs.Turns.{count_turn}
-use Rattle.pw_machine.specs.Books.{Begins, count_in, entries_of, grown}
-use Rattle.pw_machine.specs.Machine.{Given}
+use Rattle.pw_books.specs.Books.{Begins, count_in, entries_of, grown}
+use Rattle.pw_machine.specs.Machine.{Given, seat_of}
 use Rattle.pw_turns.specs.Asked.{entry_as}
 use Rattle.pw_turns.specs.declared.requests.Try.{Try}
 use Rattle.pw_turns.specs.declared.requests.Try.TheVariants.{Answer, Busy, Full, RegisterFault, Stopped}
@@ -31,8 +31,8 @@ pub record Extends (P : Plan) (v : View) (q : Request) (fault : ℕ) (w : View) 
   pub seen : w.seen ≡ (v.seen ++ between) ++ entry_as v.number q fault ∷ []
   pub before : Legal P (v.seen ++ between)
   pub legal : Legal P w.seen
-  pub no_other : (n : ℕ) → 0 < count_in n v.book → entries_of n between ≡ []
-  pub book : w.book ≡ grown v.book (entry_as v.number q fault)
+  pub no_other : (n : ℕ) → 0 < count_in n v.book → entries_of seat_of n between ≡ []
+  pub book : w.book ≡ grown seat_of v.book (entry_as v.number q fault)
   -- where it is alone, nothing was between
   pub alone : v.parts ≡ 65536 → between ≡ []
 

@@ -9,9 +9,10 @@ use Rattle.pw_plan.specs.declared.plan.Plan.{Plan}
 use Rattle.pw_plan.specs.declared.request.Request.{Request}
 use Rattle.pw_plan.specs.Requests.{Has}
 use Rattle.pw_model.specs.declared.entry.HistoryEntry.{HistoryEntry}
-use Rattle.pw_model.specs.History.{fault_at, history_ops}
+use Rattle.pw_model.specs.History.{Legal, fault_at, history_ops}
 use Rattle.pw_model.specs.Operations.{opening_ops}
 use Rattle.pw_model.proofs.Joining.{faultless_none}
+use Rattle.pw_model.proofs.Staying.{request_cpu}
 use Rattle.pw_machine.specs.Machine.{Given}
 use Rattle.pw_regs.specs.declared.registers.Registers.{Ghosts as Registers}
 use Rattle.pw_regs.specs.Seen.{registers_seen}
@@ -19,13 +20,18 @@ use Rattle.pw_script.specs.declared.script.Line.{Line}
 use Rattle.pw_script.specs.Lawful.{IsRunOf}
 use Rattle.pw_script.specs.Reading.{operations, requests_of}
 use Rattle.pw_turns.specs.Opens.{FailsAfter}
+use Rattle.pw_interleaved.specs.Asked.{cpu_of}
+use Rattle.pw_interleaved.specs.Asked.{IsRunOf as IsRun}
+use Rattle.pw_interleaved.specs.Seats.{SeatsTell, SitAlike}
 use Rattle.pw_interleaved.specs.Workers.{MadeByWorkers, seat_of}
+use Rattle.pw_interleaved.proofs.Joins.{each_map}
 use Rattle.pw_interleaved.proofs.Seats.{asked-run, seats-tell}
 use Rattle.pw_interleaved.proofs.Workers.{workers-asked}
-use Rattle.pw_workers.specs.Drives.{Opens, Runs}
+use Rattle.pw_workers.specs.Drives.{Opens, Runs, TellSeats}
 use Rattle.pw_workers.specs.inner.Lists.{AreLists, AreListsFor}
 use Rattle.pw_workers.specs.inner.Runs.{LeavesNone, Makes}
 use Rattle.pw_workers.proofs.Bounds.{run-bound}
+use Rattle.pw_workers.specs.inner.Telling.{telling}
 
 lines_have : (P : Plan) (lines : List Line) → AllByRecursion (λ (l : Line). Has P l.request) lines → AllByRecursion (Has P) (requests_of lines)
 lines_have P [] has = tt
@@ -38,6 +44,23 @@ lists_for P lines lists has are = record { asked = requests_of lines; has = line
 lines_size : (lines : List Line) → length (requests_of lines) ≡ length lines
 lines_size [] = refl
 lines_size (l ∷ ls) = ap suc (lines_size ls)
+
+-- # Entries
+
+-- what workers' laws tell of a history is what a script's allow
+lawful_run : (P : Plan) (asked : List Request) (es : List HistoryEntry) → Legal P es → IsRun telling asked es → IsRunOf P asked es
+lawful_run P asked es legal run = record {
+  legal = legal;
+  begins = λ p lt. record { rest = (run.begins p).0; is = (run.begins p).1 };
+  whole = λ none p lt. run.whole none p;
+}
+
+tell_seats : (es : List HistoryEntry) → SeatsTell telling.seat (cpu_of telling) es → TellSeats es
+tell_seats es told = each_map (λ e. AllByRecursion (SitAlike telling.seat (cpu_of telling) e) es) (λ e. AllByRecursion (SitAlike (λ (f : HistoryEntry). f.seat) (λ (f : HistoryEntry). f.cpu) e) es)
+    (λ e alike. each_map (SitAlike telling.seat (cpu_of telling) e) (SitAlike (λ (f : HistoryEntry). f.seat) (λ (f : HistoryEntry). f.cpu) e) (λ f is. record {
+      same_cpu = λ same. sym (request_cpu e) ∙ is.same_cpu same ∙ request_cpu f;
+      same_seat = λ same. is.same_seat (request_cpu e ∙ same ∙ sym (request_cpu f));
+    }) es alike) es told
 
 where_fault : (o : Option ℕ) (a b : ℕ) → ((k : ℕ) → o ≡ Some k → Rose a b) → is_some o ≡ true → Rose a b
 where_fault None a b rose e = cc
@@ -58,13 +81,13 @@ module _ {R : Type 0} (by : Registers R) (P : Plan) (lines : List Line) (n : ℕ
   runs promise g lists entries left is room same has are m =
       let m : Makes by promise given lists entries left = subst (λ x. Makes by promise x lists entries left) same m in
       let asked = requests_of lines in
-      let made : MadeByWorkers asked m.workers m.last.book entries = m.made asked (lines_have P lines has) are (size ∙ sym (lines_size lines)) in
-      let by_seats = workers-asked asked entries m.workers m.last.book made in
-      let lawful : IsRunOf P asked entries = asked-run asked (seat_of m.workers) entries by_seats P m.ends.legal in
-      let within : bound_of P entries ≤ operations P lines = run-bound P lines entries (lines_have P lines has) lawful in
+      let made : MadeByWorkers telling asked m.workers m.last.book entries = m.made asked (lines_have P lines has) are (size ∙ sym (lines_size lines)) in
+      let by_seats = workers-asked telling asked entries m.workers m.last.book made in
+      let run = asked-run telling asked (seat_of m.workers) entries by_seats in
+      let within : bound_of P entries ≤ operations P lines = run-bound P lines entries run in
       record {
-        lawful = lawful;
-        seats = seats-tell asked (seat_of m.workers) entries by_seats;
+        lawful = lawful_run P asked entries m.ends.legal run;
+        seats = tell_seats entries (seats-tell telling asked (seat_of m.workers) entries by_seats);
         operates = record {
           same_told = m.ends.same_told ∙ is;
           count = m.ends.least;

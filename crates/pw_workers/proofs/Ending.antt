@@ -10,9 +10,9 @@ use Rattle.pw_plan.specs.declared.request.Request.{Request}
 use Rattle.pw_plan.specs.Requests.{Has}
 use Rattle.pw_plan.proofs.Lists.{each_append}
 use Rattle.pw_model.specs.declared.entry.HistoryEntry.{HistoryEntry}
-use Rattle.pw_machine.specs.declared.view.Calls.{Calls}
+use Rattle.pw_books.specs.declared.calls.Calls.{Calls}
 use Rattle.pw_machine.specs.declared.view.View.{View}
-use Rattle.pw_machine.specs.Books.{Begins, Knows, calls_of, count_in, entries_of}
+use Rattle.pw_books.specs.Books.{Begins, Knows, calls_of, count_in, entries_of}
 use Rattle.pw_machine.specs.Machine.{Given}
 use Rattle.pw_notice.specs.Limits.{is_of, own}
 use Rattle.pw_regs.specs.declared.registers.Registers.{Ghosts as Registers}
@@ -29,6 +29,7 @@ use Rattle.pw_workers.specs.inner.Workers.{HasEnded, IsReady, MadeLines, gathere
 use Rattle.pw_workers.specs.inner.Seated.{AllSeated, AreSeated, SeatedFor}
 use Rattle.pw_workers.specs.inner.Gathered.{EndsWith, IsMember}
 use Rattle.pw_workers.specs.inner.Runs.{LeavesNone, Makes}
+use Rattle.pw_workers.specs.inner.Telling.{telling}
 
 -- # Before they begin
 
@@ -89,8 +90,8 @@ all_ended_behind id room vs ws old is size each = subst (λ l. AllEnded id room 
 pub written_back : {X : Type 0} (xs ys : List X) (n : ℕ) → length xs ≡ n → take n (xs ++ ys) ≡ xs
 written_back xs ys n size = ap (λ (k : ℕ). take k (xs ++ ys)) (sym size) ∙ take-append_seam xs ys
 
-other_cpus : (id : TableId) (room c : ℕ) (vs ws : List Worker) → AllEnded id room vs ws → AllByRecursion (λ (x : Gathered). x.cpu ≢ c) (map gathered vs)
-    → AllByRecursion (λ (x : Gathered). x.cpu ≢ c) (map gathered ws)
+other_cpus : (id : TableId) (room c : ℕ) (vs ws : List Worker) → AllEnded id room vs ws → AllByRecursion (λ (x : Gathered HistoryEntry). x.cpu ≢ c) (map gathered vs)
+    → AllByRecursion (λ (x : Gathered HistoryEntry). x.cpu ≢ c) (map gathered ws)
 other_cpus id room c [] [] ended other = tt
 other_cpus id room c [] (w ∷ ws) ended other = absurd ended
 other_cpus id room c (v ∷ vs) [] ended other = absurd ended
@@ -101,7 +102,7 @@ apart_still id room [] [] ended apart = tt
 apart_still id room [] (w ∷ ws) ended apart = absurd ended
 apart_still id room (v ∷ vs) [] ended apart = absurd ended
 apart_still id room (v ∷ vs) (w ∷ ws) ended apart = (
-  subst (λ c. AllByRecursion (λ (x : Gathered). x.cpu ≢ c) (map gathered ws)) (sym ended.0.cpu) (other_cpus id room v.cpu vs ws ended.1 apart.0),
+  subst (λ c. AllByRecursion (λ (x : Gathered HistoryEntry). x.cpu ≢ c) (map gathered ws)) (sym ended.0.cpu) (other_cpus id room v.cpu vs ws ended.1 apart.0),
   apart_still id room vs ws ended.1 apart.1,
 )
 
@@ -123,7 +124,7 @@ made_lines : (lines others : List Request) (room more : ℕ) (v : View) → line
 made_lines lines others room more v is same made = subst (λ l. MadeLines l more v) is (subst (λ n. MadeLines lines n v) same made)
 
 each_ended : (id : TableId) (lists : List (Vec Request Global)) (asked : List Request) (n : ℕ) (vs ws : List Worker) → AllEnded id (length asked) vs ws → AllByRecursion (SeatedFor id lists) vs
-    → AreLists asked n lists → AllByRecursion (Ended asked) (map gathered ws)
+    → AreLists asked n lists → AllByRecursion (Ended telling asked) (map gathered ws)
 each_ended id lists asked n [] [] ended seated are = tt
 each_ended id lists asked n [] (w ∷ ws) ended seated are = absurd ended
 each_ended id lists asked n (v ∷ vs) [] ended seated are = absurd ended
@@ -134,7 +135,7 @@ each_ended id lists asked n (v ∷ vs) (w ∷ ws) ended seated are = (
 )
 
 each_saw : (es seen : List HistoryEntry) (ws : List Worker) → es ≡ seen → AllByRecursion (λ w. Begins seen (view_of w).seen) ws
-    → AllByRecursion (λ (w : Gathered). Begins es w.seen) (map gathered ws)
+    → AllByRecursion (λ (w : Gathered HistoryEntry). Begins es w.seen) (map gathered ws)
 each_saw es seen [] is saw = tt
 each_saw es seen (w ∷ ws) is saw = (subst (λ l. Begins l (view_of w).seen) (sym is) saw.0, each_saw es seen ws is saw.1)
 
@@ -150,7 +151,7 @@ module _ {R : Type 0} (by : Registers R) (promise : Promise) (given : Given) whe
         record {
           ended = each_ended id lists asked (length given.plan.cpus) vs ws all_asked seated.each are;
           apart = apart_still id given.capacity vs ws ended seated.apart;
-          all = has_all given.plan asked (map gathered ws) has (λ p lt some.
+          all = has_all telling (length given.plan.cpus) asked (map gathered ws) has (λ p lt some.
               let size = are.sized in
               let inside : p < length lists = omega (arith, size, lt) in
               let d = some_list lists p inside in
@@ -162,34 +163,34 @@ module _ {R : Type 0} (by : Registers R) (promise : Promise) (given : Given) whe
             joined = inr (e.gathered.book ∙ ap (λ b. joined_down b (map gathered ws)) silent);
           };
           knows = e.ends.lists;
-          numbers = counted_once e.last.book entries e.ends.seats;
+          numbers = counted_once telling e.last.book entries e.ends.seats;
         };
   }
 
   -- # Where none began
 
-  abbrev Silent : List Calls → Type 0
-  Silent book = AllByRecursion (λ (c : Calls). c.entries ≡ []) book
+  abbrev Silent : List (Calls HistoryEntry) → Type 0
+  Silent book = AllByRecursion (λ (c : Calls HistoryEntry). c.entries ≡ []) book
 
-  silent_down : (id : TableId) (lists : List (Vec Request Global)) (book : List Calls) (ws : List Worker) → Silent book → AllByRecursion (SeatedFor id lists) ws
+  silent_down : (id : TableId) (lists : List (Vec Request Global)) (book : List (Calls HistoryEntry)) (ws : List Worker) → Silent book → AllByRecursion (SeatedFor id lists) ws
       → Silent (joined_down book (map gathered ws))
   silent_down id lists book [] silent seated = silent
-  silent_down id lists book (w ∷ ws) silent seated = each_append (λ (c : Calls). c.entries ≡ []) (joined_down book (map gathered ws)) (view_of w).book
+  silent_down id lists book (w ∷ ws) silent seated = each_append (λ (c : Calls HistoryEntry). c.entries ≡ []) (joined_down book (map gathered ws)) (view_of w).book
       (silent_down id lists book ws silent seated.1) (subst Silent (sym seated.0.seat.fresh) (refl, tt))
 
-  none_seated : (seats : ℕ → ℕ) (es : List HistoryEntry) → AllByRecursion (λ (e : HistoryEntry). IsSeat [] seats e.seat) es → es ≡ []
+  none_seated : (seats : ℕ → ℕ) (es : List HistoryEntry) → AllByRecursion (λ (e : HistoryEntry). IsSeat telling [] seats e.seat) es → es ≡ []
   none_seated seats [] seated = refl
   none_seated seats (e ∷ es) seated = absurd (seated.0.some refl)
 
-  silent_none : (book : List Calls) (es : List HistoryEntry) → Silent book → Knows book es → ((n : ℕ) → 0 < length (entries_of n es) → count_in n book ≡ 1) → es ≡ []
-  silent_none book es silent knows seats = none_seated (seat_of []) es (workers-asked [] es [] book record {
+  silent_none : (book : List (Calls HistoryEntry)) (es : List HistoryEntry) → Silent book → Knows telling.seat book es → ((n : ℕ) → 0 < length (entries_of telling.seat n es) → count_in n book ≡ 1) → es ≡ []
+  silent_none book es silent knows seats = none_seated (seat_of {E = HistoryEntry} []) es (workers-asked telling [] es [] book record {
     ended = tt;
     apart = tt;
     all = λ p some. absurd (some refl);
     saw = tt;
     joined = record { first = book; silent = silent; joined = inl refl };
     knows = knows;
-    numbers = counted_once book es seats;
+    numbers = counted_once telling book es seats;
   }).seated
 
   pub leaves_none : (id : TableId) (lists : List (Vec Request Global)) (ws : List Worker) (v : View) (entries : List HistoryEntry) (regs : R) → v.book ≡ calls_of 0 [] ∷ []

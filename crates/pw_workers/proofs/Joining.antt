@@ -4,7 +4,7 @@ use Rattle.std.specs.List.{AllByRecursion}
 use Rattle.pw_plan.proofs.Lists.{each_append}
 use Rattle.pw_model.specs.declared.entry.HistoryEntry.{HistoryEntry}
 use Rattle.pw_machine.specs.declared.view.View.{View}
-use Rattle.pw_machine.specs.Books.{Begins}
+use Rattle.pw_books.specs.Books.{Begins}
 use Rattle.pw_turns.specs.Looks.{IsJoin}
 use Rattle.pw_interleaved.specs.Workers.{joined_down}
 use Rattle.pw_interleaved.proofs.Gathering.{down_more}

@@ -15,10 +15,11 @@ use Rattle.pw_interleaved.proofs.Gathering.{apart_more, has_last, has_more}
 use Rattle.pw_workers.specs.declared.working.Worker.{Worker}
 use Rattle.pw_workers.specs.inner.Workers.{gathered}
 use Rattle.pw_workers.specs.inner.Seated.{AllSeated, AreSeated, HasSeat, SeatedFor}
+use Rattle.pw_model.specs.declared.entry.HistoryEntry.{HistoryEntry}
 
 -- their processors are not below this one
 abbrev pub AreAbove : ℕ → List Worker → Type 0
-AreAbove n ws = AllByRecursion (λ (w : Gathered). n ≤ w.cpu) (map gathered ws)
+AreAbove n ws = AllByRecursion (λ (w : Gathered HistoryEntry). n ≤ w.cpu) (map gathered ws)
 
 -- each processor from this one on whose list isn't empty has a worker
 abbrev pub AllSeatedFrom : ℕ → List (Vec Request Global) → List Worker → Type 0
@@ -50,11 +51,11 @@ module _ (left rest all : List (Vec Request Global)) (x : Vec Request Global) (i
   pub left_inside : length rest < length all
   left_inside = let f = l.few in omega (arith, size, f)
 
-above_less : (n m : ℕ) (ws : List Gathered) → m ≤ n → AllByRecursion (λ (w : Gathered). n ≤ w.cpu) ws → AllByRecursion (λ (w : Gathered). m ≤ w.cpu) ws
+above_less : (n m : ℕ) (ws : List (Gathered HistoryEntry)) → m ≤ n → AllByRecursion (λ (w : Gathered HistoryEntry). n ≤ w.cpu) ws → AllByRecursion (λ (w : Gathered HistoryEntry). m ≤ w.cpu) ws
 above_less n m [] le above = tt
 above_less n m (w ∷ ws) le above = let here = above.0 in (omega (arith, le, here), above_less n m ws le above.1)
 
-above_apart : (n c : ℕ) (ws : List Gathered) → c < n → AllByRecursion (λ (w : Gathered). n ≤ w.cpu) ws → AllByRecursion (λ (w : Gathered). w.cpu ≢ c) ws
+above_apart : (n c : ℕ) (ws : List (Gathered HistoryEntry)) → c < n → AllByRecursion (λ (w : Gathered HistoryEntry). n ≤ w.cpu) ws → AllByRecursion (λ (w : Gathered HistoryEntry). w.cpu ≢ c) ws
 above_apart n c [] lt above = tt
 above_apart n c (w ∷ ws) lt above = let here = above.0 in ((λ is. absurd (omega (arith, lt, here, is))), above_apart n c ws lt above.1)
 
@@ -73,8 +74,8 @@ above_fewer n ws above = above_less (n + 1) n (map gathered ws) (omega arith) ab
 
 module _ (id : TableId) (lists : List (Vec Request Global)) (n : ℕ) (ws : List Worker) (w : Worker) (cpu : w.cpu ≡ n) where
   pub above_more : AreAbove (n + 1) ws → AreAbove n (ws ++ w ∷ [])
-  above_more above = subst (λ l. AllByRecursion (λ (v : Gathered). n ≤ v.cpu) l) (sym (gathered_more ws w))
-      (each_append (λ (v : Gathered). n ≤ v.cpu) (map gathered ws) (gathered w ∷ []) (above_fewer n ws above) (omega (arith, cpu), tt))
+  above_more above = subst (λ l. AllByRecursion (λ (v : Gathered HistoryEntry). n ≤ v.cpu) l) (sym (gathered_more ws w))
+      (each_append (λ (v : Gathered HistoryEntry). n ≤ v.cpu) (map gathered ws) (gathered w ∷ []) (above_fewer n ws above) (omega (arith, cpu), tt))
 
   pub seated_more : n < length lists → HasSeat id w → ((d : Vec Request Global) → w.requests ≡ get_or lists n d) → AreAbove (n + 1) ws → AreSeated id lists ws
       → AreSeated id lists (ws ++ w ∷ [])

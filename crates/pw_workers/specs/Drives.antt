@@ -14,11 +14,14 @@ use Rattle.pw_drive.specs.Driven.{OperatesFor}
 use Rattle.pw_workers.specs.declared.driving.Drove.{Drove}
 use Rattle.pw_workers.specs.declared.driving.Drove.TheVariants.{Closed, Opening}
 
+-- two entries have the same seat exactly where they have the same processor
+abbrev pub TellSeats : List HistoryEntry → Type 0
+TellSeats es = SeatsTell (λ (e : HistoryEntry). e.seat) (λ (e : HistoryEntry). e.cpu) es
+
 -- The history is one that the lines allow, in which each processor has a seat of its own, and its operations were done.
 pub record Runs (P : Plan) (lines : List Line) (opening : Option ℕ) (es : List HistoryEntry) (old new : RegistersSeen) : Type 0 where
   pub lawful : Lawful P (requests_of lines) opening es
-  -- two entries have the same seat exactly where they have the same processor
-  pub seats : SeatsTell es
+  pub seats : TellSeats es
   -- where the registers promise room for the operations of all lines, none fails
   pub operates : OperatesFor P (operations P lines) opening es old new
 

@@ -1,3 +1,4 @@
+pub mod Telling
 -- What only private contracts and proofs use.
 pub mod Lists
 pub mod Workers

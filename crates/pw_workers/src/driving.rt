@@ -2,7 +2,7 @@
 ghost use Rattle.std.specs.Prelude.{◌≡◌, ◌≤◌, ◌∷◌, [], length, vec_capacity, IfErr, IfOk};
 ghost use Rattle.std.specs.List.{AllByRecursion};
 ghost use Rattle.pw_plan.specs.Requests.{Has};
-ghost use Rattle.pw_machine.specs.Books.{calls_of};
+ghost use Rattle.pw_books.specs.Books.{calls_of};
 ghost use Rattle.pw_rule.specs.Rule.{given_of, promise_of};
 ghost use Rattle.pw_script.specs.declared.script.Line.{Line as asked};
 ghost use Rattle.pw_script.specs.Reading.{requests_of};

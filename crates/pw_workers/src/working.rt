@@ -2,7 +2,7 @@
 ghost use Rattle.std.specs.Prelude.{◌≡◌, ◌∷◌, ◌<◌, [], ℕ, length, slice_index_or};
 ghost use Rattle.std.specs.List.{AllByRecursion};
 ghost use Rattle.pw_plan.specs.Requests.{Has};
-ghost use Rattle.pw_machine.specs.Books.{calls_of};
+ghost use Rattle.pw_books.specs.Books.{calls_of};
 ghost use Rattle.pw_rule.specs.Rule.{given_of};
 ghost use Rattle.pw_turns.specs.Owning.{Owns};
 ghost use Rattle.pw_turns.specs.Views.{view_in};

@@ -4,8 +4,8 @@ use Rattle.std.specs.List.{AllByRecursion}
 use Rattle.std.specs.declared.alloc.Global.{Global}
 use Rattle.pw_regs.specs.declared.registers.Registers.{Ghosts as Registers}
 use Rattle.pw_desk.specs.declared.view.View.{View}
-use Rattle.pw_desk_runs.specs.Workers.{MadeByWorkers}
-use Rattle.pw_desk_runs.specs.Workers.{Worker as Gathered}
+use Rattle.pw_interleaved.specs.Workers.{MadeByWorkers}
+use Rattle.pw_interleaved.specs.Workers.{Worker as Gathered}
 use Rattle.pw_cppc.specs.declared.plan.CppcPlan.{CppcPlan}
 use Rattle.pw_cppc.specs.declared.request.CppcRequest.{CppcRequest}
 use Rattle.pw_cppc.specs.Requests.{Has}

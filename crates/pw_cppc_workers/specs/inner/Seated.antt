@@ -4,8 +4,8 @@ use Rattle.std.specs.Prelude.{Option, Some, None}
 use Rattle.std.specs.List.{AllByRecursion}
 use Rattle.std.specs.declared.alloc.Global.{Global}
 use Rattle.atomic_table.specs.Seated.{TableId}
-use Rattle.pw_desk.specs.Books.{calls_of}
-use Rattle.pw_desk_runs.specs.Workers.{AreApart, HasWorker}
+use Rattle.pw_books.specs.Books.{calls_of}
+use Rattle.pw_interleaved.specs.Workers.{AreApart, HasWorker}
 use Rattle.pw_cppc.specs.declared.request.CppcRequest.{CppcRequest}
 use Rattle.pw_cppc_desk.specs.Owning.{Owns}
 use Rattle.pw_cppc_workers.specs.declared.working.Worker.{Worker}

@@ -3,9 +3,9 @@ use Rattle.std.specs.Prelude.{◌≡◌, ◌⊎◌, ◌∷◌, ℕ, Bool, true, 
 use Rattle.std.specs.List.{AllByRecursion}
 use Rattle.atomic_table.specs.Seated.{TableId}
 use Rattle.pw_desk.specs.declared.view.View.{View}
-use Rattle.pw_desk.specs.Books.{calls_of}
-use Rattle.pw_desk_runs.specs.Workers.{Filled, Worked}
-use Rattle.pw_desk_runs.specs.Workers.{Worker as Gathered}
+use Rattle.pw_books.specs.Books.{calls_of}
+use Rattle.pw_interleaved.specs.Workers.{Filled, Worked}
+use Rattle.pw_interleaved.specs.Workers.{Worker as Gathered}
 use Rattle.pw_cppc.specs.declared.plan.CppcPlan.{CppcPlan}
 use Rattle.pw_cppc.specs.declared.request.CppcRequest.{CppcRequest}
 use Rattle.pw_cppc.specs.Requests.{Has}

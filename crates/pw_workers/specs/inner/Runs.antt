@@ -13,15 +13,16 @@ use Rattle.pw_turns.specs.Ends.{Ends}
 use Rattle.pw_interleaved.specs.Workers.{MadeByWorkers}
 use Rattle.pw_interleaved.specs.Workers.{Worker as Gathered}
 use Rattle.pw_workers.specs.inner.Lists.{AreLists}
+use Rattle.pw_workers.specs.inner.Telling.{telling}
 
 module _ {R : Type 0} (by : Registers R) (promise : Promise) (given : Given) where
   -- The history was made by workers with these lists, whatever they are the lists of, where it had room for all.
   pub record Makes (lists : List (Vec Request Global)) (entries : List HistoryEntry) (regs : R) : Type 0 where
     pub last : View
     pub ends : Ends by promise given last entries regs
-    pub workers : List Gathered
+    pub workers : List (Gathered HistoryEntry)
     pub made : (asked : List Request) → AllByRecursion (Has given.plan) asked → AreLists asked (length given.plan.cpus) lists
-        → given.capacity ≡ length asked → MadeByWorkers asked workers last.book entries
+        → given.capacity ≡ length asked → MadeByWorkers telling asked workers last.book entries
 
   -- no request was made
   pub record LeavesNone (regs : R) : Type 0 where

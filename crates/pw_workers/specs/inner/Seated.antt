@@ -6,7 +6,7 @@ use Rattle.std.specs.declared.alloc.Global.{Global}
 use Rattle.atomic_table.specs.Seated.{TableId}
 use Rattle.pw_base.specs.declared.failure.Memory.{Memory}
 use Rattle.pw_plan.specs.declared.request.Request.{Request}
-use Rattle.pw_machine.specs.Books.{calls_of}
+use Rattle.pw_books.specs.Books.{calls_of}
 use Rattle.pw_turns.specs.Owning.{Owns}
 use Rattle.pw_interleaved.specs.Workers.{AreApart, HasWorker}
 use Rattle.pw_workers.specs.declared.working.Worker.{Worker}

@@ -6,7 +6,7 @@ use Rattle.pw_plan.specs.declared.plan.Plan.{Plan}
 use Rattle.pw_plan.specs.declared.request.Request.{Request}
 use Rattle.pw_plan.specs.Requests.{Has}
 use Rattle.pw_machine.specs.declared.view.View.{View}
-use Rattle.pw_machine.specs.Books.{calls_of}
+use Rattle.pw_books.specs.Books.{calls_of}
 use Rattle.pw_turns.specs.Owning.{Owns}
 use Rattle.pw_turns.specs.Views.{view_in}
 use Rattle.pw_turns.specs.declared.waited.Done.{Done}
@@ -14,6 +14,8 @@ use Rattle.pw_turns.specs.declared.waited.Done.TheVariants.{Answer, Full, Regist
 use Rattle.pw_interleaved.specs.Workers.{Filled, Worked}
 use Rattle.pw_interleaved.specs.Workers.{Worker as Gathered}
 use Rattle.pw_workers.specs.declared.working.Worker.{Worker}
+use Rattle.pw_model.specs.declared.entry.HistoryEntry.{HistoryEntry}
+use Rattle.pw_workers.specs.inner.Telling.{telling}
 
 -- the request has a reply
 abbrev pub is_answer : Done → Bool
@@ -27,12 +29,12 @@ abbrev pub view_of : Worker → View
 view_of w = view_in w.seat.badge.views
 
 -- the worker as it is when all are gathered
-abbrev pub gathered : Worker → Gathered
+abbrev pub gathered : Worker → Gathered HistoryEntry
 gathered w = record { cpu = w.cpu; number = (view_of w).number; book = (view_of w).book; seen = (view_of w).seen }
 
 -- the requests were made up to a fault, or to where there was no room for one more entry
 abbrev pub MadeLines : List Request → ℕ → View → Type 0
-MadeLines lines room v = Worked lines v.number v.book v.seen ⊎ Filled lines room v.number v.book v.seen
+MadeLines lines room v = Worked telling lines v.number v.book v.seen ⊎ Filled telling lines room v.number v.book v.seen
 
 -- it has a seat that has called nothing, and its processor's requests
 pub record IsReady (id : TableId) (P : Plan) (w : Worker) : Type 0 where

@@ -1,7 +1,7 @@
 use Rattle.std.proofs.Common.{◌≡◌, take}
 use Rattle.pw_cppc_desk.specs.Owning.{Owns}
 use Rattle.pw_cppc_desk.specs.Views.{view_in}
-use Rattle.pw_desk_runs.specs.Workers.{HasAsked}
+use Rattle.pw_interleaved.specs.Workers.{HasAsked}
 use Rattle.pw_cppc_workers.specs.Lawful.{telling}
 use Rattle.pw_cppc_workers.proofs.working.make_all.Given as goal
 

@@ -3,10 +3,10 @@ use Rattle.pw_interleaved.proofs.Runs.{run-asked}
 use Rattle.pw_interleaved.proofs.laws.seats_make_histories.Goals as goal
 
 pub returns-clause-lawful : goal.returns-clause-lawful
-returns-clause-lawful c = λ P asked seats H legal by. asked-run asked seats H by P legal
+returns-clause-lawful g c = λ asked seats es by. asked-run g.H.Tells.telling asked seats es by
 
 pub returns-clause-seats : goal.returns-clause-seats
-returns-clause-seats c = λ asked seats H by. seats-tell asked seats H by
+returns-clause-seats g c = λ asked seats es by. seats-tell g.H.Tells.telling asked seats es by
 
 pub returns-clause-asked : goal.returns-clause-asked
-returns-clause-asked c = λ P asked seats H has tell its run. run-asked seats tell P asked H its run has
+returns-clause-asked g c = λ asked seats es tell its run. run-asked g.H.Tells.telling seats tell asked es its run

@@ -4,10 +4,10 @@ use Rattle.pw_interleaved.proofs.Workers.{workers-asked}
 use Rattle.pw_interleaved.proofs.laws.workers_make_histories.Goals as goal
 
 pub returns-clause-asked : goal.returns-clause-asked
-returns-clause-asked c = λ asked ws book H made. workers-asked asked H ws book made
+returns-clause-asked g c = λ asked ws book es made. workers-asked g.H.Tells.telling asked es ws book made
 
 pub returns-clause-lawful : goal.returns-clause-lawful
-returns-clause-lawful c = λ P asked ws book H legal made. asked-run asked (seat_of ws) H (workers-asked asked H ws book made) P legal
+returns-clause-lawful g c = λ asked ws book es made. let T = g.H.Tells.telling in asked-run T asked (seat_of ws) es (workers-asked T asked es ws book made)
 
 pub returns-clause-seats : goal.returns-clause-seats
-returns-clause-seats c = λ asked ws book H made. seats-tell asked (seat_of ws) H (workers-asked asked H ws book made)
+returns-clause-seats g c = λ asked ws book es made. let T = g.H.Tells.telling in seats-tell T asked (seat_of ws) es (workers-asked T asked es ws book made)

@@ -3,6 +3,7 @@ use Rattle.pw_turns.specs.Owning.{Owns}
 use Rattle.pw_turns.specs.Views.{view_in}
 use Rattle.pw_interleaved.specs.Workers.{HasAsked}
 use Rattle.pw_workers.proofs.working.make_all.Given as goal
+use Rattle.pw_workers.specs.inner.Telling.{telling}
 
 abbrev pub invariant-loop-request : goal.invariant-loop-request
 invariant-loop-request g l =
@@ -10,5 +11,5 @@ invariant-loop-request g l =
     record {
       owns : Owns l.coordinator.table.shared.table_id l.seat;
       parts : v.parts ≡ (view_in l.initial.seat.badge.views).parts;
-      asked : HasAsked (take l.request-index l.requests) v.number v.book;
+      asked : HasAsked telling (take l.request-index l.requests) v.number v.book;
     }

@@ -1,6 +1,6 @@
 -- Histories of entries, and books: who made which.
 use Rattle.std.specs.Prelude.{◌≡◌, ℕ, ◌+◌, List, [], ◌∷◌, ◌++◌, Option, Some, None, ◌==◌, cond}
-use Rattle.pw_desk.specs.declared.view.Calls.{Calls}
+use Rattle.pw_books.specs.declared.calls.Calls.{Calls}
 
 module _ {E : Type 0} where
   -- the history begins with what was seen
@@ -56,3 +56,10 @@ module _ {E : Type 0} (seat_of : E → ℕ) where
   abbrev pub grown : List (Calls E) → E → List (Calls E)
   grown [] e = []
   grown (c ∷ cs) e = calls_of c.seat (cond (seat_of e == c.seat) (c.entries ++ e ∷ []) c.entries) ∷ grown cs e
+
+  -- What a seat saw begins the history. Of each number of its book it saw all entries, and the book has them.
+  pub record Reads (history seen : List E) (told : Option (List E)) (book : List (Calls E)) : Type 0 where
+    pub begins : Begins history seen
+    pub begins_too : IsPrefix history told
+    pub lists : Knows book history
+    pub entries : Knows book (furthest told seen)

@@ -1,7 +1,7 @@
 -- Histories of entries of any kind, each of which a seat made by a request of a processor.
 use Rattle.std.specs.Prelude.{◌≡◌, ◌==◌, ℕ, List, filter, map}
 use Rattle.std.specs.List.{AllByRecursion}
-use Rattle.pw_desk.specs.Books.{Begins}
+use Rattle.pw_books.specs.Books.{Begins}
 
 -- What is told of an entry: the number of its seat, its request, and a fault, which is 0 for none; and of a request its processor.
 pub record Telling (E Q : Type 0) : Type 0 where

@@ -2,10 +2,9 @@
 use Rattle.std.proofs.Common.{◌≡◌, ◌≢◌, ℕ, ◌+◌, ◌<◌, List, [], ◌∷◌, ◌++◌, Bool, true, false, Option, Some, None, length, cond, eqb, eq-eqb, ne_eqb, sym, refl, ap, ◌∙◌, subst, arith, append_assoc, append-nil, length-append}
 use mathlib.Core.Logic.{dite}
 use native.Mathlib.Decide.{ℕ_discrete}
-use Rattle.pw_desk.specs.declared.view.Calls.{Calls}
-use Rattle.pw_desk.specs.Books.{Begins, IsPrefix, longer, entries_of, count_in, list_of, furthest, Knows, grown, without}
-use Rattle.pw_desk.specs.Machine.{Reads}
-use Rattle.pw_desk.proofs.Lists.{one, none-of}
+use Rattle.pw_books.specs.declared.calls.Calls.{Calls}
+use Rattle.pw_books.specs.Books.{Begins, Reads, IsPrefix, longer, entries_of, count_in, list_of, furthest, Knows, grown, without}
+use Rattle.pw_books.proofs.Lists.{one, none-of}
 
 module _ {E : Type 0} where
   pub begins_same : (xs : List E) → Begins xs xs

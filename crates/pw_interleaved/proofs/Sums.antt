@@ -4,8 +4,8 @@ use Rattle.std.specs.Prelude.{filter, sum_by}
 use Rattle.std.specs.List.{AllByRecursion}
 use Rattle.std.proofs.lemmas.Bool.{eqb-false}
 use Rattle.std.proofs.lemmas.List.Sums.{sum_by-append, sum_by-cons}
-use Rattle.pw_desk.specs.Books.{Begins}
-use Rattle.pw_desk_runs.specs.Asked.{IsRunOf, Telling, requests}
+use Rattle.pw_books.specs.Books.{Begins}
+use Rattle.pw_interleaved.specs.Asked.{IsRunOf, Telling, requests}
 
 -- # A sum, key by key
 

@@ -4,7 +4,7 @@ use mathlib.Core.Option.{some, some-injective, some-ne-none}
 use mathlib.Core.Logic.{dite}
 use native.Mathlib.Decide.{ℕ_discrete, dec_le}
 use lib.ListN.{get_elem?}
-use Rattle.pw_machine.specs.Machine.{total, bit, names, once_below}
+use Rattle.pw_books.specs.Sums.{total, bit, names, once_below}
 
 module _ {A : Type 0} where
   pub at_set : (l : List A) (i j : ℕ) (a b : A) → get_elem? (set l i a) j ≡ some b
@@ -85,11 +85,11 @@ none-of a b ne = ap bit (ne_eqb a b ne)
 pub one-of : (a b : ℕ) → 0 < bit (eqb a b) → a ≡ b
 one-of a b h = dite (ℕ_discrete a b) (λ e. e) (λ ne. absurd (omega (arith, h, none-of a b ne)))
 
-pub bit_zero : (b : Bool) → b ≡ false → bit b ≡ 0
-bit_zero b e = ap bit e
-
 pub bit_one : (b : Bool) → b ≡ true → bit b ≡ 1
 bit_one b e = ap bit e
+
+pub bit_zero : (b : Bool) → b ≡ false → bit b ≡ 0
+bit_zero b e = ap bit e
 
 pub is_true : (b : Bool) → 0 < bit b → b ≡ true
 is_true true h = refl
@@ -137,3 +137,7 @@ once_more n made = dite (ℕ_discrete made n)
     (λ ne. dite (dec_le made n)
     (λ le. omega (arith, ap bit (ne_eqb made n ne), once_no n made le, once_no n (made + 1) (omega arith)))
     (λ nle. omega (arith, ap bit (ne_eqb made n ne), once_yes n made (omega arith), once_yes n (made + 1) (omega arith))))
+
+pub either_is : (b : Bool) → (b ≡ true) ⊎ (b ≡ false)
+either_is true = inl refl
+either_is false = inr refl

@@ -1,0 +1,23 @@
+-- Sums over the elements of a list, 1 for what is so, and bounds of what may not be there.
+use Rattle.std.specs.Prelude.{ℕ, suc, ◌+◌, ◌≤◌, Bool, List, [], ◌∷◌, Option, Some, None, ◌==◌, nat_lt, cond}
+
+-- what is counted of each element, summed up
+abbrev pub total : {A : Type 0} → (A → ℕ) → List A → ℕ
+total f [] = 0
+total f (x ∷ xs) = f x + total f xs
+
+abbrev pub bit : Bool → ℕ
+bit b = cond b 1 0
+
+-- 1 for a number below the number made
+abbrev pub once_below : ℕ → ℕ → ℕ
+once_below n made = bit (nat_lt n made)
+
+-- 1 where a turn names seat n: a turn is 0 where it is free, else its holder's number and 1
+abbrev pub names : ℕ → ℕ → ℕ
+names turn n = bit (turn == suc n)
+
+-- what is there is at most this
+abbrev pub AtMost : Option ℕ → ℕ → Type 0
+AtMost None n = Unit {0}
+AtMost (Some k) n = k ≤ n
