@@ -16,6 +16,9 @@ module _ {E : Type 0} where
   pub begins_more : (log seen more : List E) → Begins log seen → Begins (log ++ more) seen
   begins_more log seen more b = (b.0 ++ more, ap (λ l. l ++ more) b.1 ∙ append_assoc seen b.0 more)
 
+  pub begins_later : (log mid seen : List E) → Begins log mid → Begins mid seen → Begins log seen
+  begins_later log mid seen later first = (first.0 ++ later.0, later.1 ∙ ap (λ l. l ++ later.0) first.1 ∙ append_assoc seen first.0 later.0)
+
   begins_cons : (x : E) (log seen : List E) → Begins log seen → Begins (x ∷ log) (x ∷ seen)
   begins_cons x log seen b = (b.0, ap (λ l. x ∷ l) b.1)
 

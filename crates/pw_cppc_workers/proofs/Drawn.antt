@@ -1,9 +1,7 @@
 -- What a run by workers is to its caller.
-use Rattle.std.proofs.Common.{◌≡◌, ◌≤◌, ◌∙◌, ℕ, suc, List, Vec, [], ◌∷◌, map, length, None, refl, ap, sym, subst, arith}
-use Rattle.std.specs.Prelude.{sum_by}
+use Rattle.std.proofs.Common.{◌≡◌, ◌≤◌, ◌∙◌, ℕ, suc, List, Vec, [], ◌∷◌, length, None, refl, ap, sym, subst, arith}
 use Rattle.std.specs.List.{AllByRecursion}
 use Rattle.std.specs.declared.alloc.Global.{Global}
-use Rattle.std.proofs.lemmas.List.Sums.{sum_by-cons}
 use Rattle.pw_regs.specs.declared.registers.Registers.{Ghosts as Registers}
 use Rattle.pw_regs.specs.Seen.{registers_seen}
 use Rattle.pw_doing.proofs.Operating.{did_within}
@@ -12,7 +10,7 @@ use Rattle.pw_interleaved.specs.Seats.{SeatsTell, SitAlike}
 use Rattle.pw_interleaved.specs.Workers.{MadeByWorkers, seat_of}
 use Rattle.pw_interleaved.proofs.Joins.{each_map}
 use Rattle.pw_interleaved.proofs.Seats.{asked-run, seats-tell}
-use Rattle.pw_interleaved.proofs.Sums.{asks_no_more}
+use Rattle.pw_interleaved.proofs.Sums.{asks_no_more, sum-map_by}
 use Rattle.pw_interleaved.proofs.Workers.{workers-asked}
 use Rattle.pw_cppc.specs.declared.plan.CppcPlan.{CppcPlan}
 use Rattle.pw_cppc.specs.declared.request.CppcRequest.{CppcRequest}
@@ -50,14 +48,6 @@ tell_seats es told = each_map (λ e. AllByRecursion (SitAlike telling.seat (cpu_
       same_cpu = λ same. sym (entry_cpu e) ∙ is.same_cpu same ∙ entry_cpu f;
       same_seat = λ same. is.same_seat (entry_cpu e ∙ same ∙ sym (entry_cpu f));
     }) es alike) es told
-
-sum-map_by : {X Y : Type 0} (f : Y → ℕ) (g : X → Y) (xs : List X) → sum_by f (map g xs) ≡ sum_by (λ x. f (g x)) xs
-sum-map_by f g [] = refl
-sum-map_by f g (x ∷ xs) =
-    let later = sum-map_by f g xs in
-    let left = sum_by-cons f (g x) (map g xs) in
-    let right = sum_by-cons (λ x. f (g x)) x xs in
-    omega (arith, later, left, right)
 
 -- a history of the lines has no more operations than they have
 within : (P : CppcPlan) (lines : List line) (es : List CppcEntry) → IsRunOf telling (requests_of lines) es → bound_of P es ≤ operations P lines

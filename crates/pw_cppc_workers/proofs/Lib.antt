@@ -1,5 +1,4 @@
 pub mod Making
-pub mod Places
 pub mod Joining
 pub mod Ending
 pub mod Drawn

@@ -13,6 +13,10 @@ pub each_append : {X : Type 0} (S : X → Type 0) (xs ys : List X) → AllByRecu
 each_append S [] ys a b = b
 each_append S (x ∷ xs) ys a b = (a.0, each_append S xs ys a.1 b)
 
+pub each_last : {X : Type 0} (S : X → Type 0) (xs : List X) (y : X) → AllByRecursion S (xs ++ y ∷ []) → S y
+each_last S [] y all = all.0
+each_last S (x ∷ xs) y all = each_last S xs y all.1
+
 module _ {E : Type 0} where
   pub apart_more : (ws : List (Worker E)) (w : Worker E) → AreApart ws → AllByRecursion (λ (v : Worker E). v.cpu ≢ w.cpu) ws → AreApart (ws ++ w ∷ [])
   apart_more [] w apart other = (tt, tt)

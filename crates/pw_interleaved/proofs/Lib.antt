@@ -4,5 +4,7 @@ pub mod Joins
 pub mod Counting
 pub mod Workers
 pub mod Gathering
+pub mod Places
+pub mod Ended
 pub mod Runs
 pub mod Sums

@@ -1,6 +1,6 @@
 -- What a history asks for is no more than what was asked.
 use Rattle.std.proofs.Common.{◌≡◌, ◌<◌, ◌≤◌, ◌+◌, ◌==◌, ◌∙◌, ℕ, zero, suc, Bool, true, false, cond, List, [], ◌∷◌, refl, ap, arith, eqb-true}
-use Rattle.std.specs.Prelude.{filter, sum_by}
+use Rattle.std.specs.Prelude.{filter, map, sum_by}
 use Rattle.std.specs.List.{AllByRecursion}
 use Rattle.std.proofs.lemmas.Bool.{eqb-false}
 use Rattle.std.proofs.lemmas.List.Sums.{sum_by-append, sum_by-cons}
@@ -77,6 +77,14 @@ module _ {X : Type 0} (key f : X → ℕ) where
       let left = each_whole n xs (each_below n xs (omega arith)) in
       let right = each_whole n ys (each_below n ys (omega arith)) in
       omega (arith, fewer, left, right)
+
+pub sum-map_by : {X Y : Type 0} (f : Y → ℕ) (g : X → Y) (xs : List X) → sum_by f (map g xs) ≡ sum_by (λ x. f (g x)) xs
+sum-map_by f g [] = refl
+sum-map_by f g (x ∷ xs) =
+    let later = sum-map_by f g xs in
+    let left = sum_by-cons f (g x) (map g xs) in
+    let right = sum_by-cons (λ x. f (g x)) x xs in
+    omega (arith, later, left, right)
 
 pub asks_no_more : {E Q : Type 0} (T : Telling E Q) (f : Q → ℕ) (asked : List Q) (es : List E) → IsRunOf T asked es → sum_by f (requests T es) ≤ sum_by f asked
 asks_no_more T f asked es run = sum-begun T.cpu f (requests T es) asked run.begins

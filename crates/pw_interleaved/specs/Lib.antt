@@ -1,3 +1,4 @@
 pub mod Asked
 pub mod Seats
 pub mod Workers
+pub mod inner

@@ -1,5 +1,5 @@
-//! What comes of seats that ask the requests of one processor each, however they take turns at one
-//! desk: a history that the requests allow. Entries and requests are of any kind. Here nothing runs.
+//! What comes of seats that ask the requests of one processor each, however they take turns: a
+//! history that the requests allow. Entries and requests are of any kind. Here nothing runs.
 #![tactic(auto)]
 
 mod laws;

@@ -6,6 +6,7 @@ use Rattle.pw_desk.specs.declared.view.View.{View}
 use Rattle.pw_books.specs.Books.{calls_of}
 use Rattle.pw_interleaved.specs.Workers.{Filled, Worked}
 use Rattle.pw_interleaved.specs.Workers.{Worker as Gathered}
+use Rattle.pw_interleaved.specs.inner.Seated.{Holding}
 use Rattle.pw_cppc.specs.declared.plan.CppcPlan.{CppcPlan}
 use Rattle.pw_cppc.specs.declared.request.CppcRequest.{CppcRequest}
 use Rattle.pw_cppc.specs.Requests.{Has}
@@ -31,6 +32,10 @@ view_of w = view_in w.seat.badge.views
 -- the worker as it is when all are gathered
 abbrev pub gathered : Worker → Gathered CppcEntry
 gathered w = record { cpu = w.cpu; number = (view_of w).number; book = (view_of w).book; seen = (view_of w).seen }
+
+-- what is told of a worker
+abbrev pub holding : Holding Worker CppcEntry CppcRequest
+holding = record { gathered = gathered; requests = λ w. w.requests }
 
 -- the requests were made up to a fault, or to where there was no room for one more entry
 abbrev pub MadeLines : List CppcRequest → ℕ → View CppcEntry → Type 0

@@ -1,16 +1,15 @@
 -- Workers with seats.
-use Rattle.std.specs.Prelude.{◌≡◌, ◌≢◌, ◌<◌, ◌+◌, ◌∷◌, ℕ, List, Vec, [], map, length, slice_index_or}
+use Rattle.std.specs.Prelude.{◌≡◌, ◌+◌, ◌∷◌, ℕ, List, Vec, []}
 use Rattle.std.specs.Prelude.{Result, Ok, Err}
-use Rattle.std.specs.List.{AllByRecursion}
 use Rattle.std.specs.declared.alloc.Global.{Global}
 use Rattle.atomic_table.specs.Seated.{TableId}
 use Rattle.pw_base.specs.declared.failure.Memory.{Memory}
 use Rattle.pw_plan.specs.declared.request.Request.{Request}
 use Rattle.pw_books.specs.Books.{calls_of}
 use Rattle.pw_turns.specs.Owning.{Owns}
-use Rattle.pw_interleaved.specs.Workers.{AreApart, HasWorker}
+use Rattle.pw_interleaved.specs.inner.Seated as any
 use Rattle.pw_workers.specs.declared.working.Worker.{Worker}
-use Rattle.pw_workers.specs.inner.Workers.{gathered, view_of}
+use Rattle.pw_workers.specs.inner.Workers.{holding, view_of}
 
 -- it has a seat of one part that has called nothing
 pub record HasSeat (id : TableId) (w : Worker) : Type 0 where
@@ -24,17 +23,13 @@ IsSeated id cpu requests old (Ok w) new = HasSeat id w × (w.cpu ≡ cpu) × (w.
 IsSeated id cpu requests old (Err e) new = new ≡ old
 
 -- it has a seat, and the requests of its processor
-pub record SeatedFor (id : TableId) (lists : List (Vec Request Global)) (w : Worker) : Type 0 where
-  pub seat : HasSeat id w
-  pub cpu : w.cpu < length lists
-  pub requests : (d : Vec Request Global) → w.requests ≡ slice_index_or lists w.cpu d
+abbrev pub SeatedFor : TableId → List (Vec Request Global) → Worker → Type 0
+SeatedFor id = any.SeatedFor holding (HasSeat id)
 
 -- so has each, and no two have the same processor
-pub record AreSeated (id : TableId) (lists : List (Vec Request Global)) (ws : List Worker) : Type 0 where
-  pub each : AllByRecursion (SeatedFor id lists) ws
-  pub apart : AreApart (map gathered ws)
+abbrev pub AreSeated : TableId → List (Vec Request Global) → List Worker → Type 0
+AreSeated id = any.AreSeated holding (HasSeat id)
 
 -- each processor whose list isn't empty has a worker
 abbrev pub AllSeated : List (Vec Request Global) → List Worker → Type 0
-AllSeated lists ws =
-    (p : ℕ) (d : Vec Request Global) → p < length lists → (slice_index_or lists p d).items ≢ [] → HasWorker (map gathered ws) p
+AllSeated = any.AllSeated holding

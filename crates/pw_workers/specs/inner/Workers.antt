@@ -13,6 +13,7 @@ use Rattle.pw_turns.specs.declared.waited.Done.{Done}
 use Rattle.pw_turns.specs.declared.waited.Done.TheVariants.{Answer, Full, RegisterFault, Stopped}
 use Rattle.pw_interleaved.specs.Workers.{Filled, Worked}
 use Rattle.pw_interleaved.specs.Workers.{Worker as Gathered}
+use Rattle.pw_interleaved.specs.inner.Seated.{Holding}
 use Rattle.pw_workers.specs.declared.working.Worker.{Worker}
 use Rattle.pw_model.specs.declared.entry.HistoryEntry.{HistoryEntry}
 use Rattle.pw_workers.specs.inner.Telling.{telling}
@@ -31,6 +32,10 @@ view_of w = view_in w.seat.badge.views
 -- the worker as it is when all are gathered
 abbrev pub gathered : Worker → Gathered HistoryEntry
 gathered w = record { cpu = w.cpu; number = (view_of w).number; book = (view_of w).book; seen = (view_of w).seen }
+
+-- what is told of a worker
+abbrev pub holding : Holding Worker HistoryEntry Request
+holding = record { gathered = gathered; requests = λ w. w.requests }
 
 -- the requests were made up to a fault, or to where there was no room for one more entry
 abbrev pub MadeLines : List Request → ℕ → View → Type 0

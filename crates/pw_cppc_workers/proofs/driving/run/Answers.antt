@@ -1,10 +1,11 @@
 use Rattle.std.proofs.Common.{◌∙◌, List, ap, drop, length, rules, subst, sym}
 use Rattle.std.specs.List.{AllByRecursion}
 use Rattle.pw_cppc_desk.specs.Views.{view_in}
+use Rattle.pw_interleaved.proofs.Ended.{all_became_behind, written_back}
 use Rattle.pw_cppc_workers.specs.declared.working.Worker.{Worker}
 use Rattle.pw_cppc_workers.specs.inner.Gathered.{EndsWith, IsMember}
-use Rattle.pw_cppc_workers.specs.inner.Workers.{IsReady}
-use Rattle.pw_cppc_workers.proofs.Ending.{all_ended_behind, all_ready, ended_members, makes, opened, written_back}
+use Rattle.pw_cppc_workers.specs.inner.Workers.{HasEnded, IsReady}
+use Rattle.pw_cppc_workers.proofs.Ending.{all_ready, ended_members, makes, opened}
 use Rattle.pw_cppc_workers.proofs.driving.run.Goals as goal
 
 pub returns-then-not-seat_all-clause-given_back : goal.returns-then-not-seat_all-clause-given_back
@@ -29,7 +30,7 @@ end-requires-2-clause-workers g c =
     let there = c.as_mut_slice.ensures.value in
     let size = c.work_all.ensures.size ∙ ap length there in
     subst (AllByRecursion (IsMember id)) (sym (written_back ws (drop (length ws) vs) c.seat_all.new.workers.len (size ∙ sym (ap length there) ∙ c.as_mut_slice.ensures.len)))
-    (ended_members id desk.capacity c.args.lists.items vs ws (all_ended_behind id desk.capacity vs ws c.as_mut_slice.result.now there c.work_all.ensures.size c.work_all.ensures.ended)
+    (ended_members id desk.capacity c.args.lists.items vs ws (all_became_behind (HasEnded id desk.capacity) vs ws c.as_mut_slice.result.now there c.work_all.ensures.size c.work_all.ensures.ended)
     c.seat_all.ensures.seated.each)
 
 pub returns-clause-made : goal.returns-clause-made
@@ -45,5 +46,5 @@ returns-clause-made g c =
     let back = written_back ws (drop (length ws) vs) c.seat_all.new.workers.len (size ∙ sym (ap length there) ∙ c.as_mut_slice.ensures.len) in
     makes g.R.Registers desk.plan desk.capacity given id c.args.lists.items vs ws v c.end-2.result.entries c.end-2.result.regs (c.seat_all.ensures.book ∙ c.requires.silent)
     c.seat_all.ensures.seated (c.seat_all.ensures.all (search rules))
-    (all_ended_behind id desk.capacity vs ws c.as_mut_slice.result.now there c.work_all.ensures.size c.work_all.ensures.ended)
+    (all_became_behind (HasEnded id desk.capacity) vs ws c.as_mut_slice.result.now there c.work_all.ensures.size c.work_all.ensures.ended)
     (subst (λ (l : List Worker). EndsWith g.R.Registers desk.plan desk.capacity given v l c.end-2.result.entries c.end-2.result.regs) back c.end-2.ensures.ends)

@@ -3,7 +3,9 @@ use Rattle.std.specs.List.{AllByRecursion}
 use Rattle.pw_cppc_desk.specs.Views.{view_in}
 use Rattle.pw_cppc_workers.specs.declared.working.Worker.{Worker}
 use Rattle.pw_cppc_workers.specs.inner.Gathered.{IsGathered, IsMember}
-use Rattle.pw_cppc_workers.proofs.Joining.{each_front, each_last, gathered_end, gathered_last}
+use Rattle.pw_interleaved.proofs.Gathering.{each_last}
+use Rattle.pw_interleaved.proofs.Seats.{each_first}
+use Rattle.pw_cppc_workers.proofs.Joining.{gathered_end, gathered_last}
 use Rattle.pw_cppc_workers.proofs.gathering.gather.Goals as goal
 
 pub join-seat-requires-clause-second : goal.join-seat-requires-clause-second
@@ -20,7 +22,7 @@ loop-worker-preserved g c =
     let w = c.in-Some.worker in
     record {
       owns = c.join-seat.ensures.owns;
-      members = each_front M rest _ members;
+      members = each_first M rest _ members;
       goes_on = λ r is. l.invariant.goes_on r (subst (λ ws. IsGathered (view_in l.seat.badge.views) ws r) (sym {A = List Worker} c.in-Some.ensures.items)
           (gathered_last (view_in l.seat.badge.views) (view_in c.join-seat.result.badge.views) r rest w c.join-seat.ensures.joined (each_last M rest w members).part is));
     }

@@ -3,7 +3,8 @@ use Rattle.std.specs.Prelude.{vec_capacity}
 use Rattle.pw_cppc_desk.specs.Owning.{Owns}
 use Rattle.pw_cppc_desk.specs.Views.{view_in}
 use Rattle.pw_cppc_workers.specs.inner.Seated.{AreSeated}
-use Rattle.pw_cppc_workers.proofs.Places.{AreAbove, AreLeft, AllSeatedFrom}
+use Rattle.pw_cppc_workers.specs.inner.Workers.{holding}
+use Rattle.pw_interleaved.proofs.Places.{AreAbove, AreLeft, AllSeatedFrom}
 use Rattle.pw_cppc_workers.proofs.seating.seat_all.Given as goal
 
 abbrev pub invariant-loop-requests : goal.invariant-loop-requests
@@ -16,8 +17,8 @@ invariant-loop-requests g l =
       book : (view_in l.first.badge.views).book ≡ (view_in l.initial.first.badge.views).book;
       parts : (view_in l.first.badge.views).parts + length ws ≡ 65536;
       seated : AreSeated l.desk.table.shared.table_id all ws;
-      above : AreAbove (length left) ws;
-      served : AllSeatedFrom (length left) all ws;
+      above : AreAbove holding (length left) ws;
+      served : AllSeatedFrom holding (length left) all ws;
       begins : AreLeft left all;
       few : length ws + length left ≤ length all;
       room : vec_capacity l.workers ≡ vec_capacity l.initial.workers;

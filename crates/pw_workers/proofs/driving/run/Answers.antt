@@ -3,11 +3,12 @@ use Rattle.std.specs.List.{AllByRecursion}
 use Rattle.pw_drive.proofs.Lining.{where_ok}
 use Rattle.pw_rule.specs.Rule.{given_of, promise_of}
 use Rattle.pw_turns.specs.Views.{view_in}
+use Rattle.pw_interleaved.proofs.Ended.{all_became_behind, written_back}
 use Rattle.pw_workers.specs.declared.working.Worker.{Worker}
 use Rattle.pw_workers.specs.inner.Gathered.{EndsWith, IsMember}
 use Rattle.pw_workers.specs.inner.Runs.{LeavesNone}
-use Rattle.pw_workers.specs.inner.Workers.{IsReady}
-use Rattle.pw_workers.proofs.Ending.{all_ended_behind, all_ready, ended_members, leaves_none, makes, written_back}
+use Rattle.pw_workers.specs.inner.Workers.{HasEnded, IsReady}
+use Rattle.pw_workers.proofs.Ending.{all_ready, ended_members, leaves_none, makes}
 use Rattle.pw_workers.proofs.driving.run.Goals as goal
 
 pub returns-then-is_err-clause-given_back : goal.returns-then-is_err-clause-given_back
@@ -35,7 +36,7 @@ end-requires-2-clause-workers g c =
     let room = (given_of g.R.Registers key).capacity in
     let size = c.work_all.ensures.size ∙ ap length there in
     subst (AllByRecursion (IsMember id)) (sym (written_back ws (drop (length ws) vs) c.seat_all.new.workers.len (size ∙ sym (ap length there) ∙ c.as_mut_slice.ensures.len)))
-    (ended_members id room c.args.lists.items vs ws (all_ended_behind id room vs ws c.as_mut_slice.result.now there c.work_all.ensures.size c.work_all.ensures.ended)
+    (ended_members id room c.args.lists.items vs ws (all_became_behind (HasEnded id room) vs ws c.as_mut_slice.result.now there c.work_all.ensures.size c.work_all.ensures.ended)
     c.seat_all.ensures.seated.each)
 
 pub returns-clause-made : goal.returns-clause-made
@@ -53,5 +54,5 @@ returns-clause-made g c =
     let goes = sym c.is_err.ensures.value ∙ c.if-is_err.false in
     makes by (promise_of by key) (given_of by key) id c.args.lists.items vs ws v c.end-2.result.sealed.entries c.end-2.result.regs (c.seat_all.ensures.book ∙ c.requires.silent)
     c.seat_all.ensures.seated (where_ok c.seat_all.result goes c.seat_all.ensures.all)
-    (all_ended_behind id room vs ws c.as_mut_slice.result.now there c.work_all.ensures.size c.work_all.ensures.ended)
+    (all_became_behind (HasEnded id room) vs ws c.as_mut_slice.result.now there c.work_all.ensures.size c.work_all.ensures.ended)
     (subst (λ (l : List Worker). EndsWith by (promise_of by key) (given_of by key) v l c.end-2.result.sealed.entries c.end-2.result.regs) back c.end-2.ensures.ends)

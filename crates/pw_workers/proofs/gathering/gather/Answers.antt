@@ -1,8 +1,11 @@
-use Rattle.std.proofs.Common.{◌≡◌, length, rules, subst, sym}
+use Rattle.std.proofs.Common.{List, ◌≡◌, length, rules, subst, sym}
 use Rattle.std.specs.List.{AllByRecursion}
 use Rattle.pw_turns.specs.Views.{view_in}
+use Rattle.pw_workers.specs.declared.working.Worker.{Worker}
 use Rattle.pw_workers.specs.inner.Gathered.{IsGathered, IsMember}
-use Rattle.pw_workers.proofs.Joining.{each_front, each_last, gathered_end, gathered_last}
+use Rattle.pw_interleaved.proofs.Gathering.{each_last}
+use Rattle.pw_interleaved.proofs.Seats.{each_first}
+use Rattle.pw_workers.proofs.Joining.{gathered_end, gathered_last}
 use Rattle.pw_workers.proofs.gathering.gather.Goals as goal
 
 pub join-seat-requires-clause-second : goal.join-seat-requires-clause-second
@@ -19,8 +22,8 @@ loop-worker-preserved g c =
     let w = c.in-Some.worker in
     record {
       owns = c.join-seat.ensures.owns;
-      members = each_front M rest _ members;
-      goes_on = λ r is. l.invariant.goes_on r (subst (λ ws. IsGathered (view_in l.seat.badge.views) ws r) (sym c.in-Some.ensures.items)
+      members = each_first M rest _ members;
+      goes_on = λ r is. l.invariant.goes_on r (subst (λ ws. IsGathered (view_in l.seat.badge.views) ws r) (sym {A = List Worker} c.in-Some.ensures.items)
           (gathered_last (view_in l.seat.badge.views) (view_in c.join-seat.result.badge.views) r rest w c.join-seat.ensures.joined (each_last M rest w members).part is));
     }
 

@@ -1,5 +1,7 @@
 use Rattle.std.proofs.Common.{◌≡◌, ◌∙◌, arith, length, rules}
-use Rattle.pw_workers.proofs.Places.{left_fewer, passed_above, passed_served, size, taken_above, taken_seated, taken_served, taken_size}
+use Rattle.pw_interleaved.proofs.Places.{left_fewer, passed_above, passed_served, size, taken_above, taken_seated, taken_served, taken_size}
+use Rattle.pw_workers.specs.inner.Seated.{HasSeat}
+use Rattle.pw_workers.specs.inner.Workers.{holding}
 use Rattle.pw_workers.proofs.seating.seat_all.Goals as goal
 
 pub loop-requests-preserved-then-not-is_empty : goal.loop-requests-preserved-then-not-is_empty
@@ -18,14 +20,14 @@ loop-requests-preserved-then-not-is_empty g c =
     let are = c.push_reserved.ensures.items in
     let fewer = size left rest all x is i.begins in
     let cpu : w.cpu ≡ length rest = s.1 ∙ (search rules) in
-    let grew = taken_size id all left rest x is i.begins l.workers.items i.above i.served w more are cpu in
+    let grew = taken_size holding (HasSeat id) all left rest x is i.begins l.workers.items i.above i.served w more are cpu in
     record {
       owns = c.in_ok-worker.ensures.owns;
       book = c.in_ok-worker.ensures.book ∙ i.book;
       parts = let before = i.parts in let part = s.3 in omega (arith, before, part, grew);
-      seated = taken_seated id all left rest x is i.begins l.workers.items i.above i.served w more are cpu s.0 s.2 i.seated;
-      above = taken_above id all left rest x is i.begins l.workers.items i.above i.served w more are cpu;
-      served = taken_served id all left rest x is i.begins l.workers.items i.above i.served w more are cpu;
+      seated = taken_seated holding (HasSeat id) all left rest x is i.begins l.workers.items i.above i.served w more are cpu s.0 s.2 i.seated;
+      above = taken_above holding (HasSeat id) all left rest x is i.begins l.workers.items i.above i.served w more are cpu;
+      served = taken_served holding (HasSeat id) all left rest x is i.begins l.workers.items i.above i.served w more are cpu;
       begins = left_fewer left rest all x is i.begins;
       few = let before = i.few in omega (arith, before, grew, fewer);
       room = c.push_reserved.ensures.capacity ∙ i.room;
@@ -48,8 +50,8 @@ loop-requests-preserved g c =
       book = i.book;
       parts = i.parts;
       seated = i.seated;
-      above = passed_above id all left rest x is i.begins l.workers.items i.above i.served;
-      served = passed_served id all left rest x is i.begins l.workers.items i.above i.served none;
+      above = passed_above holding (HasSeat id) all left rest x is i.begins l.workers.items i.above i.served;
+      served = passed_served holding (HasSeat id) all left rest x is i.begins l.workers.items i.above i.served none;
       begins = left_fewer left rest all x is i.begins;
       few = let before = i.few in omega (arith, before, fewer);
       room = i.room;
