@@ -7,6 +7,7 @@ module _ {E : Type 0} where
   abbrev pub Begins : List E → List E → Type 0
   Begins history seen = (rest : List E) × (history ≡ seen ++ rest)
 
+  -- so it does with what was told, if anything was
   abbrev pub IsPrefix : List E → Option (List E) → Type 0
   IsPrefix history None = Unit {0}
   IsPrefix history (Some told) = Begins history told
@@ -22,6 +23,7 @@ module _ {E : Type 0} where
   furthest None seen = seen
   furthest (Some told) seen = longer told seen
 
+  -- these entries under this number
   abbrev pub calls_of : ℕ → List E → Calls E
   calls_of seat entries = record { seat = seat; entries = entries }
 

@@ -6,6 +6,7 @@ abbrev pub total : {A : Type 0} → (A → ℕ) → List A → ℕ
 total f [] = 0
 total f (x ∷ xs) = f x + total f xs
 
+-- 1 for what is so, else 0
 abbrev pub bit : Bool → ℕ
 bit b = cond b 1 0
 

@@ -24,7 +24,7 @@ long_refused P bytes long = rw (lt-ltb MOST_BYTES (length bytes) long) refl
 -- what the first bytes are as a script, all are
 cut_reads : (P : CppcPlan) (content : List ℕ) (lines : List CppcLine) → IsScript P (take (MOST_BYTES + 1) content) lines → IsScript P content lines
 cut_reads P content lines reads =
-    elim (cut_or_long content) [
+    elim (cut_or_long MOST_BYTES content) [
       | inl same ↦ subst (λ (b : List ℕ). IsScript P b lines) same reads
       | inr long ↦ absurd (some_none (sym (long_refused P (take (MOST_BYTES + 1) content) long.0) ∙ reads.good))
     ]
@@ -35,7 +35,7 @@ cut_reads P content lines reads =
 -- and why they are none
 cut_fails : (P : CppcPlan) (content : List ℕ) (fault : ScriptFault) → IsNoScript P (take (MOST_BYTES + 1) content) fault → IsNoScript P content fault
 cut_fails P content fault fails =
-    elim (cut_or_long content) [
+    elim (cut_or_long MOST_BYTES content) [
       | inl same ↦ subst (λ (b : List ℕ). IsNoScript P b fault) same fails
       | inr long ↦ of_long long.0 long.1 fault fails
     ]

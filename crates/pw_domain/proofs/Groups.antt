@@ -1,5 +1,5 @@
 -- C states of a group's members, and those who are drawn along.
-use Rattle.std.proofs.Common.{◌≡◌, ◌<◌, ◌≤◌, ◌+◌, ◌==◌, ◌&&◌, ◌||◌, not, ℕ, suc, zero, Bool, true, false, cond, List, [], ◌∷◌, ◌++◌, map, length, get_or, drop, drop-cons, add-one, append_assoc, length-append, refl, ap, sym, ◌∙◌, arith, set, length-set, ◌⊎◌, ◌≢◌, inl, inr, get_or-set_same, get_or-set_other}
+use Rattle.std.proofs.Common.{◌≡◌, ◌<◌, ◌≤◌, ◌+◌, ◌==◌, ◌&&◌, ◌||◌, not, ℕ, suc, zero, Bool, true, false, cond, List, [], ◌∷◌, ◌++◌, length, get_or, length-append, refl, ap, ◌∙◌, arith, set, length-set, ◌⊎◌, ◌≢◌, inl, inr, get_or-set_same, get_or-set_other}
 use Rattle.std.specs.Prelude.{filter}
 use Rattle.std.proofs.lemmas.Bool.{cases_eq}
 use Rattle.std.proofs.lemmas.Bool.Decides.{nat_tests}
@@ -28,35 +28,6 @@ c_state_le P g ss i h lt =
     let own = h.states i lt in
     let le = greatest-le (enters_by P ms ss q) (state_by ms ss q) in
     omega (arith, voted, own, le)
-
--- # One more member of those that pass a test
-
-module _ (t : ℕ → Bool) (ms : List ℕ) (i : ℕ) (lt : i < length ms) where
-  passing : t (get_or ms i 0) ≡ true → filter t (drop i ms) ≡ get_or ms i 0 ∷ filter t (drop (i + 1) ms)
-  passing e = rw add-one (ap (filter t) (drop-cons ms i 0 lt) ∙ ap (λ b. cond b (get_or ms i 0 ∷ filter t (drop (suc i) ms)) (filter t (drop (suc i) ms))) e)
-
-  failing : t (get_or ms i 0) ≡ false → filter t (drop i ms) ≡ filter t (drop (i + 1) ms)
-  failing e = rw add-one (ap (filter t) (drop-cons ms i 0 lt) ∙ ap (λ b. cond b (get_or ms i 0 ∷ filter t (drop (suc i) ms)) (filter t (drop (suc i) ms))) e)
-
-  pub pushed : (f : ℕ → Op) (acc whole : List Op) (op : Op) → op ≡ f (get_or ms i 0) → t (get_or ms i 0) ≡ true → acc ++ map f (filter t (drop i ms)) ≡ whole → (acc ++ op ∷ []) ++ map f (filter t (drop (i + 1) ms)) ≡ whole
-  pushed f acc whole op is e h = rw (is, append_assoc) (ap (λ qs. acc ++ map f qs) (sym (passing e)) ∙ h)
-
-  pub passed : (f : ℕ → Op) (acc whole : List Op) → t (get_or ms i 0) ≡ false → acc ++ map f (filter t (drop i ms)) ≡ whole → acc ++ map f (filter t (drop (i + 1) ms)) ≡ whole
-  passed f acc whole e h = ap (λ qs. acc ++ map f qs) (sym (failing e)) ∙ h
-
-  pub room_pushed : (acc : List Op) (op : Op) (capacity : ℕ) → t (get_or ms i 0) ≡ true → length acc + length (filter t (drop i ms)) ≤ capacity → length (acc ++ op ∷ []) + length (filter t (drop (i + 1) ms)) ≤ capacity
-  room_pushed acc op capacity e h =
-      let more = length-append acc (op ∷ []) in
-      let count : length (filter t (drop i ms)) ≡ suc (length (filter t (drop (i + 1) ms))) = ap length (passing e) in
-      omega (arith, more, count, h)
-
-  pub room_for : (acc : List Op) (capacity : ℕ) → t (get_or ms i 0) ≡ true → length acc + length (filter t (drop i ms)) ≤ capacity → length acc < capacity
-  room_for acc capacity e h =
-      let count : length (filter t (drop i ms)) ≡ suc (length (filter t (drop (i + 1) ms))) = ap length (passing e) in
-      omega (arith, count, h)
-
-  pub room_passed : (acc : List Op) (capacity : ℕ) → t (get_or ms i 0) ≡ false → length acc + length (filter t (drop i ms)) ≤ capacity → length acc + length (filter t (drop (i + 1) ms)) ≤ capacity
-  room_passed acc capacity e h = let count : length (filter t (drop i ms)) ≡ length (filter t (drop (i + 1) ms)) = ap length (failing e) in omega (arith, count, h)
 
 -- # The others are fewer than all
 

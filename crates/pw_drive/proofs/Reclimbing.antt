@@ -26,7 +26,7 @@ use Rattle.pw_parts.proofs.Lines.{Among, ancestors_line, below, starts}
 use Rattle.pw_parts.proofs.Loops.{climb_agrees}
 use Rattle.pw_parts.proofs.Plans.{wired}
 use Rattle.pw_parts.proofs.Voting.{vote_moves}
-use Rattle.pw_drive.proofs.Undoing.{itself, same_record}
+use Rattle.pw_parts.proofs.Steps.{its_record, same_record}
 
 -- # The states
 
@@ -71,7 +71,7 @@ put_is P T F r (t ∷ ts) a h = step (is_record r t.place) refl (λ k. put_is P 
     step : (b : Bool) → is_record r t.place ≡ b → (((IsIn r (takes_in ts) → ⊥) → part_of P T r ≡ F r) → part_of P T r ≡ put F ts r) → part_of P T r ≡ cond b t.part (put F ts r)
     step true e later = ap (part_of P T) (same_record r t.place e) ∙ a.0
     step false e later = later (λ out. h (λ i. elim i [
-      | inl same ↦ let f : false ≡ true = sym e ∙ ap (λ x. is_record x t.place) same ∙ itself t.place in cc
+      | inl same ↦ let f : false ≡ true = sym e ∙ ap (λ x. is_record x t.place) same ∙ its_record t.place in cc
       | inr k ↦ out k
     ]))
 

@@ -1,10 +1,9 @@
 -- An element of a domain's or a group's record set back: the records hold what they held before.
-use Rattle.std.proofs.Common.{◌≡◌, ◌<◌, ℕ, Bool, true, false, cond, List, [], ◌∷◌, length, get_or, Option, Some, None, refl, ap, sym, subst, ◌∙◌, arith, eqb-true, eq-eqb, nat_lt}
+use Rattle.std.proofs.Common.{◌≡◌, ◌<◌, ℕ, Bool, true, false, cond, List, [], ◌∷◌, length, get_or, Option, Some, None, refl, ap, sym, subst, ◌∙◌, arith, nat_lt}
 use Rattle.std.specs.Prelude.{is_some}
 use Rattle.std.proofs.lemmas.Bool.Decides.{nat_tests}
 use Rattle.std.proofs.lemmas.List.{set-get_or, set-set}
 use Rattle.pw_plan.specs.declared.domain.DomainKind.{DomainKind}
-use Rattle.pw_plan.specs.declared.domain.DomainKind.TheVariants.{Perf, Throttle, Idle}
 use Rattle.pw_plan.specs.declared.plan.Plan.{Plan}
 use Rattle.pw_plan.specs.Covering.{covers, same_kind}
 use Rattle.pw_plan.specs.Groups.{has_member, is_idle, no_domain}
@@ -17,8 +16,9 @@ use Rattle.pw_model.specs.Answers.{if_accepted}
 use Rattle.pw_parts.specs.Calls.{own_ask, own_limit, own_vote, with_state}
 use Rattle.pw_parts.specs.Effects.{Effect, Taken, group_takes, member_place, refused_effect, states_in, states_with, with_ask, with_limit}
 use Rattle.pw_parts.specs.Locality.{put}
-use Rattle.pw_parts.specs.Records.{IsRecord, Part, Record, container, domain, group, is_record, levels, states}
-use Rattle.pw_parts.proofs.Levels.{has_domain}
+use Rattle.pw_parts.specs.Records.{IsRecord, Part, Record, domain, group, is_record, levels, states}
+use Rattle.pw_parts.proofs.Levels.{has_domain, same_from}
+use Rattle.pw_parts.proofs.Steps.{its_record, same_record}
 use Rattle.pw_drive.specs.declared.restoring.Old.{Old}
 use Rattle.pw_drive.specs.declared.restoring.Old.TheVariants as olds
 use Rattle.pw_drive.specs.declared.records.Records.{Records}
@@ -48,22 +48,6 @@ state_back ss k s = ap (λ xs. states xs) (set-set ss k s (get_or ss k 0) ∙ se
 
 -- # One record
 
-pub same_record : (r s : Record) → is_record r s ≡ true → r ≡ s
-same_record (container m) (container n) e = ap (λ k. container k) (eqb-true m n e)
-same_record (domain m) (domain n) e = ap (λ k. domain k) (eqb-true m n e)
-same_record (group m) (group n) e = ap (λ k. group k) (eqb-true m n e)
-same_record (container m) (domain n) e = cc
-same_record (container m) (group n) e = cc
-same_record (domain m) (container n) e = cc
-same_record (domain m) (group n) e = cc
-same_record (group m) (container n) e = cc
-same_record (group m) (domain n) e = cc
-
-pub itself : (r : Record) → is_record r r ≡ true
-itself (container m) = eq-eqb m m refl
-itself (domain m) = eq-eqb m m refl
-itself (group m) = eq-eqb m m refl
-
 -- the parts G are the parts F with these put
 abbrev pub Gives : Plan → (Record → Part) → (Record → Part) → List Taken → Type 0
 Gives P F G ts = (r : Record) → IsRecord P r → G r ≡ put F ts r
@@ -85,7 +69,7 @@ module _ (P : Plan) (F G : Record → Part) where
 
   put_back : (s : Record) (y : Part) (undo : Part → Part) → IsRecord P s → Gives P F G (one s y) → undo y ≡ F s → GivesBack P F G (one s (undo (G s)))
   put_back s y undo is gives e r exists =
-      one_back s r (undo (G s)) (λ h. gives r exists ∙ ap (λ b. cond b y (F r)) h) (ap undo (gives s is ∙ ap (λ b. cond b y (F s)) (itself s)) ∙ e)
+      one_back s r (undo (G s)) (λ h. gives r exists ∙ ap (λ b. cond b y (F r)) h) (ap undo (gives s is ∙ ap (λ b. cond b y (F s)) (its_record s)) ∙ e)
 
   none_back : (s : Record) (undo : Part → Part) → IsRecord P s → Gives P F G [] → undo (F s) ≡ F s → GivesBack P F G (one s (undo (G s)))
   none_back s undo is gives e r exists = one_back s r (undo (G s)) (λ h. gives r exists) (ap undo (gives s is) ∙ e)
@@ -96,17 +80,6 @@ module _ (P : Plan) (F G : Record → Part) where
   nothing_given (Some reply) did none gives = gives
 
 -- # Domains
-
-same_from : (j k : DomainKind) → same_kind j k ≡ true → j ≡ k
-same_from Perf Perf e = refl
-same_from Perf Throttle e = cc
-same_from Perf Idle e = cc
-same_from Throttle Perf e = cc
-same_from Throttle Throttle e = refl
-same_from Throttle Idle e = cc
-same_from Idle Perf e = cc
-same_from Idle Throttle e = cc
-same_from Idle Idle e = refl
 
 -- who is in a domain of performance or throttling has that scale
 pub has_scale : (P : Plan) (kind : DomainKind) (p : ℕ) → is_idle kind ≡ false → domain_of P kind p < length P.domains → is_some (scale_of kind (cpu_at P p)) ≡ true

@@ -86,7 +86,7 @@ module _ (P : Plan) (S : State) where
 
 -- # The domain of a processor
 
-same_from : (j k : DomainKind) → same_kind j k ≡ true → j ≡ k
+pub same_from : (j k : DomainKind) → same_kind j k ≡ true → j ≡ k
 same_from Perf Perf e = refl
 same_from Perf Throttle e = cc
 same_from Perf Idle e = cc

@@ -41,7 +41,7 @@ is_told P q wired has = record {
 
 -- # A program that keeps records
 
-same_record : (r s : Record) → is_record r s ≡ true → r ≡ s
+pub same_record : (r s : Record) → is_record r s ≡ true → r ≡ s
 same_record (container m) (container n) e = ap (λ k. container k) (eqb-true m n e)
 same_record (domain m) (domain n) e = ap (λ k. domain k) (eqb-true m n e)
 same_record (group m) (group n) e = ap (λ k. group k) (eqb-true m n e)
@@ -52,7 +52,7 @@ same_record (domain m) (group n) e = cc
 same_record (group m) (container n) e = cc
 same_record (group m) (domain n) e = cc
 
-its_record : (r : Record) → is_record r r ≡ true
+pub its_record : (r : Record) → is_record r r ≡ true
 its_record (container m) = eq-eqb m m refl
 its_record (domain m) = eq-eqb m m refl
 its_record (group m) = eq-eqb m m refl

@@ -1,8 +1,7 @@
 -- A file that is too long to hold a history is refused by its first bytes just as by all of them.
-use Rattle.std.proofs.Common.{◌≡◌, ◌≢◌, ◌<◌, ◌+◌, ℕ, Bool, true, false, List, length, take, ltb, Option, Some, None, Result, Ok, Err, IfOk, IfErr, inl, inr, ◌⊎◌, refl, sym, subst, ◌∙◌, arith}
+use Rattle.std.proofs.Common.{◌≡◌, ◌≢◌, ◌<◌, ◌+◌, ℕ, Bool, true, false, List, length, take, Option, Some, None, Result, Ok, Err, IfOk, IfErr, inl, inr, refl, sym, subst, ◌∙◌, arith}
 use Rattle.std.specs.Prelude.{IsSomeAnd, ◌↔◌}
-use Rattle.std.proofs.lemmas.Bool.{false≢true, ltb-false, ltb-true}
-use Rattle.std.proofs.lemmas.List.{length-take-le, take_all}
+use Rattle.std.proofs.lemmas.Bool.{false≢true}
 use Rattle.pw_base.specs.Seen.{FilesSeen, OfFiles}
 use Rattle.aml_block.specs.Answers.{IsHeldAnd}
 use Rattle.pw_plan.specs.declared.plan.Plan.{Plan}
@@ -18,6 +17,7 @@ use Rattle.pw_review.specs.Histories.IsNoHistory.{too_long, wrong, unfinished}
 use Rattle.pw_review.specs.declared.history.Unlawful.{Unlawful}
 use Rattle.pw_review.specs.declared.history.Unlawful.TheVariants.{Unread, Fault}
 use Rattle.pw_review.specs.inner.Parts.{IsWhyNone, IsWhyUnlawful}
+use Rattle.pw_runs.proofs.Cuts.{cut_or_long}
 
 -- # What an audit answers
 
@@ -47,19 +47,6 @@ module _ (P : Plan) (asked : List Request) (bytes : List ℕ) where
 
 -- # The first bytes
 
--- the first bytes are all of them, or there are too many, of both
-cut_or_long : (content : List ℕ)
-    → (take (MOST_BYTES + 1) content ≡ content) ⊎ ((MOST_BYTES < length (take (MOST_BYTES + 1) content)) × (MOST_BYTES < length content))
-cut_or_long content = step (ltb MOST_BYTES (length content)) refl
-  where
-    step : (b : Bool) → ltb MOST_BYTES (length content) ≡ b
-        → (take (MOST_BYTES + 1) content ≡ content) ⊎ ((MOST_BYTES < length (take (MOST_BYTES + 1) content)) × (MOST_BYTES < length content))
-    step true e =
-        let long = ltb-true MOST_BYTES (length content) e in
-        let all : length (take (MOST_BYTES + 1) content) ≡ MOST_BYTES + 1 = length-take-le (MOST_BYTES + 1) content (omega (arith, long)) in
-        inr (omega (arith, all), long)
-    step false e = inl (take_all (MOST_BYTES + 1) content (omega (arith, ltb-false MOST_BYTES (length content) e)))
-
 module _ (P : Plan) (asked : List Request) (content : List ℕ) where
   abbrev first : List ℕ
   first = take (MOST_BYTES + 1) content
@@ -68,14 +55,14 @@ module _ (P : Plan) (asked : List Request) (content : List ℕ) where
   cut_is : (entries : ℕ) → IsHistory P asked first entries → IsHistory P asked content entries
   cut_is entries is =
       let short = is.short in
-      elim (cut_or_long content) [
+      elim (cut_or_long MOST_BYTES content) [
         | inl same ↦ subst (λ (b : List ℕ). IsHistory P asked b entries) same is
         | inr long ↦ (let l = long.0 in absurd (omega (arith, short, l)))
       ]
 
   cut_fails : (fault : AuditFault) → IsNoHistory P asked first fault → IsNoHistory P asked content fault
   cut_fails fault fails =
-      elim (cut_or_long content) [
+      elim (cut_or_long MOST_BYTES content) [
         | inl same ↦ subst (λ (b : List ℕ). IsNoHistory P asked b fault) same fails
         | inr long ↦ of_long long.0 long.1 fault fails
       ]

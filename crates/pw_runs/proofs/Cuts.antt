@@ -23,22 +23,22 @@ long_refused : (P : Plan) (bytes : List ℕ) → MOST_BYTES < length bytes → r
 long_refused P bytes long = rw (lt-ltb MOST_BYTES (length bytes) long) refl
 
 -- the first bytes are all of them, or there are too many, of both
-pub cut_or_long : (content : List ℕ)
-    → (take (MOST_BYTES + 1) content ≡ content) ⊎ ((MOST_BYTES < length (take (MOST_BYTES + 1) content)) × (MOST_BYTES < length content))
-cut_or_long content = step (ltb MOST_BYTES (length content)) refl
+pub cut_or_long : (most : ℕ) (content : List ℕ)
+    → (take (most + 1) content ≡ content) ⊎ ((most < length (take (most + 1) content)) × (most < length content))
+cut_or_long most content = step (ltb most (length content)) refl
   where
-    step : (b : Bool) → ltb MOST_BYTES (length content) ≡ b
-        → (take (MOST_BYTES + 1) content ≡ content) ⊎ ((MOST_BYTES < length (take (MOST_BYTES + 1) content)) × (MOST_BYTES < length content))
+    step : (b : Bool) → ltb most (length content) ≡ b
+        → (take (most + 1) content ≡ content) ⊎ ((most < length (take (most + 1) content)) × (most < length content))
     step true e =
-        let long = ltb-true MOST_BYTES (length content) e in
-        let all : length (take (MOST_BYTES + 1) content) ≡ MOST_BYTES + 1 = length-take-le (MOST_BYTES + 1) content (omega (arith, long)) in
+        let long = ltb-true most (length content) e in
+        let all : length (take (most + 1) content) ≡ most + 1 = length-take-le (most + 1) content (omega (arith, long)) in
         inr (omega (arith, all), long)
-    step false e = inl (take_all (MOST_BYTES + 1) content (omega (arith, ltb-false MOST_BYTES (length content) e)))
+    step false e = inl (take_all (most + 1) content (omega (arith, ltb-false most (length content) e)))
 
 -- what the first bytes are as a script, all are
 pub cut_reads : (P : Plan) (step : Bool) (content : List ℕ) (lines : List line) → IsScript P step (take (MOST_BYTES + 1) content) lines → IsScript P step content lines
 cut_reads P step content lines reads =
-    elim (cut_or_long content) [
+    elim (cut_or_long MOST_BYTES content) [
       | inl same ↦ subst (λ (b : List ℕ). IsScript P step b lines) same reads
       | inr long ↦ absurd (some_none (sym (long_refused P (take (MOST_BYTES + 1) content) long.0) ∙ reads.good))
     ]
@@ -49,7 +49,7 @@ cut_reads P step content lines reads =
 -- and why they are none
 pub cut_fails : (P : Plan) (step : Bool) (content : List ℕ) (fault : ScriptFault) → IsNoScript P step (take (MOST_BYTES + 1) content) fault → IsNoScript P step content fault
 cut_fails P step content fault fails =
-    elim (cut_or_long content) [
+    elim (cut_or_long MOST_BYTES content) [
       | inl same ↦ subst (λ (b : List ℕ). IsNoScript P step b fault) same fails
       | inr long ↦ of_long long.0 long.1 fault fails
     ]

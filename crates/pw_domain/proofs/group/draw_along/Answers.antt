@@ -2,7 +2,8 @@ use Rattle.std.proofs.Common.{◌≡◌, ◌<◌, ◌==◌, ◌&&◌, ◌∷◌,
 use Rattle.pw_plan.specs.declared.domain.Group.{Group}
 use Rattle.pw_plan.specs.Places.{group_at}
 use Rattle.pw_parts.specs.Effects.{c_state_by, drawn_by, drawn_ops, enter_c}
-use Rattle.pw_domain.proofs.Groups.{c_state_le, passed, pushed, room_passed, room_pushed}
+use Rattle.pw_core.proofs.Drawing.{passed, pushed, room_passed, room_pushed}
+use Rattle.pw_domain.proofs.Groups.{c_state_le}
 use Rattle.pw_domain.proofs.group.draw_along.Goals as goal
 use Rattle.pw_domain.proofs.group.draw_along.Goals.{then-joins, else-joins}
 
