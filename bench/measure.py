@@ -143,12 +143,21 @@ def performance(count):
     return devices(count, b"\x08_PSS" + package(states, 255))
 
 
-def chain(count):
-    """So many names below 32 scopes around one another, each named by 255 segments."""
-    content = short_names(count)
-    for i in range(32):
+def below(content, levels):
+    """This content below so many scopes around one another, each named by 255 segments."""
+    for i in range(levels):
         content = holder(SCOPE, b"\x2f\xff" + b"".join(itertools.islice(paths(), 1000 * i, 1000 * i + 255)), content)
     return block(content)
+
+
+def chain(count):
+    """So many names below 32 scopes of 255 segments."""
+    return below(short_names(count), 32)
+
+
+def searched(count):
+    """So many scopes named by one segment, which stands in the root alone, below 31 scopes of 255 segments."""
+    return below(count * holder(SCOPE, b"_SB_", b""), 31)
 
 
 def numbers(values):
@@ -345,6 +354,7 @@ def scopes(program, plain):
         ("names in one scope", one_scope, (62500, 125000, 250000)),
         ("devices of 255 states", performance, (64, 128, 256)),
         ("names below 32 scopes of 255 segments", chain, (25000, 50000, 100000)),
+        ("scopes searched for below 31 of 255 segments", searched, (20000, 340000, 680000)),
     ]
     grown(program, plain, kinds, ("show", "rewrite"))
 
