@@ -1,7 +1,8 @@
 use crate::bytes::{block_of, put_bytes};
 use crate::outside::{Outside, SOUND};
-use pw_base::{Memory, MemoryFiles, MemorySink, OpenGate};
+use pw_base::{Gate, Memory, MemoryFiles, MemorySink, OpenGate};
 use pw_cli::run;
+use pw_played::Meeting;
 use pw_regs::FailingRegisters;
 use std::alloc::Global;
 use std::sync::Wait;
@@ -9,7 +10,7 @@ use std::thread::Threads;
 
 /// One run: what the files `a`, `b` and `c` hold, the words, what the outside is like, and what must come: what
 /// stands on the two outputs, all of it or so many first bytes, and how many operations the registers saw, unless any
-/// number may come.
+/// number may come. A processor's request may be held until another's has been answered.
 #[derive(Drop)]
 pub struct Case {
     a: Vec<u8>,
@@ -17,6 +18,7 @@ pub struct Case {
     c: Vec<u8>,
     words: Vec<String>,
     outside: Outside,
+    held: Option<(u32, u32)>,
     out: Vec<u8>,
     out_first: u32,
     err: Vec<u8>,
@@ -32,6 +34,7 @@ impl Case {
             c: Vec::new(alloc),
             words: Vec::new(alloc),
             outside: SOUND,
+            held: None,
             out: Vec::new(alloc),
             out_first: u32::MAX,
             err: Vec::new(alloc),
@@ -43,6 +46,7 @@ impl Case {
     /// Begins a case of the same files, words and text over another outside.
     pub fn again(&mut self) {
         self.outside = SOUND;
+        self.held = None;
         self.out_first = u32::MAX;
         self.err.clear();
         self.err_first = u32::MAX;
@@ -78,6 +82,7 @@ impl Case {
             "script" => put_line(&mut self.c, rest),
             "history" => put_line(&mut self.b, rest),
             "ops" => self.read_ops(rest),
+            "hold" => self.read_held(rest),
             _ => self.read_number(alloc, key, rest),
         }
     }
@@ -105,6 +110,12 @@ impl Case {
         } else {
             Some(rest.parse::<u32>().ok()?)
         };
+        Some(())
+    }
+
+    fn read_held(&mut self, rest: &str) -> Option<()> {
+        let (held, other) = rest.split_once(" ")?;
+        self.held = Some((held.parse::<u32>().ok()?, other.parse::<u32>().ok()?));
         Some(())
     }
 
@@ -151,14 +162,31 @@ impl Case {
         alloc: Global,
         status: u8,
     ) -> Option<&'static str> {
+        let Some((held, other)) = self.held else {
+            return self.run_at(rt, alloc, status, &OpenGate);
+        };
+        let gate = Meeting::of_two(held, other);
+        let told = self.run_at(rt, alloc, status, &gate)?;
+        Some(if gate.gave_up() {
+            "the gate gave up"
+        } else {
+            told
+        })
+    }
+
+    fn run_at<T: Threads + Wait + Sync, G: Gate + Sync>(
+        &self,
+        rt: &T,
+        alloc: Global,
+        status: u8,
+        gate: &G,
+    ) -> Option<&'static str> {
         let mut files = self.files(alloc).ok()?;
         let mut out = self.outside.out(alloc).ok()?;
         let mut err = self.outside.err(alloc).ok()?;
         let regs = self.outside.regs(alloc).ok()?;
         let words = self.words.as_slice();
-        let outcome = run(
-            rt, alloc, words, &mut files, &mut out, &mut err, regs, &OpenGate,
-        );
+        let outcome = run(rt, alloc, words, &mut files, &mut out, &mut err, regs, gate);
         if outcome.status != status {
             return Some("another status");
         }

@@ -1,8 +1,7 @@
-use crate::gates::Meeting;
 use crate::told::{put_audit, put_counts, put_text};
 use pw_base::{List, OpenGate};
 use pw_machines::{plan_of, request_of, u32_at, word_at};
-use pw_played::{Played, play, play_alone};
+use pw_played::{Meeting, Played, play, play_alone};
 use pw_regs::FailingRegisters;
 use pw_script::{Line, Script};
 use std::alloc::Global;
@@ -78,7 +77,24 @@ fn met<R: Threads + Wait + Sync>(
     Some(played)
 }
 
-/// Does the run that a line asks for, `alone`, `hold CPU OTHER` or `crowd COUNT`, and ` failing CALL` behind it
+/// A run by one caller, whose summary is told behind its text.
+fn summed(
+    text: &mut String,
+    alloc: Global,
+    machine: &str,
+    script: &Script,
+    fail: u32,
+) -> Option<Played> {
+    let plan = plan_of(alloc, machine).ok()?;
+    let played = play_alone(alloc, plan, script, registers(alloc, ROOM, fail)?)?;
+    put_text(text, played.text.written())?;
+    if let Some(summary) = &played.summary {
+        put_text(text, summary.written())?;
+    }
+    Some(played)
+}
+
+/// Does the run that a line asks for, `alone`, `one caller`, `hold CPU OTHER` or `crowd COUNT`, and ` failing CALL` behind it
 /// where a register fails; and tells the text of its history where that is certain.
 fn run<R: Threads + Wait + Sync>(
     rt: &R,
@@ -96,6 +112,7 @@ fn run<R: Threads + Wait + Sync>(
             put_text(text, played.text.written())?;
             Some(played)
         }
+        "one" => summed(text, alloc, machine, script, fail),
         "hold" => {
             let gate = Meeting::of_two(u32_at(way, 1)?, u32_at(way, 2)?);
             let played = met(rt, text, alloc, machine, script, fail, &gate)?;

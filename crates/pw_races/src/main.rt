@@ -10,7 +10,6 @@
 #![tactic(auto)]
 
 mod case;
-mod gates;
 mod many;
 mod told;
 
