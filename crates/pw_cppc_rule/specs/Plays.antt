@@ -7,13 +7,30 @@ use Rattle.pw_cppc_work.specs.Worked.{Worked}
 use Rattle.pw_desk.specs.declared.view.View.{View}
 use Rattle.pw_books.specs.Books.{Begins, Knows, count_in, furthest, longer}
 use Rattle.pw_books.specs.Sums.{AtMost}
+use Rattle.pw_desk.specs.Steps.{Kind, take_turn, find_held, slot_out, slot_back, release_with_entry, release_without_entry, draw_number}
+use Rattle.pw_desk.specs.Steps.{miss_draw, read_made}
 use Rattle.pw_desk.specs.Steps.{IsSpare, drawn, entered, in_hand, in_place, led, let_go, looked, met_with, missed}
 use Rattle.pw_desk.specs.Told.{MeetsOther}
+use Rattle.pw_cppc_rule.specs.declared.track.Track.{Track}
 use Rattle.pw_cppc_rule.specs.Slots.{Given, IsHeld, seat_of}
 
--- a seat: its view, and the slot where it has it in hand
+-- a seat's view, and the slot where it has it in hand
 abbrev pub Mine : Type 0 → Type 0
 Mine R = Me (Option (Worked R)) (View CppcEntry)
+
+-- the same with the steps that it took
+abbrev pub Tracked : Type 0 → Type 0
+Tracked R = Me (Option (Worked R)) Track
+
+abbrev pub mine : {R : Type 0} → Tracked R → Mine R
+mine m = (m.0.view, m.1)
+
+abbrev pub Tells : Type 0 → Type 1
+Tells R = Step (Option (Worked R)) → Tracked R → ℕ → Tracked R → Type 0
+
+-- these are its steps more
+abbrev pub Grew : {R : Type 0} → Tracked R → List (Kind CppcEntry) → Tracked R → Type 0
+Grew m ks n = n.0.own ≡ m.0.own ++ ks
 
 abbrev pub Plays : Type 0 → Type 1
 Plays R = Step (Option (Worked R)) → Mine R → ℕ → Mine R → Type 0
@@ -55,6 +72,27 @@ module _ {R : Type 0} where
       (n ≡ (looked r m.0, m.1)) × (r ≤ 65536) × AtMost m.0.read r × (m.0.parts ≤ 65536)
       × ((told : List CppcEntry) → m.0.told ≡ Some told → Begins (longer told m.0.seen) m.0.seen × Begins (longer told m.0.seen) told)
 
+  -- # The same, and the step of the machine that it is
+
+  abbrev pub put_step : CppcEntry → ℕ → Tells R
+  put_step e count st m r n = put e count st (mine m) r (mine n) × Grew m (release_with_entry e count ∷ []) n
+
+  abbrev pub gone_step : ℕ → Tells R
+  gone_step count st m r n = gone_with count st (mine m) r (mine n) × Grew m (release_without_entry count ∷ []) n
+
+  abbrev pub claimed_step : Tells R
+  claimed_step st m r n = claimed st (mine m) r (mine n) × Grew m (slot_out ∷ []) n
+
+  abbrev pub opened_step : ℕ → Tells R
+  opened_step count st m r n = opened_by count st (mine m) r (mine n) × Grew m (slot_back ∷ release_without_entry count ∷ []) n
+
+  abbrev pub drew_step : Tells R
+  drew_step st m r n =
+      drew st (mine m) r (mine n) × (r ≡ st.first → Grew m (draw_number ∷ []) n) × (r ≢ st.first → Grew m (miss_draw ∷ []) n)
+
+  abbrev pub looked_step : Tells R
+  looked_step st m r n = looked_at st (mine m) r (mine n) × Grew m (read_made ∷ []) n
+
 module _ {R : Type 0} (by : Registers R) where
   -- # The turn in hand
 
@@ -70,6 +108,11 @@ module _ {R : Type 0} (by : Registers R) where
 
   abbrev pub led_to : Given → Plays R
   led_to given st m r n = (r ≡ 0 → (w : Worked R) × Led given m w n) × (r ≢ 0 → Met m (r - 1) n)
+
+  -- the same, and the step of the machine that it is
+  abbrev pub led_step : Given → Tells R
+  led_step given st m r n =
+      led_to given st (mine m) r (mine n) × (r ≡ 0 → (count : ℕ) × Grew m (take_turn count ∷ []) n) × (r ≢ 0 → Grew m (find_held ∷ []) n)
 
   -- # The value as it may be given back
 
