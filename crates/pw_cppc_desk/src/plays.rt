@@ -3,8 +3,8 @@ ghost use Rattle.pw_cppc_state.specs.declared.entry.CppcEntry.{CppcEntry as entr
 ghost use Rattle.pw_cppc_rule.specs.Tracks.{joined_track, left_track, right_track, spent_track};
 ghost use Rattle.pw_cppc_rule.specs.Slots.{Given};
 ghost use Rattle.pw_cppc_rule.specs.Plays.{claimed_step, drew_step, gone_step};
-ghost use Rattle.pw_cppc_rule.specs.Plays.{looked_step, opened_step, put_step};
-ghost use Rattle.pw_cppc_desk.specs.Asked.{led_in, no_entry};
+ghost use Rattle.pw_cppc_rule.specs.Plays.{opened_step, put_step};
+ghost use Rattle.pw_cppc_desk.specs.Asked.{led_in, looked_in, no_entry};
 
 use atomic_table::{Join, Play, Split};
 use pw_cppc_rule::Track;
@@ -81,10 +81,12 @@ impl<R> Play<Option<Work<R>>, Track> for Draw {
 }
 
 /// The number of seats made is read.
-pub struct Look;
+pub struct Look<Q> {
+    asked: PhantomData<Q>,
+}
 
-impl<R> Play<Option<Work<R>>, Track> for Look {
-    ghost then = { looked_step };
+impl<R, Q: Asked> Play<Option<Work<R>>, Track> for Look<Q> {
+    ghost then = { looked_in Q.given };
 }
 
 /// The number and the parts of a new seat, which the call picks that makes it.

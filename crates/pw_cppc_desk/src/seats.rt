@@ -1,13 +1,18 @@
 ghost use Rattle.std.specs.Prelude.{◌≡◌, ◌<◌, ◌≤◌, ◌↔◌, [], true, Some, None, IfErr, IfOk, IfSome, length};
-ghost use Rattle.pw_desk.specs.Steps.{IsIdle, IsSpare, join_seats, joined, left_of, missed};
+ghost use Rattle.pw_books.specs.Books.{Knows};
+ghost use Rattle.pw_cppc_state.specs.History.{Legal};
+ghost use Rattle.pw_desk.specs.Steps.{IsIdle, IsSpare, joined, left_of, missed};
 ghost use Rattle.pw_desk.specs.Steps.{read_made, right_of, split_seat};
 ghost use Rattle.pw_cppc_rule.specs.Plays.{mine};
+ghost use Rattle.pw_cppc_rule.specs.Rule.{given_of};
+ghost use Rattle.pw_cppc_rule.specs.Slots.{seat_of};
+ghost use Rattle.pw_cppc_rule.specs.Tracks.{kept};
 ghost use Rattle.pw_cppc_desk.specs.Looks.{IsDraw, IsJoin, IsLook};
 ghost use Rattle.pw_cppc_desk.specs.Views.{view_in};
-ghost use Rattle.pw_cppc_desk.specs.Went.{Drew, JoinSteps, OneMore, SplitSteps, own_in};
+ghost use Rattle.pw_cppc_desk.specs.Went.{Drew, JoinSteps, KeepsBoth, OneMore, SplitSteps, kept_in};
 
 use crate::desk::{CppcDesk, CppcSeat, Raw, out};
-use crate::plays::{Cut, Draw, Glue, Look, Share};
+use crate::plays::{Asked, Cut, Draw, Glue, Look, Share};
 use pw_regs::Registers;
 use std::marker::Brand;
 
@@ -65,15 +70,18 @@ impl<R: Registers> CppcDesk<R> {
     ghost use Rattle.pw_cppc_desk.specs.Splits.{IsSplit};
 
     /// Reads how many seats are made. What a join told is seen.
-    fn look(&self, raw: &mut Raw<R>) -> u32
+    fn look<Q: Asked>(&self, raw: &mut Raw<R>) -> u32
         requires id { raw.old.table_id ≡ self.now.table.shared.table_id }
+        requires given { Q.given ≡ Some (given_of R.Registers self.now.table.shared.key) }
         requires idle { IsIdle raw.old.me.0.view }
         ensures id { raw.new.table_id ≡ raw.old.table_id }
         ensures slots { raw.new.me.1 ≡ raw.old.me.1 }
         ensures look { IsLook raw.old.me.0.view result raw.new.me.0.view }
-        ensures own { OneMore raw.old.me.0.own read_made raw.new.me.0.own }
+        ensures legal { Legal self.now.plan raw.new.me.0.view.seen }
+        ensures known { Knows seat_of raw.new.me.0.view.book raw.new.me.0.view.seen }
+        ensures own { OneMore (kept raw.old.me.0) read_made (kept raw.new.me.0) }
     {
-        self.table.shared.load::<Look>(raw, 0) as u32
+        self.table.shared.load::<Look<Q>>(raw, 0) as u32
     }
 
     /// Draws a number that no seat has, or answers how many seats are made where all are given.
@@ -86,7 +94,7 @@ impl<R: Registers> CppcDesk<R> {
         ensures drawn { IfOk result (λ n. IsDraw raw.old.me.0.view read n raw.new.me.0.view) }
         ensures none { IfErr result (λ made. (made ≡ 65536)
             × (raw.new.me.0.view ≡ missed made raw.old.me.0.view)) }
-        ensures own { Drew raw.old.me.0.own result raw.new.me.0.own }
+        ensures own { Drew (kept raw.old.me.0) result (kept raw.new.me.0) }
     {
         let mut made = u64::from(read);
         while made < 65536 {
@@ -113,8 +121,8 @@ impl<R: Registers> CppcDesk<R> {
         ensures new { result.table_id ≡ raw.old.table_id }
         ensures left { mine raw.new.me ≡ (left_of _number _parts raw.old.me.0.view, raw.old.me.1) }
         ensures right { mine result.me ≡ (right_of _number _parts raw.old.me.0.view, []) }
-        ensures own { OneMore raw.old.me.0.own (split_seat _number _parts) raw.new.me.0.own }
-        ensures new_own { result.me.0.own ≡ [] }
+        ensures own { OneMore (kept raw.old.me.0) (split_seat _number _parts) (kept raw.new.me.0) }
+        ensures new_own { kept result.me.0 ≡ ([], []) }
     {
         self.table.shared.split_seat::<Cut<Q>>(raw)
     }
@@ -127,11 +135,12 @@ impl<R: Registers> CppcDesk<R> {
         requires fewer { parts < (view_in seat.old.badge.views).parts }
         ensures owns { Owns self.now.table.shared.table_id seat.new }
         ensures split { IsSplit seat.old parts result seat.new self.now.table.shared.table_id }
-        ensures steps { SplitSteps parts (own_in seat.old.badge.views) result (own_in seat.new.badge.views) }
+        ensures steps { SplitSteps parts (kept_in seat.old.badge.views) result
+            (kept_in seat.new.badge.views) }
     {
         let seen = seat.seen;
         let mut raw: Raw<R> = out(&mut seat.badge);
-        let read = self.look(&mut raw);
+        let read = self.look::<Brand>(&mut raw);
         let number = match self.draw(&mut raw, read) {
             Ok(number) => number,
             Err(made) => {
@@ -159,18 +168,22 @@ impl<R: Registers> CppcDesk<R> {
         requires none_told { (raw.old.me.0.view.told ≡ None) × (other.me.0.view.told ≡ None) }
         ensures id { raw.new.table_id ≡ raw.old.table_id }
         ensures joined { mine raw.new.me ≡ (joined raw.old.me.0.view other.me.0.view, raw.old.me.1) }
-        ensures own { OneMore raw.old.me.0.own (join_seats 0 other.me.0.view) raw.new.me.0.own }
+        ensures own { KeepsBoth (kept raw.old.me.0) other.me.0.view (kept other.me.0)
+            (kept raw.new.me.0) }
     {
         self.table.shared.join_seat::<Glue>(raw, other);
     }
 
-    /// One seat that knows what both have seen and called, with the first one's number.
+    /// One seat that knows what both have seen and called, with the first one's number. The steps that
+    /// the other had in its keeping are in its own.
     pub fn join(&self, a: CppcSeat, b: CppcSeat) -> CppcSeat
         requires first { Owns self.now.table.shared.table_id a }
         requires second { Owns self.now.table.shared.table_id b }
         ensures owns { Owns self.now.table.shared.table_id result }
         ensures joined { IsJoin (view_in a.badge.views) (view_in b.badge.views) (view_in result.badge.views) }
-        ensures steps { JoinSteps (own_in a.badge.views) (view_in b.badge.views) (own_in result.badge.views) }
+        ensures legal { Legal self.now.plan (view_in result.badge.views).seen }
+        ensures steps { JoinSteps (kept_in a.badge.views) (view_in b.badge.views) (kept_in b.badge.views)
+            (kept_in result.badge.views) }
     {
         let CppcSeat {
             mut badge,
@@ -188,7 +201,7 @@ impl<R: Registers> CppcDesk<R> {
         } = b;
         let mut raw: Raw<R> = out(&mut badge);
         self.glue(&mut raw, out(&mut other));
-        self.look(&mut raw);
+        self.look::<Brand>(&mut raw);
         CppcSeat {
             badge: raw.into_badge(),
             number,

@@ -1,4 +1,4 @@
--- A seat of the table: its view, and the steps of the desk's machine that it took itself.
+-- A seat of the table: its view, the steps of the desk's machine that it took itself, and those of seats that were joined into it.
 use Rattle.std.specs.Prelude.{ℕ, List, [], ◌∷◌, ◌++◌, ◌==◌, cond}
 use Rattle.pw_cppc_state.specs.declared.entry.CppcEntry.{CppcEntry}
 use Rattle.pw_desk.specs.declared.view.View.{View}
@@ -26,13 +26,24 @@ abbrev pub steps_of : ℕ → List (ℕ × View CppcEntry × Kind CppcEntry) →
 steps_of j [] = []
 steps_of j (s ∷ ss) = cond (s.0 == j) (own_kind s.2 ∷ steps_of j ss) (steps_of j ss)
 
+-- the steps in a seat's keeping: its own, and a list of those of each seat that was joined into it, or into one of these
+abbrev pub Kept : Type 0
+Kept = List (Kind CppcEntry) × List (List (Kind CppcEntry))
+
+abbrev pub kept : Track → Kept
+kept t = (t.own, t.joined)
+
+-- with these steps more of its own
+abbrev pub more : List (Kind CppcEntry) → Kept → Kept
+more ks k = (k.0 ++ ks, k.1)
+
 -- it took no step yet
 abbrev pub fresh : View CppcEntry → Track
-fresh v = record { view = v; own = [] }
+fresh v = record { view = v; own = []; joined = [] }
 
 -- it took one more, and has this view
 abbrev pub did : Kind CppcEntry → View CppcEntry → Track → Track
-did k w t = record { view = w; own = t.own ++ own_kind k ∷ [] }
+did k w t = record { view = w; own = t.own ++ own_kind k ∷ []; joined = t.joined }
 
 -- # Seats that are split and joined
 
@@ -43,7 +54,7 @@ abbrev pub right_track : ℕ → ℕ → Track → Track
 right_track n parts t = fresh (right_of n parts t.view)
 
 abbrev pub joined_track : Track → Track → Track
-joined_track t u = did (join_seats 0 u.view) (joined t.view u.view) t
+joined_track t u = record (did (join_seats 0 u.view) (joined t.view u.view) t) { joined = t.joined ++ u.own ∷ u.joined }
 
 abbrev pub spent_track : Track
 spent_track = fresh spent_view
