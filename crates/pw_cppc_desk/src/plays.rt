@@ -1,15 +1,14 @@
 ghost use Rattle.std.specs.Prelude.{ℕ, None, Option};
 ghost use Rattle.pw_cppc_state.specs.declared.entry.CppcEntry.{CppcEntry as entry};
-ghost use Rattle.pw_desk.specs.Machine.{spent_view};
-ghost use Rattle.pw_desk.specs.Steps.{joined, left_of, right_of};
+ghost use Rattle.pw_cppc_rule.specs.Tracks.{joined_track, left_track, right_track, spent_track};
 ghost use Rattle.pw_cppc_rule.specs.Slots.{Given};
-ghost use Rattle.pw_cppc_rule.specs.Plays.{claimed, drew, gone_with, looked_at, opened_by, put};
-ghost use Rattle.pw_cppc_desk.specs.Asked.{led_in, no_entry};
+ghost use Rattle.pw_cppc_rule.specs.Plays.{claimed_step, drew_step, gone_step};
+ghost use Rattle.pw_cppc_rule.specs.Plays.{opened_step, put_step};
+ghost use Rattle.pw_cppc_desk.specs.Asked.{led_in, looked_in, no_entry};
 
 use atomic_table::{Join, Play, Split};
-use pw_cppc_state::CppcEntry;
+use pw_cppc_rule::Track;
 use pw_cppc_work::Work;
-use pw_desk::View;
 use pw_regs::Registers;
 use std::marker::{Brand, PhantomData};
 
@@ -36,7 +35,7 @@ pub struct Take<Q> {
     asked: PhantomData<Q>,
 }
 
-impl<R: Registers, Q: Asked> Play<Option<Work<R>>, View<CppcEntry>> for Take<Q> {
+impl<R: Registers, Q: Asked> Play<Option<Work<R>>, Track> for Take<Q> {
     ghost then = { led_in R.Registers Q.given };
 }
 
@@ -45,8 +44,8 @@ pub struct Put<Q> {
     asked: PhantomData<Q>,
 }
 
-impl<R, Q: Asked> Play<Option<Work<R>>, View<CppcEntry>> for Put<Q> {
-    ghost then = { put Q.entry Q.count };
+impl<R, Q: Asked> Play<Option<Work<R>>, Track> for Put<Q> {
+    ghost then = { put_step Q.entry Q.count };
 }
 
 /// The turn is given back, and all is as it was.
@@ -54,15 +53,15 @@ pub struct Leave<Q> {
     asked: PhantomData<Q>,
 }
 
-impl<R, Q: Asked> Play<Option<Work<R>>, View<CppcEntry>> for Leave<Q> {
-    ghost then = { gone_with Q.count };
+impl<R, Q: Asked> Play<Option<Work<R>>, Track> for Leave<Q> {
+    ghost then = { gone_step Q.count };
 }
 
 /// The slot comes in hand for the first time.
 pub struct Claim;
 
-impl<R> Play<Option<Work<R>>, View<CppcEntry>> for Claim {
-    ghost then = { claimed };
+impl<R> Play<Option<Work<R>>, Track> for Claim {
+    ghost then = { claimed_step };
 }
 
 /// The turn is free for the first time.
@@ -70,22 +69,24 @@ pub struct OpenTurn<Q> {
     asked: PhantomData<Q>,
 }
 
-impl<R, Q: Asked> Play<Option<Work<R>>, View<CppcEntry>> for OpenTurn<Q> {
-    ghost then = { opened_by Q.count };
+impl<R, Q: Asked> Play<Option<Work<R>>, Track> for OpenTurn<Q> {
+    ghost then = { opened_step Q.count };
 }
 
 /// A number is drawn, or another seat drew it.
 pub struct Draw;
 
-impl<R> Play<Option<Work<R>>, View<CppcEntry>> for Draw {
-    ghost then = { drew };
+impl<R> Play<Option<Work<R>>, Track> for Draw {
+    ghost then = { drew_step };
 }
 
 /// The number of seats made is read.
-pub struct Look;
+pub struct Look<Q> {
+    asked: PhantomData<Q>,
+}
 
-impl<R> Play<Option<Work<R>>, View<CppcEntry>> for Look {
-    ghost then = { looked_at };
+impl<R, Q: Asked> Play<Option<Work<R>>, Track> for Look<Q> {
+    ghost then = { looked_in Q.given };
 }
 
 /// The number and the parts of a new seat, which the call picks that makes it.
@@ -106,17 +107,17 @@ pub struct Cut<Q> {
     share: PhantomData<Q>,
 }
 
-impl<Q: Share> Split<View<CppcEntry>> for Cut<Q> {
-    ghost left = { left_of Q.number Q.parts };
+impl<Q: Share> Split<Track> for Cut<Q> {
+    ghost left = { left_track Q.number Q.parts };
 
-    ghost right = { right_of Q.number Q.parts };
+    ghost right = { right_track Q.number Q.parts };
 }
 
 /// Two seats are joined.
 pub struct Glue;
 
-impl Join<View<CppcEntry>> for Glue {
-    ghost both = { joined };
+impl Join<Track> for Glue {
+    ghost both = { joined_track };
 
-    ghost spent = { spent_view };
+    ghost spent = { spent_track };
 }

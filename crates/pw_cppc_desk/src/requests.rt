@@ -1,7 +1,9 @@
 ghost use Rattle.std.specs.Prelude.{◌≡◌, ◌<◌, length, true};
 ghost use Rattle.pw_cppc.specs.Requests.{Has};
 ghost use Rattle.pw_desk.specs.Steps.{IsIdle};
+ghost use Rattle.pw_cppc_rule.specs.Tracks.{kept};
 ghost use Rattle.pw_cppc_desk.specs.Views.{IsAtRest, is_met, view_in};
+ghost use Rattle.pw_cppc_desk.specs.Went.{WentOnce, kept_in};
 
 use crate::desk::{CppcDesk, CppcSeat, Raw, out};
 use crate::serving::CppcDone;
@@ -56,17 +58,19 @@ impl<R: Registers> CppcDesk<R> {
     ) -> CppcTry
         requires id { raw.old.table_id ≡ self.now.table.shared.table_id }
         requires has { Has self.now.plan request }
-        requires rest { IsAtRest raw.old.me.0 }
-        requires live { IsIdle raw.old.me.0 }
-        requires number { (number ≡ raw.old.me.0.number) × (number < 65536) }
-        requires seen { seen.old ≡ length raw.old.me.0.seen }
-        requires met { is_met met.old raw.old.me.0 ≡ true }
+        requires rest { IsAtRest raw.old.me.0.view }
+        requires live { IsIdle raw.old.me.0.view }
+        requires number { (number ≡ raw.old.me.0.view.number) × (number < 65536) }
+        requires seen { seen.old ≡ length raw.old.me.0.view.seen }
+        requires met { is_met met.old raw.old.me.0.view ≡ true }
         ensures id { raw.new.table_id ≡ raw.old.table_id }
         ensures slots { raw.new.me.1 ≡ raw.old.me.1 }
-        ensures rest { IsAtRest raw.new.me.0 }
-        ensures seen { seen.new ≡ length raw.new.me.0.seen }
-        ensures met { is_met met.new raw.new.me.0 ≡ true }
-        ensures told { Told self.now.plan self.now.capacity raw.old.me.0 request result raw.new.me.0 }
+        ensures rest { IsAtRest raw.new.me.0.view }
+        ensures seen { seen.new ≡ length raw.new.me.0.view.seen }
+        ensures met { is_met met.new raw.new.me.0.view ≡ true }
+        ensures told { Told self.now.plan self.now.capacity raw.old.me.0.view request result
+            raw.new.me.0.view }
+        ensures own { WentOnce number request result (kept raw.old.me.0) (kept raw.new.me.0) }
     {
         match self.take_for(raw, number) {
             Ok(work) => self.serve(raw, work, seen, number, request).as_try(),
@@ -85,6 +89,8 @@ impl<R: Registers> CppcDesk<R> {
         ensures owns { Owns self.now.table.shared.table_id seat.new }
         ensures told { Told self.now.plan self.now.capacity (view_in seat.old.badge.views) request result
             (view_in seat.new.badge.views) }
+        ensures steps { WentOnce (view_in seat.old.badge.views).number request result
+            (kept_in seat.old.badge.views) (kept_in seat.new.badge.views) }
     {
         let number = seat.number;
         let mut raw: Raw<R> = out(&mut seat.badge);

@@ -1,10 +1,18 @@
-ghost use Rattle.std.specs.Prelude.{◌≡◌, ◌≢◌, ℕ, ◌+◌, ◌<◌, ◌≤◌, ◌↔◌, [], ◌∷◌, true, Some, None, IfErr, IfOk, IfSome, length};
-ghost use Rattle.pw_desk.specs.Steps.{IsIdle, IsSpare, joined, left_of, missed, right_of};
+ghost use Rattle.std.specs.Prelude.{◌≡◌, ◌<◌, ◌≤◌, ◌↔◌, [], true, Some, None, IfErr, IfOk, IfSome, length};
+ghost use Rattle.pw_books.specs.Books.{Knows};
+ghost use Rattle.pw_cppc_state.specs.History.{Legal};
+ghost use Rattle.pw_desk.specs.Steps.{IsIdle, IsSpare, joined, left_of, missed};
+ghost use Rattle.pw_desk.specs.Steps.{read_made, right_of, split_seat};
+ghost use Rattle.pw_cppc_rule.specs.Plays.{mine};
+ghost use Rattle.pw_cppc_rule.specs.Rule.{given_of};
+ghost use Rattle.pw_cppc_rule.specs.Slots.{seat_of};
+ghost use Rattle.pw_cppc_rule.specs.Tracks.{kept};
 ghost use Rattle.pw_cppc_desk.specs.Looks.{IsDraw, IsJoin, IsLook};
 ghost use Rattle.pw_cppc_desk.specs.Views.{view_in};
+ghost use Rattle.pw_cppc_desk.specs.Went.{Drew, JoinSteps, KeepsBoth, OneMore, SplitSteps, kept_in};
 
 use crate::desk::{CppcDesk, CppcSeat, Raw, out};
-use crate::plays::{Cut, Draw, Glue, Look, Share};
+use crate::plays::{Asked, Cut, Draw, Glue, Look, Share};
 use pw_regs::Registers;
 use std::marker::Brand;
 
@@ -62,25 +70,31 @@ impl<R: Registers> CppcDesk<R> {
     ghost use Rattle.pw_cppc_desk.specs.Splits.{IsSplit};
 
     /// Reads how many seats are made. What a join told is seen.
-    fn look(&self, raw: &mut Raw<R>) -> u32
+    fn look<Q: Asked>(&self, raw: &mut Raw<R>) -> u32
         requires id { raw.old.table_id ≡ self.now.table.shared.table_id }
-        requires idle { IsIdle raw.old.me.0 }
+        requires given { Q.given ≡ Some (given_of R.Registers self.now.table.shared.key) }
+        requires idle { IsIdle raw.old.me.0.view }
         ensures id { raw.new.table_id ≡ raw.old.table_id }
         ensures slots { raw.new.me.1 ≡ raw.old.me.1 }
-        ensures look { IsLook raw.old.me.0 result raw.new.me.0 }
+        ensures look { IsLook raw.old.me.0.view result raw.new.me.0.view }
+        ensures legal { Legal self.now.plan raw.new.me.0.view.seen }
+        ensures known { Knows seat_of raw.new.me.0.view.book raw.new.me.0.view.seen }
+        ensures own { OneMore (kept raw.old.me.0) read_made (kept raw.new.me.0) }
     {
-        self.table.shared.load::<Look>(raw, 0) as u32
+        self.table.shared.load::<Look<Q>>(raw, 0) as u32
     }
 
     /// Draws a number that no seat has, or answers how many seats are made where all are given.
     fn draw(&self, raw: &mut Raw<R>, read: u32) -> Result<u32, u32>
         requires id { raw.old.table_id ≡ self.now.table.shared.table_id }
-        requires idle { IsIdle raw.old.me.0 }
-        requires read { (raw.old.me.0.read ≡ Some read) × (read ≤ 65536) }
+        requires idle { IsIdle raw.old.me.0.view }
+        requires read { (raw.old.me.0.view.read ≡ Some read) × (read ≤ 65536) }
         ensures id { raw.new.table_id ≡ raw.old.table_id }
         ensures slots { raw.new.me.1 ≡ raw.old.me.1 }
-        ensures drawn { IfOk result (λ n. IsDraw raw.old.me.0 read n raw.new.me.0) }
-        ensures none { IfErr result (λ made. (made ≡ 65536) × (raw.new.me.0 ≡ missed made raw.old.me.0)) }
+        ensures drawn { IfOk result (λ n. IsDraw raw.old.me.0.view read n raw.new.me.0.view) }
+        ensures none { IfErr result (λ made. (made ≡ 65536)
+            × (raw.new.me.0.view ≡ missed made raw.old.me.0.view)) }
+        ensures own { Drew (kept raw.old.me.0) result (kept raw.new.me.0) }
     {
         let mut made = u64::from(read);
         while made < 65536 {
@@ -99,14 +113,16 @@ impl<R: Registers> CppcDesk<R> {
     /// The seat with this number, which the other drew, and these of its parts.
     fn cut<Q: Share>(&self, raw: &mut Raw<R>, _number: u32, _parts: u32) -> Raw<R>
         requires id { raw.old.table_id ≡ self.now.table.shared.table_id }
-        requires idle { IsIdle raw.old.me.0 × (raw.old.me.0.told ≡ None) }
+        requires idle { IsIdle raw.old.me.0.view × (raw.old.me.0.view.told ≡ None) }
         requires share { (Q.number ≡ _number) × (Q.parts ≡ _parts) }
-        requires spare { IsSpare _number raw.old.me.0 }
-        requires parts { (0 < _parts) × (_parts < raw.old.me.0.parts) }
+        requires spare { IsSpare _number raw.old.me.0.view }
+        requires parts { (0 < _parts) × (_parts < raw.old.me.0.view.parts) }
         ensures old { raw.new.table_id ≡ raw.old.table_id }
         ensures new { result.table_id ≡ raw.old.table_id }
-        ensures left { raw.new.me ≡ (left_of _number _parts raw.old.me.0, raw.old.me.1) }
-        ensures right { result.me ≡ (right_of _number _parts raw.old.me.0, []) }
+        ensures left { mine raw.new.me ≡ (left_of _number _parts raw.old.me.0.view, raw.old.me.1) }
+        ensures right { mine result.me ≡ (right_of _number _parts raw.old.me.0.view, []) }
+        ensures own { OneMore (kept raw.old.me.0) (split_seat _number _parts) (kept raw.new.me.0) }
+        ensures new_own { kept result.me.0 ≡ ([], []) }
     {
         self.table.shared.split_seat::<Cut<Q>>(raw)
     }
@@ -119,10 +135,12 @@ impl<R: Registers> CppcDesk<R> {
         requires fewer { parts < (view_in seat.old.badge.views).parts }
         ensures owns { Owns self.now.table.shared.table_id seat.new }
         ensures split { IsSplit seat.old parts result seat.new self.now.table.shared.table_id }
+        ensures steps { SplitSteps parts (kept_in seat.old.badge.views) result
+            (kept_in seat.new.badge.views) }
     {
         let seen = seat.seen;
         let mut raw: Raw<R> = out(&mut seat.badge);
-        let read = self.look(&mut raw);
+        let read = self.look::<Brand>(&mut raw);
         let number = match self.draw(&mut raw, read) {
             Ok(number) => number,
             Err(made) => {
@@ -146,20 +164,26 @@ impl<R: Registers> CppcDesk<R> {
     fn glue(&self, raw: &mut Raw<R>, other: Raw<R>)
         requires id { raw.old.table_id ≡ self.now.table.shared.table_id }
         requires other { (other.table_id ≡ self.now.table.shared.table_id) × (other.me.1 ≡ []) }
-        requires idle { IsIdle raw.old.me.0 × IsIdle other.me.0 }
-        requires none_told { (raw.old.me.0.told ≡ None) × (other.me.0.told ≡ None) }
+        requires idle { IsIdle raw.old.me.0.view × IsIdle other.me.0.view }
+        requires none_told { (raw.old.me.0.view.told ≡ None) × (other.me.0.view.told ≡ None) }
         ensures id { raw.new.table_id ≡ raw.old.table_id }
-        ensures joined { raw.new.me ≡ (joined raw.old.me.0 other.me.0, raw.old.me.1) }
+        ensures joined { mine raw.new.me ≡ (joined raw.old.me.0.view other.me.0.view, raw.old.me.1) }
+        ensures own { KeepsBoth (kept raw.old.me.0) other.me.0.view (kept other.me.0)
+            (kept raw.new.me.0) }
     {
         self.table.shared.join_seat::<Glue>(raw, other);
     }
 
-    /// One seat that knows what both have seen and called, with the first one's number.
+    /// One seat that knows what both have seen and called, with the first one's number. The steps that
+    /// the other had in its keeping are in its own.
     pub fn join(&self, a: CppcSeat, b: CppcSeat) -> CppcSeat
         requires first { Owns self.now.table.shared.table_id a }
         requires second { Owns self.now.table.shared.table_id b }
         ensures owns { Owns self.now.table.shared.table_id result }
         ensures joined { IsJoin (view_in a.badge.views) (view_in b.badge.views) (view_in result.badge.views) }
+        ensures legal { Legal self.now.plan (view_in result.badge.views).seen }
+        ensures steps { JoinSteps (kept_in a.badge.views) (view_in b.badge.views) (kept_in b.badge.views)
+            (kept_in result.badge.views) }
     {
         let CppcSeat {
             mut badge,
@@ -177,7 +201,7 @@ impl<R: Registers> CppcDesk<R> {
         } = b;
         let mut raw: Raw<R> = out(&mut badge);
         self.glue(&mut raw, out(&mut other));
-        self.look(&mut raw);
+        self.look::<Brand>(&mut raw);
         CppcSeat {
             badge: raw.into_badge(),
             number,

@@ -1,9 +1,11 @@
 ghost use Rattle.std.specs.Prelude.{◌≡◌, ◌<◌, Some, length};
 ghost use Rattle.atomic_table.specs.Table.{rest};
 ghost use Rattle.pw_cppc.specs.Requests.{Has};
-ghost use Rattle.pw_cppc_rule.specs.Plays.{IsFound};
+ghost use Rattle.pw_cppc_rule.specs.Plays.{IsFound, mine};
 ghost use Rattle.pw_cppc_rule.specs.Rule.{given_of};
+ghost use Rattle.pw_cppc_rule.specs.Tracks.{kept};
 ghost use Rattle.pw_cppc_desk.specs.Steps.{IsOut};
+ghost use Rattle.pw_cppc_desk.specs.Went.{Served};
 
 use crate::desk::{CppcDesk, Raw};
 use pw_cppc::CppcRequest;
@@ -39,14 +41,17 @@ impl<R: Registers> CppcDesk<R> {
     ) -> CppcDone
         requires id { raw.old.table_id ≡ self.now.table.shared.table_id }
         requires has { Has self.now.plan request }
-        requires number { number ≡ raw.old.me.0.number }
-        requires out { IsOut raw.old.me }
-        requires found { IsFound R.Registers (given_of R.Registers self.now.table.shared.key) raw.old.me.0 work }
-        requires first { raw.old.me.0.first ≡ Some (R.faults work.regs) }
+        requires number { number ≡ raw.old.me.0.view.number }
+        requires out { IsOut (mine raw.old.me) }
+        requires found { IsFound R.Registers (given_of R.Registers self.now.table.shared.key)
+            raw.old.me.0.view work }
+        requires first { raw.old.me.0.view.first ≡ Some (R.faults work.regs) }
         ensures id { raw.new.table_id ≡ raw.old.table_id }
         ensures slots { raw.new.me.1 ≡ rest raw.old.me.1 }
-        ensures seen { seen.new ≡ length raw.new.me.0.seen }
-        ensures serves { Serves self.now.plan self.now.capacity raw.old.me.0 request result raw.new.me.0 }
+        ensures seen { seen.new ≡ length raw.new.me.0.view.seen }
+        ensures serves { Serves self.now.plan self.now.capacity raw.old.me.0.view request result
+            raw.new.me.0.view }
+        ensures own { Served number request result (kept raw.old.me.0) (kept raw.new.me.0) }
     {
         *seen = work.len();
         if let Some(at) = work.fault_at() {

@@ -1,11 +1,14 @@
 ghost use Rattle.std.specs.Prelude.{◌≡◌, ◌<◌, Some, MatchResult};
 ghost use Rattle.atomic_table.specs.Table.{rest};
 ghost use Rattle.pw_cppc_work.specs.Entries.{entry_as};
-ghost use Rattle.pw_desk.specs.Steps.{IsIdle, entered, let_go};
-ghost use Rattle.pw_cppc_rule.specs.Plays.{IsFound, IsGrown, Met};
+ghost use Rattle.pw_desk.specs.Steps.{IsIdle, entered, find_held, let_go};
+ghost use Rattle.pw_desk.specs.Steps.{release_with_entry, release_without_entry};
+ghost use Rattle.pw_cppc_rule.specs.Plays.{IsFound, IsGrown, Met, mine};
 ghost use Rattle.pw_cppc_rule.specs.Rule.{given_of};
 ghost use Rattle.pw_cppc_rule.specs.Slots.{seat_of};
+ghost use Rattle.pw_cppc_rule.specs.Tracks.{kept};
 ghost use Rattle.pw_cppc_desk.specs.Steps.{IsOut, LedOut};
+ghost use Rattle.pw_cppc_desk.specs.Went.{OneMore, TookTurn};
 
 use crate::desk::{CppcDesk, Raw, SLOT, TURN};
 use crate::plays::{Asked, Leave, Put, Take};
@@ -19,12 +22,14 @@ impl<R: Registers> CppcDesk<R> {
     pub(crate) fn take<Q: Asked>(&self, raw: &mut Raw<R>, number: u32) -> Result<Work<R>, u32>
         requires id { raw.old.table_id ≡ self.now.table.shared.table_id }
         requires given { Q.given ≡ Some (given_of R.Registers self.now.table.shared.key) }
-        requires idle { IsIdle raw.old.me.0 }
-        requires number { (number ≡ raw.old.me.0.number) × (number < 65536) }
+        requires idle { IsIdle raw.old.me.0.view }
+        requires number { (number ≡ raw.old.me.0.view.number) × (number < 65536) }
         ensures id { raw.new.table_id ≡ raw.old.table_id }
         ensures view { let given = given_of R.Registers self.now.table.shared.key in
-            MatchResult result (λ work. LedOut R.Registers given raw.old.me work raw.new.me)
-            (λ holder. Met raw.old.me holder raw.new.me) }
+            MatchResult result (λ work. LedOut R.Registers given (mine raw.old.me) work (mine raw.new.me))
+            (λ holder. Met (mine raw.old.me) holder (mine raw.new.me)) }
+        ensures own { MatchResult result (λ _. TookTurn (kept raw.old.me.0) (kept raw.new.me.0))
+            (λ _. OneMore (kept raw.old.me.0) find_held (kept raw.new.me.0)) }
     {
         let mine = u64::from(number) + 1;
         let found = self
@@ -43,12 +48,14 @@ impl<R: Registers> CppcDesk<R> {
     /// The same with what it is about picked.
     pub(crate) fn take_for(&self, raw: &mut Raw<R>, number: u32) -> Result<Work<R>, u32>
         requires id { raw.old.table_id ≡ self.now.table.shared.table_id }
-        requires idle { IsIdle raw.old.me.0 }
-        requires number { (number ≡ raw.old.me.0.number) × (number < 65536) }
+        requires idle { IsIdle raw.old.me.0.view }
+        requires number { (number ≡ raw.old.me.0.view.number) × (number < 65536) }
         ensures id { raw.new.table_id ≡ raw.old.table_id }
         ensures view { let given = given_of R.Registers self.now.table.shared.key in
-            MatchResult result (λ work. LedOut R.Registers given raw.old.me work raw.new.me)
-            (λ holder. Met raw.old.me holder raw.new.me) }
+            MatchResult result (λ work. LedOut R.Registers given (mine raw.old.me) work (mine raw.new.me))
+            (λ holder. Met (mine raw.old.me) holder (mine raw.new.me)) }
+        ensures own { MatchResult result (λ _. TookTurn (kept raw.old.me.0) (kept raw.new.me.0))
+            (λ _. OneMore (kept raw.old.me.0) find_held (kept raw.new.me.0)) }
     {
         self.take::<Brand>(raw, number)
     }
@@ -62,16 +69,19 @@ impl<R: Registers> CppcDesk<R> {
         _fault: u32,
     )
         requires id { raw.old.table_id ≡ self.now.table.shared.table_id }
-        requires entry { Q.entry ≡ entry_as raw.old.me.0.number _request _fault }
+        requires entry { Q.entry ≡ entry_as raw.old.me.0.view.number _request _fault }
         requires count { Q.count ≡ R.faults work.regs }
-        requires out { IsOut raw.old.me }
-        requires grown { IsGrown R.Registers (given_of R.Registers self.now.table.shared.key) raw.old.me.0
-            (entry_as raw.old.me.0.number _request _fault) work }
+        requires out { IsOut (mine raw.old.me) }
+        requires grown { IsGrown R.Registers (given_of R.Registers self.now.table.shared.key)
+            raw.old.me.0.view (entry_as raw.old.me.0.view.number _request _fault) work }
         ensures id { raw.new.table_id ≡ raw.old.table_id }
-        ensures view { raw.new.me ≡ (
-          entered seat_of (entry_as raw.old.me.0.number _request _fault) (R.faults work.regs) raw.old.me.0,
+        ensures view { mine raw.new.me ≡ (
+          entered seat_of (entry_as raw.old.me.0.view.number _request _fault) (R.faults work.regs)
+              raw.old.me.0.view,
           rest raw.old.me.1,
         ) }
+        ensures own { OneMore (kept raw.old.me.0) (release_with_entry (entry_as
+            raw.old.me.0.view.number _request _fault) (R.faults work.regs)) (kept raw.new.me.0) }
     {
         let empty = self.table.shared.exchange(raw, SLOT, Some(work));
         let None = empty else { unreachable!() };
@@ -82,14 +92,17 @@ impl<R: Registers> CppcDesk<R> {
     /// The same with what it is about picked.
     pub(crate) fn put_for(&self, raw: &mut Raw<R>, work: Work<R>, request: CppcRequest, fault: u32)
         requires id { raw.old.table_id ≡ self.now.table.shared.table_id }
-        requires out { IsOut raw.old.me }
-        requires grown { IsGrown R.Registers (given_of R.Registers self.now.table.shared.key) raw.old.me.0
-            (entry_as raw.old.me.0.number request fault) work }
+        requires out { IsOut (mine raw.old.me) }
+        requires grown { IsGrown R.Registers (given_of R.Registers self.now.table.shared.key)
+            raw.old.me.0.view (entry_as raw.old.me.0.view.number request fault) work }
         ensures id { raw.new.table_id ≡ raw.old.table_id }
-        ensures view { raw.new.me ≡ (
-          entered seat_of (entry_as raw.old.me.0.number request fault) (R.faults work.regs) raw.old.me.0,
+        ensures view { mine raw.new.me ≡ (
+          entered seat_of (entry_as raw.old.me.0.view.number request fault) (R.faults work.regs)
+              raw.old.me.0.view,
           rest raw.old.me.1,
         ) }
+        ensures own { OneMore (kept raw.old.me.0) (release_with_entry (entry_as
+            raw.old.me.0.view.number request fault) (R.faults work.regs)) (kept raw.new.me.0) }
     {
         self.put::<Brand>(raw, work, request, fault);
     }
@@ -98,10 +111,13 @@ impl<R: Registers> CppcDesk<R> {
     pub(crate) fn leave<Q: Asked>(&self, raw: &mut Raw<R>, work: Work<R>)
         requires id { raw.old.table_id ≡ self.now.table.shared.table_id }
         requires count { Q.count ≡ R.faults work.regs }
-        requires out { IsOut raw.old.me }
-        requires found { IsFound R.Registers (given_of R.Registers self.now.table.shared.key) raw.old.me.0 work }
+        requires out { IsOut (mine raw.old.me) }
+        requires found { IsFound R.Registers (given_of R.Registers self.now.table.shared.key)
+            raw.old.me.0.view work }
         ensures id { raw.new.table_id ≡ raw.old.table_id }
-        ensures view { raw.new.me ≡ (let_go (R.faults work.regs) raw.old.me.0, rest raw.old.me.1) }
+        ensures view { mine raw.new.me ≡ (let_go (R.faults work.regs) raw.old.me.0.view, rest raw.old.me.1) }
+        ensures own { OneMore (kept raw.old.me.0) (release_without_entry (R.faults work.regs))
+            (kept raw.new.me.0) }
     {
         let empty = self.table.shared.exchange(raw, SLOT, Some(work));
         let None = empty else { unreachable!() };
@@ -112,10 +128,13 @@ impl<R: Registers> CppcDesk<R> {
     /// The same with what it is about picked.
     pub(crate) fn leave_for(&self, raw: &mut Raw<R>, work: Work<R>)
         requires id { raw.old.table_id ≡ self.now.table.shared.table_id }
-        requires out { IsOut raw.old.me }
-        requires found { IsFound R.Registers (given_of R.Registers self.now.table.shared.key) raw.old.me.0 work }
+        requires out { IsOut (mine raw.old.me) }
+        requires found { IsFound R.Registers (given_of R.Registers self.now.table.shared.key)
+            raw.old.me.0.view work }
         ensures id { raw.new.table_id ≡ raw.old.table_id }
-        ensures view { raw.new.me ≡ (let_go (R.faults work.regs) raw.old.me.0, rest raw.old.me.1) }
+        ensures view { mine raw.new.me ≡ (let_go (R.faults work.regs) raw.old.me.0.view, rest raw.old.me.1) }
+        ensures own { OneMore (kept raw.old.me.0) (release_without_entry (R.faults work.regs))
+            (kept raw.new.me.0) }
     {
         self.leave::<Brand>(raw, work);
     }

@@ -3,8 +3,11 @@ ghost use Rattle.std.specs.Prelude.{◌≡◌, ◌<◌, length, true};
 ghost use Rattle.pw_cppc.specs.Requests.{Has};
 ghost use Rattle.pw_desk.specs.Steps.{IsIdle};
 ghost use Rattle.pw_cppc_rule.specs.Rule.{given_of};
+ghost use Rattle.pw_cppc_rule.specs.Plays.{mine};
+ghost use Rattle.pw_cppc_rule.specs.Tracks.{kept};
 ghost use Rattle.pw_cppc_desk.specs.Steps.{LedOn};
 ghost use Rattle.pw_cppc_desk.specs.Views.{is_met, view_in};
+ghost use Rattle.pw_cppc_desk.specs.Went.{TookLater, WentOn, kept_in};
 
 use crate::desk::{CppcDesk, CppcSeat, Raw, out};
 use crate::serving::CppcDone;
@@ -27,12 +30,14 @@ impl<R: Registers> CppcDesk<R> {
         number: u32,
     ) -> Work<R>
         requires id { raw.old.table_id ≡ self.now.table.shared.table_id }
-        requires idle { IsIdle raw.old.me.0 }
-        requires number { (number ≡ raw.old.me.0.number) × (number < 65536) }
-        requires met { is_met met.old raw.old.me.0 ≡ true }
+        requires idle { IsIdle raw.old.me.0.view }
+        requires number { (number ≡ raw.old.me.0.view.number) × (number < 65536) }
+        requires met { is_met met.old raw.old.me.0.view ≡ true }
         ensures id { raw.new.table_id ≡ raw.old.table_id }
-        ensures view { LedOn R.Registers (given_of R.Registers self.now.table.shared.key) raw.old.me result raw.new.me }
-        ensures met { is_met met.new raw.new.me.0 ≡ true }
+        ensures view { LedOn R.Registers (given_of R.Registers self.now.table.shared.key)
+            (mine raw.old.me) result (mine raw.new.me) }
+        ensures own { TookLater (kept raw.old.me.0) (kept raw.new.me.0) }
+        ensures met { is_met met.new raw.new.me.0.view ≡ true }
     {
         for _ in rt.forever() {
             match self.take::<Brand>(raw, number) {
@@ -53,6 +58,8 @@ impl<R: Registers> CppcDesk<R> {
         ensures owns { Owns self.now.table.shared.table_id seat.new }
         ensures told { Finished self.now.plan self.now.capacity (view_in seat.old.badge.views) request result
             (view_in seat.new.badge.views) }
+        ensures steps { WentOn (view_in seat.old.badge.views).number request result
+            (kept_in seat.old.badge.views) (kept_in seat.new.badge.views) }
     {
         let number = seat.number;
         let mut raw: Raw<R> = out(&mut seat.badge);

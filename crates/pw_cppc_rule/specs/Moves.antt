@@ -9,12 +9,14 @@ use Rattle.pw_cppc_state.specs.declared.entry.CppcEntry.{CppcEntry}
 use Rattle.pw_cppc_work.specs.Worked.{Worked}
 use Rattle.pw_desk.specs.declared.view.View.{View}
 use Rattle.pw_books.specs.Books.{Knows, count_in, entries_of, furthest}
-use Rattle.pw_desk.specs.Machine.{spent_view}
-use Rattle.pw_desk.specs.Steps.{IsIdle, IsSpare, joined, left_of, right_of}
+use Rattle.pw_desk.specs.Steps.{IsIdle, IsSpare}
 use Rattle.pw_cppc_rule.specs.declared.limit.Limit.{Limit}
 use Rattle.pw_cppc_rule.specs.Slots.{Given, Homes, IsHeld, seat_of}
 use Rattle.pw_cppc_rule.specs.Rule.{Ruled, first_of, given_of}
-use Rattle.pw_cppc_rule.specs.Plays.{IsFirst, IsFound, IsGrown, Mine, claimed, drew, gone_with, led_to, looked_at, opened_by, put}
+use Rattle.pw_cppc_rule.specs.Plays.{IsFirst, IsFound, IsGrown, Tracked}
+use Rattle.pw_cppc_rule.specs.Plays.{claimed_step, drew_step, gone_step, led_step, looked_step, opened_step, put_step}
+use Rattle.pw_cppc_rule.specs.declared.track.Track.{Track}
+use Rattle.pw_cppc_rule.specs.Tracks.{joined_track, left_track, right_track, spent_track}
 
 module _ {R : Type 0} (by : Registers R) where
   -- # The start
@@ -25,52 +27,52 @@ module _ {R : Type 0} (by : Registers R) where
 
   -- it takes the slot in hand
   abbrev pub SlotIsClaimed : Type 0
-  SlotIsClaimed = (n : ℕ) (key : Limit R) (id : ℕ) (m : Mine R) (a b : ℕ) → m.0.mark ≡ true → m.0.out ≡ false
-      → Allows (Ruled by key) n id m 1 (λ y. y) (claimed (step n 1 a b none) m)
+  SlotIsClaimed = (n : ℕ) (key : Limit R) (id : ℕ) (m : Tracked R) (a b : ℕ) → m.0.view.mark ≡ true → m.0.view.out ≡ false
+      → Allows (Ruled by key) n id m 1 (λ y. y) (claimed_step (step n 1 a b none) m)
 
   -- and puts the value there
   abbrev pub DeskIsOpened : Type 0
-  DeskIsOpened = (n : ℕ) (key : Limit R) (id : ℕ) (v : View CppcEntry) (more : List (ℕ × Option (Worked R))) (w : Worked R) (m : Mine R)
-      → 0 < n → m ≡ (v, (0, Some w) ∷ more) → IsFirst by (given_of by key) v w
-      → Allows (Ruled by key) n id m 1 (λ _. 0) (λ r. opened_by (by.faults w.regs) (step n 1 0 0 none) m r)
+  DeskIsOpened = (n : ℕ) (key : Limit R) (id : ℕ) (x : Track) (more : List (ℕ × Option (Worked R))) (w : Worked R) (m : Tracked R)
+      → 0 < n → m ≡ (x, (0, Some w) ∷ more) → IsFirst by (given_of by key) x.view w
+      → Allows (Ruled by key) n id m 1 (λ _. 0) (λ r. opened_step (by.faults w.regs) (step n 1 0 0 none) m r)
 
   -- # A request
 
   abbrev pub TurnIsTaken : Type 0
-  TurnIsTaken = (n : ℕ) (key : Limit R) (id : ℕ) (m : Mine R) (new : ℕ) → new ≡ suc m.0.number → IsIdle m.0
-      → Allows (Ruled by key) n id m 1 (λ y. either (y == 0) new y) (led_to by (given_of by key) (step n 1 0 new none) m)
+  TurnIsTaken = (n : ℕ) (key : Limit R) (id : ℕ) (m : Tracked R) (new : ℕ) → new ≡ suc m.0.view.number → IsIdle m.0.view
+      → Allows (Ruled by key) n id m 1 (λ y. either (y == 0) new y) (led_step by (given_of by key) (step n 1 0 new none) m)
 
   abbrev pub EntryIsMade : Type 0
-  EntryIsMade = (n : ℕ) (key : Limit R) (id : ℕ) (v : View CppcEntry) (more : List (ℕ × Option (Worked R))) (w : Worked R) (e : CppcEntry)
-      (m : Mine R)
-      → 0 < n → m ≡ (v, (0, Some w) ∷ more) → IsGrown by (given_of by key) v e w
-      → Allows (Ruled by key) n id m 1 (λ _. 0) (λ r. put e (by.faults w.regs) (step n 1 0 0 none) m r)
+  EntryIsMade = (n : ℕ) (key : Limit R) (id : ℕ) (x : Track) (more : List (ℕ × Option (Worked R))) (w : Worked R) (e : CppcEntry)
+      (m : Tracked R)
+      → 0 < n → m ≡ (x, (0, Some w) ∷ more) → IsGrown by (given_of by key) x.view e w
+      → Allows (Ruled by key) n id m 1 (λ _. 0) (λ r. put_step e (by.faults w.regs) (step n 1 0 0 none) m r)
 
   abbrev pub TurnIsLetGo : Type 0
-  TurnIsLetGo = (n : ℕ) (key : Limit R) (id : ℕ) (v : View CppcEntry) (more : List (ℕ × Option (Worked R))) (w : Worked R) (m : Mine R)
-      → 0 < n → m ≡ (v, (0, Some w) ∷ more) → IsFound by (given_of by key) v w
-      → Allows (Ruled by key) n id m 1 (λ _. 0) (λ r. gone_with (by.faults w.regs) (step n 1 0 0 none) m r)
+  TurnIsLetGo = (n : ℕ) (key : Limit R) (id : ℕ) (x : Track) (more : List (ℕ × Option (Worked R))) (w : Worked R) (m : Tracked R)
+      → 0 < n → m ≡ (x, (0, Some w) ∷ more) → IsFound by (given_of by key) x.view w
+      → Allows (Ruled by key) n id m 1 (λ _. 0) (λ r. gone_step (by.faults w.regs) (step n 1 0 0 none) m r)
 
   -- # Seats
 
   abbrev pub NumberIsDrawn : Type 0
-  NumberIsDrawn = (n : ℕ) (key : Limit R) (id : ℕ) (m : Mine R) (made new : ℕ) → new ≡ made + 1 → made < 65536 → IsIdle m.0
-      → m.0.read ≡ Some made
-      → Allows (Ruled by key) n id m 0 (λ y. either (y == made) new y) (drew (step n 0 made new none) m)
+  NumberIsDrawn = (n : ℕ) (key : Limit R) (id : ℕ) (m : Tracked R) (made new : ℕ) → new ≡ made + 1 → made < 65536 → IsIdle m.0.view
+      → m.0.view.read ≡ Some made
+      → Allows (Ruled by key) n id m 0 (λ y. either (y == made) new y) (drew_step (step n 0 made new none) m)
 
   abbrev pub NumberIsRead : Type 0
-  NumberIsRead = (n : ℕ) (key : Limit R) (id : ℕ) (m : Mine R) → IsIdle m.0
-      → Allows (Ruled by key) n id m 0 (λ y. y) (looked_at (step n 0 0 0 none) m)
+  NumberIsRead = (n : ℕ) (key : Limit R) (id : ℕ) (m : Tracked R) → IsIdle m.0.view
+      → Allows (Ruled by key) n id m 0 (λ y. y) (looked_step (given_of by key) (step n 0 0 0 none) m)
 
   abbrev pub SeatIsSplit : Type 0
-  SeatIsSplit = (key : Limit R) (id : ℕ) (v : View CppcEntry) (n parts : ℕ) → IsIdle v → v.told ≡ None → IsSpare n v → 0 < parts
-      → parts < v.parts
-      → Splits (Ruled by key) id v (left_of n parts v) (right_of n parts v)
+  SeatIsSplit = (key : Limit R) (id : ℕ) (x : Track) (n parts : ℕ) → IsIdle x.view → x.view.told ≡ None → IsSpare n x.view
+      → 0 < parts → parts < x.view.parts
+      → Splits (Ruled by key) id x (left_track n parts x) (right_track n parts x)
 
   abbrev pub SeatsAreJoined : Type 0
-  SeatsAreJoined = (key : Limit R) (id : ℕ) (v : View CppcEntry) (other : ℕ) (w : View CppcEntry) → IsIdle v → IsIdle w → v.told ≡ None
-      → w.told ≡ None
-      → Joins (Ruled by key) id v other w (joined v w) spent_view
+  SeatsAreJoined = (key : Limit R) (id : ℕ) (x : Track) (other : ℕ) (y : Track) → IsIdle x.view → IsIdle y.view → x.view.told ≡ None
+      → y.view.told ≡ None
+      → Joins (Ruled by key) id x other y (joined_track x y) spent_track
 
   -- # The end
 
@@ -85,10 +87,10 @@ module _ {R : Type 0} (by : Registers R) where
     pub seats : (n : ℕ) → 0 < length (entries_of seat_of n work.entries) → count_in n v.book ≡ 1
 
   abbrev pub AloneHasAll : Type 0
-  AloneHasAll = (key : Limit R) (s : State (Option (Worked R)) (View CppcEntry)) (id : ℕ) (v : View CppcEntry) → Ruled by key s
-      → get_elem? s.views id ≡ some v → IsIdle v → v.parts ≡ 65536 → IsWhole (given_of by key) v s.homes
+  AloneHasAll = (key : Limit R) (s : State (Option (Worked R)) Track) (id : ℕ) (x : Track) → Ruled by key s
+      → get_elem? s.views id ≡ some x → IsIdle x.view → x.view.parts ≡ 65536 → IsWhole (given_of by key) x.view s.homes
 
   -- so it is with the slot of a table that was closed with such a seat
   abbrev pub TableCloses : Type 0
-  TableCloses = (key : Limit R) (id : ℕ) (v : View CppcEntry) (ws : List ℕ) (xs : List (Option (Worked R)))
-      → Final (Seen (Ruled by key) id v) ws xs → IsIdle v → v.parts ≡ 65536 → IsWhole (given_of by key) v (map some xs)
+  TableCloses = (key : Limit R) (id : ℕ) (x : Track) (ws : List ℕ) (xs : List (Option (Worked R)))
+      → Final (Seen (Ruled by key) id x) ws xs → IsIdle x.view → x.view.parts ≡ 65536 → IsWhole (given_of by key) x.view (map some xs)

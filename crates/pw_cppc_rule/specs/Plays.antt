@@ -3,17 +3,36 @@ use Rattle.std.specs.Prelude.{◌≡◌, ◌≢◌, ℕ, ◌-◌, ◌<◌, ◌�
 use Rattle.atomic_table.specs.Table.{Me, Step, rest}
 use Rattle.pw_regs.specs.declared.registers.Registers.{Ghosts as Registers}
 use Rattle.pw_cppc_state.specs.declared.entry.CppcEntry.{CppcEntry}
+use Rattle.pw_cppc_state.specs.History.{Legal}
 use Rattle.pw_cppc_work.specs.Worked.{Worked}
 use Rattle.pw_desk.specs.declared.view.View.{View}
 use Rattle.pw_books.specs.Books.{Begins, Knows, count_in, furthest, longer}
 use Rattle.pw_books.specs.Sums.{AtMost}
+use Rattle.pw_desk.specs.Steps.{Kind, take_turn, find_held, slot_out, slot_back, release_with_entry, release_without_entry, draw_number}
+use Rattle.pw_desk.specs.Steps.{miss_draw, read_made}
 use Rattle.pw_desk.specs.Steps.{IsSpare, drawn, entered, in_hand, in_place, led, let_go, looked, met_with, missed}
 use Rattle.pw_desk.specs.Told.{MeetsOther}
+use Rattle.pw_cppc_rule.specs.declared.track.Track.{Track}
+use Rattle.pw_cppc_rule.specs.Tracks.{kept, more}
 use Rattle.pw_cppc_rule.specs.Slots.{Given, IsHeld, seat_of}
 
--- a seat: its view, and the slot where it has it in hand
+-- a seat's view, and the slot where it has it in hand
 abbrev pub Mine : Type 0 → Type 0
 Mine R = Me (Option (Worked R)) (View CppcEntry)
+
+-- the same with the steps that it took
+abbrev pub Tracked : Type 0 → Type 0
+Tracked R = Me (Option (Worked R)) Track
+
+abbrev pub mine : {R : Type 0} → Tracked R → Mine R
+mine m = (m.0.view, m.1)
+
+abbrev pub Tells : Type 0 → Type 1
+Tells R = Step (Option (Worked R)) → Tracked R → ℕ → Tracked R → Type 0
+
+-- these are its steps more
+abbrev pub Grew : {R : Type 0} → Tracked R → List (Kind CppcEntry) → Tracked R → Type 0
+Grew m ks n = kept n.0 ≡ more ks (kept m.0)
 
 abbrev pub Plays : Type 0 → Type 1
 Plays R = Step (Option (Worked R)) → Mine R → ℕ → Mine R → Type 0
@@ -49,11 +68,34 @@ module _ {R : Type 0} where
       (r ≡ st.first → (n ≡ (drawn st.first m.0, m.1)) × IsSpare st.first (drawn st.first m.0) × (count_in st.first m.0.book ≡ 0))
       × (r ≢ st.first → (n ≡ (missed r m.0, m.1)) × (st.first < r) × (r ≤ 65536))
 
-  -- the number of seats made was read, and what a join told goes into what was seen
-  abbrev pub looked_at : Plays R
-  looked_at st m r n =
+  -- the number of seats made was read, and what a join told goes into what was seen: a legal history, of which the book has the
+  -- entries of its numbers
+  abbrev pub looked_at : Given → Plays R
+  looked_at given st m r n =
       (n ≡ (looked r m.0, m.1)) × (r ≤ 65536) × AtMost m.0.read r × (m.0.parts ≤ 65536)
       × ((told : List CppcEntry) → m.0.told ≡ Some told → Begins (longer told m.0.seen) m.0.seen × Begins (longer told m.0.seen) told)
+      × Legal given.plan (furthest m.0.told m.0.seen) × Knows seat_of m.0.book (furthest m.0.told m.0.seen)
+
+  -- # The same, and the step of the machine that it is
+
+  abbrev pub put_step : CppcEntry → ℕ → Tells R
+  put_step e count st m r n = put e count st (mine m) r (mine n) × Grew m (release_with_entry e count ∷ []) n
+
+  abbrev pub gone_step : ℕ → Tells R
+  gone_step count st m r n = gone_with count st (mine m) r (mine n) × Grew m (release_without_entry count ∷ []) n
+
+  abbrev pub claimed_step : Tells R
+  claimed_step st m r n = claimed st (mine m) r (mine n) × Grew m (slot_out ∷ []) n
+
+  abbrev pub opened_step : ℕ → Tells R
+  opened_step count st m r n = opened_by count st (mine m) r (mine n) × Grew m (slot_back ∷ release_without_entry count ∷ []) n
+
+  abbrev pub drew_step : Tells R
+  drew_step st m r n =
+      drew st (mine m) r (mine n) × (r ≡ st.first → Grew m (draw_number ∷ []) n) × (r ≢ st.first → Grew m (miss_draw ∷ []) n)
+
+  abbrev pub looked_step : Given → Tells R
+  looked_step given st m r n = looked_at given st (mine m) r (mine n) × Grew m (read_made ∷ []) n
 
 module _ {R : Type 0} (by : Registers R) where
   -- # The turn in hand
@@ -70,6 +112,11 @@ module _ {R : Type 0} (by : Registers R) where
 
   abbrev pub led_to : Given → Plays R
   led_to given st m r n = (r ≡ 0 → (w : Worked R) × Led given m w n) × (r ≢ 0 → Met m (r - 1) n)
+
+  -- the same, and the step of the machine that it is
+  abbrev pub led_step : Given → Tells R
+  led_step given st m r n =
+      led_to given st (mine m) r (mine n) × (r ≡ 0 → (count : ℕ) × Grew m (take_turn count ∷ []) n) × (r ≢ 0 → Grew m (find_held ∷ []) n)
 
   -- # The value as it may be given back
 

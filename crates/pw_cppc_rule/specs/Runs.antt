@@ -1,0 +1,67 @@
+-- What the run tells that the table's rule speaks of.
+use Rattle.std.specs.Prelude.{◌≡◌, ◌≢◌, ◌⊎◌, ℕ, suc, ◌<◌, List, [], ◌∷◌, Option, Some, Contains}
+use mathlib.Core.Option.{some}
+use lib.ListN.{get_elem?}
+use Rattle.atomic_table.specs.Table.{State}
+use Rattle.pw_regs.specs.declared.registers.Registers.{Ghosts as Registers}
+use Rattle.pw_cppc_state.specs.declared.entry.CppcEntry.{CppcEntry}
+use Rattle.pw_cppc_work.specs.Worked.{Worked}
+use Rattle.pw_desk.specs.declared.view.View.{View}
+use Rattle.pw_desk.specs.Machine.{Invariant, Machine}
+use Rattle.pw_desk.specs.Steps.{Kind, after, find_held}
+use Rattle.pw_desk.specs.Law.{opened}
+use Rattle.pw_cppc_rule.specs.declared.limit.Limit.{Limit}
+use Rattle.pw_cppc_rule.specs.declared.track.Track.{Track}
+use Rattle.pw_cppc_rule.specs.Slots.{MayBe, seat_of}
+use Rattle.pw_cppc_rule.specs.Tracks.{own_kind}
+use Rattle.pw_cppc_rule.specs.Rule.{Ruled, given_of}
+
+-- a step that finds the turn held
+abbrev pub IsFind : Kind CppcEntry → Type 0
+IsFind find_held = Unit {0}
+IsFind k = ⊥
+
+-- it finds it held by this seat
+abbrev pub FindsHeld : Machine CppcEntry → Kind CppcEntry → ℕ → Type 0
+FindsHeld m find_held holder = m.turn ≡ suc holder
+FindsHeld m k holder = ⊥
+
+-- in none of these steps the seat at this place finds the turn held
+abbrev pub NoneFinds : ℕ → List (ℕ × View CppcEntry × Kind CppcEntry) → Type 0
+NoneFinds j [] = Unit {0}
+NoneFinds j (s ∷ ss) = (s.0 ≡ j → IsFind s.2 → ⊥) × NoneFinds j ss
+
+-- where it last finds the turn held, it finds it held by this seat
+abbrev pub FoundLast : Machine CppcEntry → List (ℕ × View CppcEntry × Kind CppcEntry) → ℕ → ℕ → Type 0
+FoundLast m [] j holder = ⊥
+FoundLast m (s ∷ ss) j holder =
+    ((s.0 ≡ j) × FindsHeld m s.2 holder × NoneFinds j ss) ⊎ FoundLast (after seat_of m s.0 s.1 s.2) ss j holder
+
+-- none of these steps finds the turn held
+abbrev pub NoFind : List (Kind CppcEntry) → Type 0
+NoFind [] = Unit {0}
+NoFind (k ∷ ks) = (IsFind k → ⊥) × NoFind ks
+
+module _ {R : Type 0} (by : Registers R) where
+  -- the machine has its invariant
+  abbrev pub RuleHasInvariant : Type 0
+  RuleHasInvariant = (key : Limit R) (s : State (Option (Worked R)) Track) (o : Ruled by key s)
+      → Invariant seat_of (MayBe (given_of by key)) o.machine
+
+  -- Each step of the run stands in a live seat's keeping: among its own, or among those of a seat that was joined into it, or into
+  -- one of these.
+  abbrev pub StepsAreKept : Type 0
+  StepsAreKept = (key : Limit R) (s : State (Option (Worked R)) Track) (o : Ruled by key s) (x : ℕ × View CppcEntry × Kind CppcEntry)
+      → Contains o.run x → (i : ℕ) × (t : Track) × (get_elem? s.views i ≡ some t) × (0 < t.view.parts)
+      × (Contains t.own (own_kind x.2) ⊎ ((ks : List (Kind CppcEntry)) × Contains t.joined ks × Contains ks (own_kind x.2)))
+
+  -- the seat that a seat met is the one that it last found with the turn
+  abbrev pub MetWasFound : Type 0
+  MetWasFound = (key : Limit R) (s : State (Option (Worked R)) Track) (o : Ruled by key s) (j : ℕ) (t : Track) (holder : ℕ)
+      → get_elem? s.views j ≡ some t → t.view.met ≡ Some holder → FoundLast opened o.run j holder
+
+  -- while each other seat is live and took no step yet, a seat has found no turn held
+  abbrev pub QuietAreNotMet : Type 0
+  QuietAreNotMet = (key : Limit R) (s : State (Option (Worked R)) Track) → Ruled by key s → (j : ℕ) (t : Track)
+      → get_elem? s.views j ≡ some t → 0 < t.view.parts
+      → ((i : ℕ) (u : Track) → i ≢ j → get_elem? s.views i ≡ some u → (0 < u.view.parts) × (u.own ≡ [])) → NoFind t.own
