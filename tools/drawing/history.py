@@ -90,14 +90,14 @@ class Rows:
 
     def __init__(self, entries, shown):
         paths = {one.path for one in entries if one.path} | {path for one in entries for _, path, _, _ in one.done}
-        self.paths = sorted(paths)
+        self.places = {path: place for place, path in enumerate(sorted(paths))}
         self.is_cppc = any(one.ask.split()[:1] in (["desired"], ["minimum"], ["maximum"]) for one in entries)
         told = {self.lane_of(one) for one in entries}
         self.lanes = [lane for lane in ("idle", "perf", "throttle", "at") if lane in told] or ["idle"]
         self.wide = 104 if shown <= 24 else 52 if shown <= 60 else 16
         self.is_told = self.wide == 104
         self.high = 22 + (13 if self.is_told else 0) + 18 * len(self.lanes)
-        self.left = 28 + max((width_of(path, 11) for path in self.paths), default=60)
+        self.left = 28 + max((width_of(path, 11) for path in self.places), default=60)
         self.top = 66
 
     def lane_of(self, entry):
@@ -108,7 +108,7 @@ class Rows:
         return "idle" if kind in ("entered", "running") else None
 
     def y_of(self, path):
-        return self.top + self.paths.index(path) * self.high
+        return self.top + self.places[path] * self.high
 
     def lane(self, path, lane):
         return self.y_of(path) + 5 + (13 if self.is_told else 0) + 18 * self.lanes.index(lane)
@@ -118,8 +118,8 @@ class Rows:
 
 
 def states_of(everything, entries, rows):
-    """Of each processor and lane what is told: the column, a text, and how deep it idles. In the first column is what was told before."""
-    told, start = {}, everything.index(entries[0])
+    """Of each processor and lane what is told: the column, a text, and how deep it idles. What was told before is in the first."""
+    told, start = {}, next(place for place, one in enumerate(everything) if one is entries[0])
     for place, one in enumerate(everything[: start + len(entries)]):
         kind, _, rest = one.reply.partition(" ")
         if kind == "entered":
@@ -160,26 +160,35 @@ def fitting(label, room):
 
 def draw_done(picture, rows, column, one):
     """The operations at their places: a diamond for what is set, a triangle for what is entered."""
-    count = {}
+    by_path = {}
     for what, path, register, value in one.done:
-        nth = count[path] = count.get(path, 0) + 1
-        x, y = rows.x_of(column) + 9 + (nth - 1) * (34 if rows.is_told and value else 11), rows.y_of(path) + rows.high - 9
-        said = f"{what} {path} {register}{' ' + value if value else ''}"
-        if nth > 1 and x > rows.x_of(column + 1) - 8:
-            continue
-        if what == "set":
-            picture.shape([(x, y - 5), (x + 5, y), (x, y + 5), (x - 5, y)], INK, said)
+        by_path.setdefault(path, []).append((what, value, f"{what} {path} {register}{f' {value}' if value else ''}"))
+    for path, done in by_path.items():
+        x, y = rows.x_of(column) + (9 if rows.is_told else rows.wide // 2), rows.y_of(path) + rows.high - 9
+        if rows.is_told and len(done) <= 3:
+            for what, value, said in done:
+                draw_sign(picture, what, x, y, said)
+                picture.text(x + 8, y + 3, cut(value or "enter", 86 if len(done) == 1 else 26, 8), 8, told=said)
+                x += 33
         else:
-            picture.shape([(x - 5, y - 4), (x + 5, y - 4), (x, y + 5)], INK, said)
-        if rows.is_told:
-            picture.text(x + 8, y + 3, cut(value or "enter", 26 if len(one.done) > 1 and value else 84, 8), 8, told=said)
+            # There is room for one of each.
+            for sign in sorted({what for what, _, _ in done}, reverse=True):
+                draw_sign(picture, sign, x, y, "\n".join(said for what, _, said in done if what == sign))
+
+
+def draw_sign(picture, what, x, y, said):
+    if what == "set":
+        picture.shape([(x, y - 5), (x + 5, y), (x, y + 5), (x - 5, y)], said)
+    else:
+        picture.shape([(x - 5, y - 4), (x + 5, y - 4), (x, y + 5)], said)
 
 
 def draw_place(picture, rows, column, one):
     """Where there is no room for the request: what is said of it at the pointer."""
     if one.path and not rows.is_told:
         x, y = rows.x_of(column), rows.y_of(one.path)
-        picture.rect(x + 1, y + 1, rows.wide - 2, rows.high - 2, "#ffffff", "none", 0, "", f"{one.number} {one.ask}: {one.reply}", 0)
+        said = f"{one.number} {one.ask}: {one.reply}"
+        picture.rect(x + 1, y + 1, rows.wide - 2, rows.high - 2, "#ffffff", "none", 0, "", said, 0)
 
 
 def draw_ask(picture, rows, column, one):
@@ -187,7 +196,8 @@ def draw_ask(picture, rows, column, one):
     x, y = rows.x_of(column), rows.y_of(one.path)
     is_bad = one.reply.startswith(("refused", "register"))
     if rows.is_told:
-        picture.text(x + 4, y + 13, cut(one.ask, rows.wide - 8, 10), 10, RED if is_bad else INK, told=f"{one.number} {one.ask}: {one.reply}")
+        said = f"{one.number} {one.ask}: {one.reply}"
+        picture.text(x + 4, y + 13, cut(one.ask, rows.wide - 8, 10), 10, RED if is_bad else INK, told=said)
     if is_bad:
         left, top = x + (rows.wide - 20 if rows.is_told else 3), y + 4
         for y1, y2 in ((top, top + 10), (top + 10, top)):
@@ -196,7 +206,7 @@ def draw_ask(picture, rows, column, one):
 
 def draw_frame(picture, rows, entries):
     """The names of the rows and the numbers of the columns."""
-    bottom = rows.top + len(rows.paths) * rows.high
+    bottom = rows.top + len(rows.places) * rows.high
     step = 1 if rows.wide > 16 else 5
     for column, one in enumerate(entries):
         x = rows.x_of(column)
@@ -205,7 +215,7 @@ def draw_frame(picture, rows, entries):
             name = str(one.number) if one.number else "open" if rows.wide > 16 else "o"
             picture.text(x + rows.wide // 2, rows.top - 10, name, 10, anchor="middle")
     right = rows.x_of(len(entries))
-    for path in rows.paths:
+    for path in rows.places:
         y = rows.y_of(path)
         picture.line(16, y, right, y, PALE)
         picture.text(18, y + 17, path, 11, bold=True)
@@ -223,7 +233,7 @@ def draw(read_entries, name, first, end):
     rows = Rows(everything, len(entries))
     refusals = [one for one in entries if one.reply.startswith(("refused", "register"))]
     asked, done = sum(one.number > 0 for one in entries), sum(len(one.done) for one in entries)
-    counts = [several(len(rows.paths), "processor"), f"{asked} {'entry' if asked == 1 else 'entries'}"]
+    counts = [several(len(rows.places), "processor"), f"{asked} {'entry' if asked == 1 else 'entries'}"]
     counts += [several(done, "register operation"), f"{len(refusals)} not granted"]
     title = f"{name or 'History'}: {', '.join(counts)}{', audited' if is_audited else ''}"
     picture = Picture()
@@ -266,13 +276,9 @@ def draw_legend(picture, rows, y):
         label = "where its domain stood when it was last told here: by its own reply, or by a register of its own that was set"
         picture.text(x + 46, y + 11, label, 10)
         y += 22
-    x = 16
-    for points, label in (
-        ([(x + 5, y + 2), (x + 10, y + 7), (x + 5, y + 12), (x, y + 7)], "a register is set"),
-        ([(x + 150, y + 3), (x + 160, y + 3), (x + 155, y + 12)], "an idle state is entered"),
-    ):
-        picture.shape(points)
-        picture.text(max(left for left, _ in points) + 8, y + 11, label, 10)
+    for what, x, label in (("set", 21, "a register is set"), ("enter", 155, "an idle state is entered")):
+        draw_sign(picture, what, x, y + 7, "")
+        picture.text(x + 12, y + 11, label, 10)
     x = 340
     picture.line(x, y + 2, x + 10, y + 12, RED, 2)
     picture.line(x, y + 12, x + 10, y + 2, RED, 2)

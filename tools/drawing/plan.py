@@ -138,7 +138,8 @@ def bars_of(plan):
     joined = [] if None in links else chained(links)
     for place, count in enumerate(plan.groups):
         members = joined[place] if place < len(joined) and len(joined[place]) == count else None
-        bars.append(Bar("group", f"group {place}", f"group {place}: {several(count, 'member')} enter C states together", count, members))
+        told = f"group {place}: {several(count, 'member')} enter C states together"
+        bars.append(Bar("group", f"group {place}", told, count, members))
     return bars
 
 
@@ -210,7 +211,7 @@ def draw_processor(picture, processor, x, y):
     picture.text(x + WIDE - 5, y + 13, cut(marks, WIDE - 50, 10), 10, RED, True, "end")
 
 
-def rows_of(plan, places, bars):
+def rows_of(places, bars):
     """The processors in rows, and below each row the tracks of the bars that have members in it."""
     rows = []
     for at in range(0, len(places), ACROSS):
@@ -258,7 +259,7 @@ class Box:
         path = container.path if container else "none"
         self.container = container
         places = [place for place, one in enumerate(plan.processors) if one.parent == path]
-        self.rows = rows_of(plan, places, bars)
+        self.rows = rows_of(places, bars)
         self.pad, self.head = (PAD, 24) if container else (0, 0)
         self.inner = [Box(plan, one, bars, room - 2 * PAD) for one in plan.containers if one.parent == path]
         self.width = max([len(row) * (WIDE + GAP) - GAP for row, _ in self.rows], default=0)

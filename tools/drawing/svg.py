@@ -38,16 +38,17 @@ class Picture:
         self.parts.append(f'<line x1="{x}" y1="{y}" x2="{to_x}" y2="{to_y}" stroke="{ink}" stroke-width="{stroke}"{dashes}/>')
         self.reach(max(x, to_x), max(y, to_y))
 
-    def shape(self, points, fill=INK, told="", ink="none"):
+    def shape(self, points, told):
         title = f"<title>{escape(told)}</title>" if told else ""
         where = " ".join(f"{x},{y}" for x, y in points)
-        self.parts.append(f'<polygon points="{where}" fill="{fill}" stroke="{ink}">{title}</polygon>')
+        self.parts.append(f'<polygon points="{where}" fill="{INK}">{title}</polygon>')
 
     def text(self, x, y, text, size=11, ink=INK, bold=False, anchor="start", told=""):
         weight = ' font-weight="bold"' if bold else ""
         place = f' text-anchor="{anchor}"' if anchor != "start" else ""
         title = f"<title>{escape(told)}</title>" if told else ""
-        self.parts.append(f'<text x="{x}" y="{y}" font-size="{size}" fill="{ink}"{weight}{place}>{escape(text, quote=False)}{title}</text>')
+        inside = f"{escape(text, quote=False)}{title}"
+        self.parts.append(f'<text x="{x}" y="{y}" font-size="{size}" fill="{ink}"{weight}{place}>{inside}</text>')
         if anchor == "start":
             self.reach(x + width_of(text, size), y)
 

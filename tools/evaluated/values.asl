@@ -20,9 +20,11 @@ DefinitionBlock ("", "DSDT", 2, "POWER ", "VALUES  ", 0x00000001)
                 Package (0x00) {},
                 Package (0x03) { Package (0x02) { "", NUMB } }
             })
-            Name (_PCT, Package (0x08)
+            Name (_PCT, Package (0x0A)
             {
                 \_SB.PCI0,
+                \_SB.MODL,
+                \_SB,
                 Buffer (0x11) { 0x82, 0x0C, 0x00, 0x01, 0x08, 0x00, 0x01, 0xB2, 0, 0, 0, 0, 0, 0, 0, 0x79, 0x3D },
                 Buffer (0x11) { 0x82, 0x0C, 0x00, 0x7F, 0x40, 0x01, 0x04, 0xEF, 0xCD, 0xAB, 0x89, 0x67, 0x45, 0x23, 0x01, 0x79, 0 },
                 Buffer (0x11) { 0x82, 0x0C, 0x00, 0x0A, 0x20, 0x00, 0x05, 0x10, 0, 0, 0, 0, 0, 0, 0, 0x79, 0 },
@@ -51,6 +53,11 @@ DefinitionBlock ("", "DSDT", 2, "POWER ", "VALUES  ", 0x00000001)
             Name (_HID, "ACPI0007")
             Alias (\FLDA, _PPC)
             Method (_TPC, 0, NotSerialized) { Return (0x0123456789ABCDEF) }
+        }
+        Device (MODL)
+        {
+            Name (_ADR, 0x00)
+            Device (CPU2) { Name (_HID, "ACPI0007") }
         }
     }
 }

@@ -1,5 +1,6 @@
 """Runs acpiexec on tables, and reads what it prints of its namespace and of values."""
 
+import io
 import os
 import re
 import select
@@ -9,9 +10,11 @@ import time
 
 from evaluating.parts import Fault, Name, Node, Package, Stop, say, tool
 
-MOST_PRINTED = 1 << 26
+MOST_PRINTED = 1 << 24
 NODE = re.compile(r"^ *(\d+) +(\S{4}) (\w+) +(0x[0-9a-f]+) +\w+ ?(.*)$")
-COMPLAINT = re.compile(r"(ACPI|Firmware)( BIOS)? (Error|Warning)")
+COMPLAINT = re.compile(r"(ACPI|Firmware)( BIOS)? (Error|Warning).*")
+# The lines that say something here: nodes, tables that were loaded, evaluations, values with the bytes of their buffers.
+TELLING = re.compile(r" *\d+ +\S{4} \w+ +0x|Table \[|Evaluati(ng|on of) |No object was |\s+(\[|[0-9A-F]{4,}: )|.*(Error|Warning)")
 ESCAPES = {"a": "\a", "b": "\b", "f": "\f", "n": "\n", "r": "\r", "t": "\t", "v": "\v"}
 
 
@@ -19,7 +22,9 @@ class Machine:
     """The tables in files of a folder. An evaluation may take so many seconds, and all of them together twenty times as many."""
 
     def __init__(self, tables, folder, seconds):
-        self.program, self.folder, self.seconds = tool("acpiexec"), folder, seconds
+        # By lines, so that it is known of what acpiexec died.
+        self.program = [tool("stdbuf", "coreutils"), "-oL", tool("acpiexec")]
+        self.folder, self.seconds = folder, seconds
         self.ends = time.monotonic() + 20 * seconds
         self.files = [f"{number}.aml" for number in range(len(tables))]
         for name, data in zip(self.files, tables):
@@ -27,9 +32,9 @@ class Machine:
                 file.write(data)
 
     def converse(self, commands):
-        """What acpiexec prints for these commands, line by line, and how it ended."""
-        # Values come as they are, without ACPICA's repairs, and a loop in a method ends after a quarter of the time; -dt is for speed.
-        words = ["stdbuf", "-oL", self.program, "-dr", "-dt", "-to", str(max(1, self.seconds // 4)), *self.files]
+        """What acpiexec prints for these commands, by telling lines, and how it ended."""
+        # -dr: values come as they are, without ACPICA's repairs. -dt: quicker. -to: a loop of AML ends after a quarter of the time.
+        words = [*self.program, "-dr", "-dt", "-to", str(max(1, self.seconds // 4)), *self.files]
         with open(os.path.join(self.folder, "commands"), "w+") as file:
             file.writelines(f"{command}\n" for command in [*commands, "quit"])
             file.seek(0)
@@ -45,7 +50,7 @@ class Machine:
                 pass
             run.stdout.close()
             run.wait()
-        return printed.decode("latin-1").split("\n"), ended
+        return [line.rstrip() for line in io.StringIO(printed.decode("latin-1")) if TELLING.match(line)], ended
 
     def listen(self, run):
         printed = bytearray()
@@ -73,7 +78,7 @@ class Machine:
         if loaded < len(self.files):
             say(f"acpiexec took {loaded} of {len(self.files)} tables")
         listed = next(at for at, line in enumerate(lines) if NODE.match(line))
-        return nodes, [line for line in lines[:listed] if COMPLAINT.match(line)]
+        return nodes, [match[0] for match in map(COMPLAINT.search, lines[:listed]) if match]
 
     def values(self, paths):
         """The value or the Fault of what stands at each path. Where acpiexec dies of one, a new run takes those that are left."""
@@ -150,8 +155,6 @@ def value_at(lines, at, paths):
         return None, at
     if (match := re.match(r"\[Object Reference\] = (0x[0-9a-f]+) <Node>", line)) and match[1] in paths:
         return Name(paths[match[1]]), at
-    if not line:
-        raise IndexError
     raise ValueError(f"a value that isn't data: {line[:60]}")
 
 

@@ -19,7 +19,7 @@ class Fault(str):
 
 @dataclass
 class Name:
-    """A reference to what stands at a path; the other values are of int, str, bytes, Package, and None for an element that has none."""
+    """A reference to what stands at a path. Other values are of int, str, bytes and Package; an element without one is None."""
 
     path: str
 
@@ -44,8 +44,8 @@ def say(line):
     print(f"evaluate: {line}", file=sys.stderr)
 
 
-def tool(name):
+def tool(name, package="acpica-tools"):
     found = shutil.which(name)
     if not found:
-        raise Stop(5, f"there is no {name} on the PATH; on Debian: apt-get install acpica-tools")
+        raise Stop(5, f"there is no {name} on the PATH; on Debian: apt-get install {package}")
     return found

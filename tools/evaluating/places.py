@@ -88,11 +88,11 @@ def fill(machine, nodes, places):
     values = machine.values(wanted)
     by_address = {node.address: node for node in nodes.values()}
     for path, place in wanted.items():
-        place.objects.append(object_lines(path, comment_of(nodes[path], by_address, counts), values[path], counts))
+        place.objects.append(object_lines(path, comment_of(nodes[path], by_address), values[path], counts))
     return counts
 
 
-def comment_of(node, by_address, counts):
+def comment_of(node, by_address):
     """How this object comes to its value, where it isn't by data of its own."""
     by_alias = ""
     while node.kind in ("Alias", "MethodAlias") and (match := re.search(r"\((0x[0-9a-f]+)\)", node.said)):
