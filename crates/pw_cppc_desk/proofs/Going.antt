@@ -4,7 +4,7 @@ use Rattle.pw_cppc.specs.declared.request.CppcRequest.{CppcRequest}
 use Rattle.pw_cppc_state.specs.declared.entry.CppcEntry.{CppcEntry}
 use Rattle.pw_desk.specs.Steps.{Kind}
 use Rattle.pw_cppc_desk.specs.Trying.{try_of}
-use Rattle.pw_cppc_rule.specs.Tracks.{Kept, more}
+use Rattle.pw_cppc_rule.specs.Tracks.{Keeping, more}
 use Rattle.pw_cppc_desk.specs.Went.{InTurn, OneMore, WentOnce}
 use Rattle.pw_cppc_desk.specs.declared.serving.CppcDone.{CppcDone}
 use Rattle.pw_cppc_desk.specs.declared.serving.CppcDone.TheVariants.{Answer, Full, RegisterFault, Stopped}
@@ -14,23 +14,23 @@ again x zero = refl
 again x (suc k) = ap (λ l. x ∷ l) (again x k) ∙ ap (λ n. replicate n x) (let e : suc (k + 1) ≡ suc k + 1 = omega arith in e)
 
 -- one more of the same
-pub same_more : (x : Kind CppcEntry) (o o1 o2 : Kept) (k : ℕ) → o1 ≡ more (replicate k x) o → OneMore o1 x o2 → o2 ≡ more (replicate (k + 1) x) o
+pub same_more : (x : Kind CppcEntry) (o o1 o2 : Keeping) (k : ℕ) → o1 ≡ more (replicate k x) o → OneMore o1 x o2 → o2 ≡ more (replicate (k + 1) x) o
 same_more x o o1 o2 k is next =
     next ∙ (ap (more (x ∷ [])) is ∙ ap (λ l. (l, o.1)) (append_assoc o.0 (replicate k x) (x ∷ []) ∙ ap (λ l. o.0 ++ l) (again x k)))
 
 -- none of the same
-pub none_more : (x : Kind CppcEntry) (o : Kept) → o ≡ more (replicate 0 x) o
+pub none_more : (x : Kind CppcEntry) (o : Keeping) → o ≡ more (replicate 0 x) o
 none_more x o = ap (λ l. (l, o.1)) (sym (append-nil o.0))
 
 -- whether it would have waited or not
-pub once_of : (number : ℕ) (q : CppcRequest) (r : CppcDone) (o w : Kept) → InTurn number q r o w → WentOnce number q (try_of r) o w
+pub once_of : (number : ℕ) (q : CppcRequest) (r : CppcDone) (o w : Keeping) → InTurn number q r o w → WentOnce number q (try_of r) o w
 once_of number q (Answer reply) o w t = t
 once_of number q (Full capacity) o w t = t
 once_of number q (RegisterFault done) o w t = t
 once_of number q (Stopped at) o w t = t
 
 -- where the call was made of these
-pub turn_by : (q : CppcRequest) (r : CppcDone) (n number : ℕ) (o0 o o1 o2 : Kept) → n ≡ number → o ≡ o0 → o2 ≡ o1
+pub turn_by : (q : CppcRequest) (r : CppcDone) (n number : ℕ) (o0 o o1 o2 : Keeping) → n ≡ number → o ≡ o0 → o2 ≡ o1
     → InTurn n q r o0 o1 → InTurn number q r o o2
 turn_by q r n number o0 o o1 o2 same before after w =
     subst (λ n. InTurn n q r o o2) same (subst (λ o. InTurn n q r o o2) (sym before) (subst (λ o2. InTurn n q r o0 o2) (sym after) w))

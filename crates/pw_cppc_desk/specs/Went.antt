@@ -1,4 +1,4 @@
--- The steps of the desk's machine that a seat takes in a call, as its own grow and those of joined seats stay.
+-- The steps of the desk's machine that a seat takes in a call, as its own list of them grows and those of joined seats stay.
 use Rattle.std.specs.Prelude.{◌≡◌, ℕ, ◌+◌, List, [], ◌∷◌, ◌++◌, replicate, Result, Ok, Err}
 use Rattle.pw_cppc.specs.declared.request.CppcRequest.{CppcRequest}
 use Rattle.pw_cppc_state.specs.declared.entry.CppcEntry.{CppcEntry}
@@ -7,7 +7,7 @@ use Rattle.pw_desk.specs.declared.view.View.{View}
 use Rattle.pw_desk.specs.Steps.{Kind, take_turn, find_held, slot_out, slot_back, release_with_entry, release_without_entry}
 use Rattle.pw_desk.specs.Steps.{draw_number, miss_draw, split_seat, join_seats, read_made}
 use Rattle.pw_cppc_rule.specs.declared.track.Track.{Track}
-use Rattle.pw_cppc_rule.specs.Tracks.{Kept, kept, more}
+use Rattle.pw_cppc_rule.specs.Tracks.{Keeping, keeping, more}
 use Rattle.pw_cppc_desk.specs.declared.desk.CppcSeat.{CppcSeat}
 use Rattle.pw_cppc_desk.specs.declared.requests.CppcTry.{CppcTry}
 use Rattle.pw_cppc_desk.specs.declared.requests.CppcTry.TheVariants as tried
@@ -17,27 +17,27 @@ use Rattle.pw_cppc_desk.specs.declared.seats.CppcSplitFault.{CppcSplitFault}
 use Rattle.pw_cppc_desk.specs.declared.seats.CppcSplitFault.TheVariants.{Many}
 
 -- the steps that a seat took, and those of each that was joined into it
-abbrev pub kept_in : List Track → Kept
-kept_in [] = ([], [])
-kept_in (t ∷ ts) = kept t
+abbrev pub keeping_in : List Track → Keeping
+keeping_in [] = ([], [])
+keeping_in (t ∷ ts) = keeping t
 
-abbrev pub OneMore : Kept → Kind CppcEntry → Kept → Type 0
+abbrev pub OneMore : Keeping → Kind CppcEntry → Keeping → Type 0
 OneMore old k new = new ≡ more (k ∷ []) old
 
 -- # The start
 
 -- the empty slot is taken and put back full, and the turn released
-abbrev pub Opened : Kept → ℕ → Kept → Type 0
+abbrev pub Opened : Keeping → ℕ → Keeping → Type 0
 Opened old count new = new ≡ more (slot_back ∷ release_without_entry count ∷ []) (more (slot_out ∷ []) old)
 
 -- so the first seat opened the desk, and it took no other step
-abbrev pub OpeningSteps : Kept → Type 0
+abbrev pub OpeningSteps : Keeping → Type 0
 OpeningSteps new = (count : ℕ) × Opened ([], []) count new
 
 -- # A request
 
 -- the turn was taken
-abbrev pub TookTurn : Kept → Kept → Type 0
+abbrev pub TookTurn : Keeping → Keeping → Type 0
 TookTurn old new = (first : ℕ) × OneMore old (take_turn first) new
 
 -- how it gives the turn back
@@ -47,15 +47,15 @@ Released number q (Full capacity) k = (count : ℕ) × (k ≡ release_without_en
 Released number q (RegisterFault done) k = (count : ℕ) × (k ≡ release_with_entry (entry_as number q (done + 1)) count)
 Released number q (Stopped at) k = (count : ℕ) × (k ≡ release_without_entry count)
 
-abbrev pub Served : ℕ → CppcRequest → CppcDone → Kept → Kept → Type 0
+abbrev pub Served : ℕ → CppcRequest → CppcDone → Keeping → Keeping → Type 0
 Served number q r old new = (k : Kind CppcEntry) × OneMore old k new × Released number q r k
 
 -- it takes the turn and gives it back
-abbrev pub InTurn : ℕ → CppcRequest → CppcDone → Kept → Kept → Type 0
-InTurn number q r old new = (mid : Kept) × TookTurn old mid × Served number q r mid new
+abbrev pub InTurn : ℕ → CppcRequest → CppcDone → Keeping → Keeping → Type 0
+InTurn number q r old new = (mid : Keeping) × TookTurn old mid × Served number q r mid new
 
 -- a request that doesn't wait finds the turn held, and does nothing more
-abbrev pub WentOnce : ℕ → CppcRequest → CppcTry → Kept → Kept → Type 0
+abbrev pub WentOnce : ℕ → CppcRequest → CppcTry → Keeping → Keeping → Type 0
 WentOnce number q (tried.Answer reply) old new = InTurn number q (Answer reply) old new
 WentOnce number q (tried.Busy holder) old new = OneMore old find_held new
 WentOnce number q (tried.Full capacity) old new = InTurn number q (Full capacity) old new
@@ -63,31 +63,31 @@ WentOnce number q (tried.RegisterFault done) old new = InTurn number q (Register
 WentOnce number q (tried.Stopped at) old new = InTurn number q (Stopped at) old new
 
 -- one that waits may find it held so often before
-abbrev pub TookLater : Kept → Kept → Type 0
+abbrev pub TookLater : Keeping → Keeping → Type 0
 TookLater old new = (founds : ℕ) × TookTurn (more (replicate founds find_held) old) new
 
-abbrev pub WentOn : ℕ → CppcRequest → CppcDone → Kept → Kept → Type 0
+abbrev pub WentOn : ℕ → CppcRequest → CppcDone → Keeping → Keeping → Type 0
 WentOn number q r old new = (founds : ℕ) × InTurn number q r (more (replicate founds find_held) old) new
 
 -- # Seats
 
 -- it tried so often in vain to draw a number, and then drew one, or all were given
-abbrev pub Drew : Kept → Result ℕ ℕ → Kept → Type 0
+abbrev pub Drew : Keeping → Result ℕ ℕ → Keeping → Type 0
 Drew old (Ok n) new = (k : ℕ) × OneMore (more (replicate k miss_draw) old) draw_number new
 Drew old (Err made) new = (k : ℕ) × (new ≡ more (replicate k miss_draw) old)
 
 -- a split reads, draws and splits, and the new seat took no step yet
-abbrev pub SplitSteps : ℕ → Kept → Result CppcSeat CppcSplitFault → Kept → Type 0
+abbrev pub SplitSteps : ℕ → Keeping → Result CppcSeat CppcSplitFault → Keeping → Type 0
 SplitSteps parts old (Ok seat) new =
-    (kept_in seat.badge.views ≡ ([], []))
+    (keeping_in seat.badge.views ≡ ([], []))
     × ((k : ℕ) × OneMore (more (draw_number ∷ []) (more (replicate k miss_draw) (more (read_made ∷ []) old)))
     (split_seat seat.number parts) new)
 SplitSteps parts old (Err (Many made)) new = (k : ℕ) × (new ≡ more (replicate k miss_draw) (more (read_made ∷ []) old))
 
--- the other is joined, and all that it kept stays with the seat
-abbrev pub KeepsBoth : Kept → View CppcEntry → Kept → Kept → Type 0
+-- the other is joined, and all that it had in keeping stays with the seat
+abbrev pub KeepsBoth : Keeping → View CppcEntry → Keeping → Keeping → Type 0
 KeepsBoth old other others new = new ≡ more (join_seats 0 other ∷ []) (old.0, old.1 ++ others.0 ∷ others.1)
 
 -- a join joins, and then reads
-abbrev pub JoinSteps : Kept → View CppcEntry → Kept → Kept → Type 0
-JoinSteps old other others new = (mid : Kept) × KeepsBoth old other others mid × OneMore mid read_made new
+abbrev pub JoinSteps : Keeping → View CppcEntry → Keeping → Keeping → Type 0
+JoinSteps old other others new = (mid : Keeping) × KeepsBoth old other others mid × OneMore mid read_made new

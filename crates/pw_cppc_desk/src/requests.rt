@@ -1,9 +1,9 @@
 ghost use Rattle.std.specs.Prelude.{◌≡◌, ◌<◌, length, true};
 ghost use Rattle.pw_cppc.specs.Requests.{Has};
 ghost use Rattle.pw_desk.specs.Steps.{IsIdle};
-ghost use Rattle.pw_cppc_rule.specs.Tracks.{kept};
+ghost use Rattle.pw_cppc_rule.specs.Tracks.{keeping};
 ghost use Rattle.pw_cppc_desk.specs.Views.{IsAtRest, is_met, view_in};
-ghost use Rattle.pw_cppc_desk.specs.Went.{WentOnce, kept_in};
+ghost use Rattle.pw_cppc_desk.specs.Went.{WentOnce, keeping_in};
 
 use crate::desk::{CppcDesk, CppcSeat, Raw, out};
 use crate::serving::CppcDone;
@@ -70,7 +70,7 @@ impl<R: Registers> CppcDesk<R> {
         ensures met { is_met met.new raw.new.me.0.view ≡ true }
         ensures told { Told self.now.plan self.now.capacity raw.old.me.0.view request result
             raw.new.me.0.view }
-        ensures own { WentOnce number request result (kept raw.old.me.0) (kept raw.new.me.0) }
+        ensures own { WentOnce number request result (keeping raw.old.me.0) (keeping raw.new.me.0) }
     {
         match self.take_for(raw, number) {
             Ok(work) => self.serve(raw, work, seen, number, request).as_try(),
@@ -90,7 +90,7 @@ impl<R: Registers> CppcDesk<R> {
         ensures told { Told self.now.plan self.now.capacity (view_in seat.old.badge.views) request result
             (view_in seat.new.badge.views) }
         ensures steps { WentOnce (view_in seat.old.badge.views).number request result
-            (kept_in seat.old.badge.views) (kept_in seat.new.badge.views) }
+            (keeping_in seat.old.badge.views) (keeping_in seat.new.badge.views) }
     {
         let number = seat.number;
         let mut raw: Raw<R> = out(&mut seat.badge);

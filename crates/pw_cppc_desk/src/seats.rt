@@ -6,10 +6,10 @@ ghost use Rattle.pw_desk.specs.Steps.{read_made, right_of, split_seat};
 ghost use Rattle.pw_cppc_rule.specs.Plays.{mine};
 ghost use Rattle.pw_cppc_rule.specs.Rule.{given_of};
 ghost use Rattle.pw_cppc_rule.specs.Slots.{seat_of};
-ghost use Rattle.pw_cppc_rule.specs.Tracks.{kept};
+ghost use Rattle.pw_cppc_rule.specs.Tracks.{keeping};
 ghost use Rattle.pw_cppc_desk.specs.Looks.{IsDraw, IsJoin, IsLook};
 ghost use Rattle.pw_cppc_desk.specs.Views.{view_in};
-ghost use Rattle.pw_cppc_desk.specs.Went.{Drew, JoinSteps, KeepsBoth, OneMore, SplitSteps, kept_in};
+ghost use Rattle.pw_cppc_desk.specs.Went.{Drew, JoinSteps, KeepsBoth, OneMore, SplitSteps, keeping_in};
 
 use crate::desk::{CppcDesk, CppcSeat, Raw, out};
 use crate::plays::{Asked, Cut, Draw, Glue, Look, Share};
@@ -79,7 +79,7 @@ impl<R: Registers> CppcDesk<R> {
         ensures look { IsLook raw.old.me.0.view result raw.new.me.0.view }
         ensures legal { Legal self.now.plan raw.new.me.0.view.seen }
         ensures known { Knows seat_of raw.new.me.0.view.book raw.new.me.0.view.seen }
-        ensures own { OneMore (kept raw.old.me.0) read_made (kept raw.new.me.0) }
+        ensures own { OneMore (keeping raw.old.me.0) read_made (keeping raw.new.me.0) }
     {
         self.table.shared.load::<Look<Q>>(raw, 0) as u32
     }
@@ -94,7 +94,7 @@ impl<R: Registers> CppcDesk<R> {
         ensures drawn { IfOk result (λ n. IsDraw raw.old.me.0.view read n raw.new.me.0.view) }
         ensures none { IfErr result (λ made. (made ≡ 65536)
             × (raw.new.me.0.view ≡ missed made raw.old.me.0.view)) }
-        ensures own { Drew (kept raw.old.me.0) result (kept raw.new.me.0) }
+        ensures own { Drew (keeping raw.old.me.0) result (keeping raw.new.me.0) }
     {
         let mut made = u64::from(read);
         while made < 65536 {
@@ -121,8 +121,8 @@ impl<R: Registers> CppcDesk<R> {
         ensures new { result.table_id ≡ raw.old.table_id }
         ensures left { mine raw.new.me ≡ (left_of _number _parts raw.old.me.0.view, raw.old.me.1) }
         ensures right { mine result.me ≡ (right_of _number _parts raw.old.me.0.view, []) }
-        ensures own { OneMore (kept raw.old.me.0) (split_seat _number _parts) (kept raw.new.me.0) }
-        ensures new_own { kept result.me.0 ≡ ([], []) }
+        ensures own { OneMore (keeping raw.old.me.0) (split_seat _number _parts) (keeping raw.new.me.0) }
+        ensures new_own { keeping result.me.0 ≡ ([], []) }
     {
         self.table.shared.split_seat::<Cut<Q>>(raw)
     }
@@ -135,8 +135,8 @@ impl<R: Registers> CppcDesk<R> {
         requires fewer { parts < (view_in seat.old.badge.views).parts }
         ensures owns { Owns self.now.table.shared.table_id seat.new }
         ensures split { IsSplit seat.old parts result seat.new self.now.table.shared.table_id }
-        ensures steps { SplitSteps parts (kept_in seat.old.badge.views) result
-            (kept_in seat.new.badge.views) }
+        ensures steps { SplitSteps parts (keeping_in seat.old.badge.views) result
+            (keeping_in seat.new.badge.views) }
     {
         let seen = seat.seen;
         let mut raw: Raw<R> = out(&mut seat.badge);
@@ -168,8 +168,8 @@ impl<R: Registers> CppcDesk<R> {
         requires none_told { (raw.old.me.0.view.told ≡ None) × (other.me.0.view.told ≡ None) }
         ensures id { raw.new.table_id ≡ raw.old.table_id }
         ensures joined { mine raw.new.me ≡ (joined raw.old.me.0.view other.me.0.view, raw.old.me.1) }
-        ensures own { KeepsBoth (kept raw.old.me.0) other.me.0.view (kept other.me.0)
-            (kept raw.new.me.0) }
+        ensures own { KeepsBoth (keeping raw.old.me.0) other.me.0.view (keeping other.me.0)
+            (keeping raw.new.me.0) }
     {
         self.table.shared.join_seat::<Glue>(raw, other);
     }
@@ -182,8 +182,8 @@ impl<R: Registers> CppcDesk<R> {
         ensures owns { Owns self.now.table.shared.table_id result }
         ensures joined { IsJoin (view_in a.badge.views) (view_in b.badge.views) (view_in result.badge.views) }
         ensures legal { Legal self.now.plan (view_in result.badge.views).seen }
-        ensures steps { JoinSteps (kept_in a.badge.views) (view_in b.badge.views) (kept_in b.badge.views)
-            (kept_in result.badge.views) }
+        ensures steps { JoinSteps (keeping_in a.badge.views) (view_in b.badge.views)
+            (keeping_in b.badge.views) (keeping_in result.badge.views) }
     {
         let CppcSeat {
             mut badge,

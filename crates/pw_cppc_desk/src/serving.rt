@@ -3,7 +3,7 @@ ghost use Rattle.atomic_table.specs.Table.{rest};
 ghost use Rattle.pw_cppc.specs.Requests.{Has};
 ghost use Rattle.pw_cppc_rule.specs.Plays.{IsFound, mine};
 ghost use Rattle.pw_cppc_rule.specs.Rule.{given_of};
-ghost use Rattle.pw_cppc_rule.specs.Tracks.{kept};
+ghost use Rattle.pw_cppc_rule.specs.Tracks.{keeping};
 ghost use Rattle.pw_cppc_desk.specs.Steps.{IsOut};
 ghost use Rattle.pw_cppc_desk.specs.Went.{Served};
 
@@ -51,7 +51,7 @@ impl<R: Registers> CppcDesk<R> {
         ensures seen { seen.new ≡ length raw.new.me.0.view.seen }
         ensures serves { Serves self.now.plan self.now.capacity raw.old.me.0.view request result
             raw.new.me.0.view }
-        ensures own { Served number request result (kept raw.old.me.0) (kept raw.new.me.0) }
+        ensures own { Served number request result (keeping raw.old.me.0) (keeping raw.new.me.0) }
     {
         *seen = work.len();
         if let Some(at) = work.fault_at() {

@@ -6,7 +6,7 @@ ghost use Rattle.pw_desk.specs.Steps.{release_with_entry, release_without_entry}
 ghost use Rattle.pw_cppc_rule.specs.Plays.{IsFound, IsGrown, Met, mine};
 ghost use Rattle.pw_cppc_rule.specs.Rule.{given_of};
 ghost use Rattle.pw_cppc_rule.specs.Slots.{seat_of};
-ghost use Rattle.pw_cppc_rule.specs.Tracks.{kept};
+ghost use Rattle.pw_cppc_rule.specs.Tracks.{keeping};
 ghost use Rattle.pw_cppc_desk.specs.Steps.{IsOut, LedOut};
 ghost use Rattle.pw_cppc_desk.specs.Went.{OneMore, TookTurn};
 
@@ -28,8 +28,8 @@ impl<R: Registers> CppcDesk<R> {
         ensures view { let given = given_of R.Registers self.now.table.shared.key in
             MatchResult result (λ work. LedOut R.Registers given (mine raw.old.me) work (mine raw.new.me))
             (λ holder. Met (mine raw.old.me) holder (mine raw.new.me)) }
-        ensures own { MatchResult result (λ _. TookTurn (kept raw.old.me.0) (kept raw.new.me.0))
-            (λ _. OneMore (kept raw.old.me.0) find_held (kept raw.new.me.0)) }
+        ensures own { MatchResult result (λ _. TookTurn (keeping raw.old.me.0) (keeping raw.new.me.0))
+            (λ _. OneMore (keeping raw.old.me.0) find_held (keeping raw.new.me.0)) }
     {
         let mine = u64::from(number) + 1;
         let found = self
@@ -54,8 +54,8 @@ impl<R: Registers> CppcDesk<R> {
         ensures view { let given = given_of R.Registers self.now.table.shared.key in
             MatchResult result (λ work. LedOut R.Registers given (mine raw.old.me) work (mine raw.new.me))
             (λ holder. Met (mine raw.old.me) holder (mine raw.new.me)) }
-        ensures own { MatchResult result (λ _. TookTurn (kept raw.old.me.0) (kept raw.new.me.0))
-            (λ _. OneMore (kept raw.old.me.0) find_held (kept raw.new.me.0)) }
+        ensures own { MatchResult result (λ _. TookTurn (keeping raw.old.me.0) (keeping raw.new.me.0))
+            (λ _. OneMore (keeping raw.old.me.0) find_held (keeping raw.new.me.0)) }
     {
         self.take::<Brand>(raw, number)
     }
@@ -80,8 +80,8 @@ impl<R: Registers> CppcDesk<R> {
               raw.old.me.0.view,
           rest raw.old.me.1,
         ) }
-        ensures own { OneMore (kept raw.old.me.0) (release_with_entry (entry_as
-            raw.old.me.0.view.number _request _fault) (R.faults work.regs)) (kept raw.new.me.0) }
+        ensures own { OneMore (keeping raw.old.me.0) (release_with_entry (entry_as
+            raw.old.me.0.view.number _request _fault) (R.faults work.regs)) (keeping raw.new.me.0) }
     {
         let empty = self.table.shared.exchange(raw, SLOT, Some(work));
         let None = empty else { unreachable!() };
@@ -101,8 +101,8 @@ impl<R: Registers> CppcDesk<R> {
               raw.old.me.0.view,
           rest raw.old.me.1,
         ) }
-        ensures own { OneMore (kept raw.old.me.0) (release_with_entry (entry_as
-            raw.old.me.0.view.number request fault) (R.faults work.regs)) (kept raw.new.me.0) }
+        ensures own { OneMore (keeping raw.old.me.0) (release_with_entry (entry_as
+            raw.old.me.0.view.number request fault) (R.faults work.regs)) (keeping raw.new.me.0) }
     {
         self.put::<Brand>(raw, work, request, fault);
     }
@@ -116,8 +116,8 @@ impl<R: Registers> CppcDesk<R> {
             raw.old.me.0.view work }
         ensures id { raw.new.table_id ≡ raw.old.table_id }
         ensures view { mine raw.new.me ≡ (let_go (R.faults work.regs) raw.old.me.0.view, rest raw.old.me.1) }
-        ensures own { OneMore (kept raw.old.me.0) (release_without_entry (R.faults work.regs))
-            (kept raw.new.me.0) }
+        ensures own { OneMore (keeping raw.old.me.0) (release_without_entry (R.faults work.regs))
+            (keeping raw.new.me.0) }
     {
         let empty = self.table.shared.exchange(raw, SLOT, Some(work));
         let None = empty else { unreachable!() };
@@ -133,8 +133,8 @@ impl<R: Registers> CppcDesk<R> {
             raw.old.me.0.view work }
         ensures id { raw.new.table_id ≡ raw.old.table_id }
         ensures view { mine raw.new.me ≡ (let_go (R.faults work.regs) raw.old.me.0.view, rest raw.old.me.1) }
-        ensures own { OneMore (kept raw.old.me.0) (release_without_entry (R.faults work.regs))
-            (kept raw.new.me.0) }
+        ensures own { OneMore (keeping raw.old.me.0) (release_without_entry (R.faults work.regs))
+            (keeping raw.new.me.0) }
     {
         self.leave::<Brand>(raw, work);
     }

@@ -4,10 +4,10 @@ ghost use Rattle.pw_cppc.specs.Requests.{Has};
 ghost use Rattle.pw_desk.specs.Steps.{IsIdle};
 ghost use Rattle.pw_cppc_rule.specs.Rule.{given_of};
 ghost use Rattle.pw_cppc_rule.specs.Plays.{mine};
-ghost use Rattle.pw_cppc_rule.specs.Tracks.{kept};
+ghost use Rattle.pw_cppc_rule.specs.Tracks.{keeping};
 ghost use Rattle.pw_cppc_desk.specs.Steps.{LedOn};
 ghost use Rattle.pw_cppc_desk.specs.Views.{is_met, view_in};
-ghost use Rattle.pw_cppc_desk.specs.Went.{TookLater, WentOn, kept_in};
+ghost use Rattle.pw_cppc_desk.specs.Went.{TookLater, WentOn, keeping_in};
 
 use crate::desk::{CppcDesk, CppcSeat, Raw, out};
 use crate::serving::CppcDone;
@@ -36,7 +36,7 @@ impl<R: Registers> CppcDesk<R> {
         ensures id { raw.new.table_id ≡ raw.old.table_id }
         ensures view { LedOn R.Registers (given_of R.Registers self.now.table.shared.key)
             (mine raw.old.me) result (mine raw.new.me) }
-        ensures own { TookLater (kept raw.old.me.0) (kept raw.new.me.0) }
+        ensures own { TookLater (keeping raw.old.me.0) (keeping raw.new.me.0) }
         ensures met { is_met met.new raw.new.me.0.view ≡ true }
     {
         for _ in rt.forever() {
@@ -59,7 +59,7 @@ impl<R: Registers> CppcDesk<R> {
         ensures told { Finished self.now.plan self.now.capacity (view_in seat.old.badge.views) request result
             (view_in seat.new.badge.views) }
         ensures steps { WentOn (view_in seat.old.badge.views).number request result
-            (kept_in seat.old.badge.views) (kept_in seat.new.badge.views) }
+            (keeping_in seat.old.badge.views) (keeping_in seat.new.badge.views) }
     {
         let number = seat.number;
         let mut raw: Raw<R> = out(&mut seat.badge);

@@ -1,75 +1,112 @@
--- Each step of the run is in a live seat's keeping.
-use Rattle.std.proofs.Common.{◌≡◌, ◌⊎◌, inl, inr, ⊎_elim, ℕ, zero, suc, ◌<◌, List, [], ◌∷◌, Bool, true, false, length, get_or, cond, eqb, eq-eqb, sym, refl, ap, subst, arith}
-use Rattle.std.specs.Prelude.{Contains}
+-- Each list of a run's steps stays in a seat's keeping.
+use Rattle.std.proofs.Common.{◌≡◌, ℕ, zero, suc, ◌+◌, ◌<◌, ◌≤◌, List, [], ◌∷◌, ◌++◌, length, set, sym, refl, ap, ◌∙◌, arith}
+use Rattle.std.proofs.lemmas.List.{length-append, length-set}
+use mathlib.Core.Option.{some}
 use mathlib.Core.Logic.{dite}
 use native.Mathlib.Decide.{ℕ_discrete}
-use Rattle.std.proofs.lemmas.List.{length-map}
-use Rattle.pw_regs.specs.declared.registers.Registers.{Ghosts as Registers}
+use lib.ListN.{get_elem?}
+use Rattle.pw_books.specs.Sums.{total}
+use Rattle.pw_books.proofs.Lists.{elem_below, total-append, total-set}
 use Rattle.pw_cppc_state.specs.declared.entry.CppcEntry.{CppcEntry}
 use Rattle.pw_desk.specs.declared.view.View.{View}
-use Rattle.pw_desk.specs.Machine.{Machine}
-use Rattle.pw_desk.specs.Steps.{Kind, after}
-use Rattle.pw_desk.specs.Law.{Steps, opened}
-use Rattle.pw_books.proofs.Lists.{elem_below}
+use Rattle.pw_desk.specs.Steps.{Kind, join_seats}
 use Rattle.pw_cppc_rule.specs.declared.track.Track.{Track}
-use Rattle.pw_cppc_rule.specs.Slots.{MayBe, seat_of}
-use Rattle.pw_cppc_rule.specs.Rule.{given_of}
-use Rattle.pw_cppc_rule.specs.Runs.{StepsAreKept}
-use Rattle.pw_cppc_rule.specs.Tracks.{own_kind, steps_of}
-use Rattle.pw_cppc_rule.proofs.Quiet.{some_at}
-use Rattle.pw_cppc_rule.proofs.Running.{Run, grows, never_fewer}
+use Rattle.pw_cppc_rule.specs.Tracks.{AreKept, did, fresh, in_keeping, joined_track, lists_from, own_kind, spent_track, steps_of}
+use Rattle.pw_cppc_rule.proofs.Running.{Run, steps_here, steps_there}
 
-abbrev Taken : Type 0
-Taken = ℕ × View CppcEntry × Kind CppcEntry
+-- # The lists of a run by places
 
-later : {A : Type 0} (a b : A) (l : List A) → Contains l b → Contains (a ∷ l) b
-later a b l c = (suc c.0, omega (arith, c.1), c.2)
+module _ (f : List (Kind CppcEntry) → ℕ) where
+  -- after a step at an earlier place
+  step_before : (run : Run) (j : ℕ) (v : View CppcEntry) (k : Kind CppcEntry) (i n : ℕ) → j < i
+      → total f (lists_from (run ++ (j, v, k) ∷ []) i n) ≡ total f (lists_from run i n)
+  step_before run j v k i zero low = refl
+  step_before run j v k i (suc n) low = omega (
+    arith,
+    ap f (steps_there run j i v k (λ e. omega (arith, low, e))),
+    step_before run j v k (suc i) n (omega (arith, low)),
+  )
 
-first_or_later : {A : Type 0} (a b : A) (l : List A) (k : ℕ) → k < length (a ∷ l) → get_or (a ∷ l) k b ≡ b → (a ≡ b) ⊎ Contains l b
-first_or_later a b l zero lt e = inl e
-first_or_later a b l (suc k) lt e = inr (k, omega (arith, lt), e)
+  -- after a step at one of them
+  step_within : (run : Run) (j : ℕ) (v : View CppcEntry) (k : Kind CppcEntry) (i n : ℕ) → i ≤ j → j < i + n
+      → total f (lists_from (run ++ (j, v, k) ∷ []) i n) + f (steps_of j run)
+      ≡ total f (lists_from run i n) + f (steps_of j run ++ own_kind k ∷ [])
+  step_within run j v k i zero from to = absurd (omega (arith, from, to))
+  step_within run j v k i (suc n) from to = dite (ℕ_discrete i j)
+      (λ e. omega (
+        arith,
+        ap (λ i. f (steps_of i (run ++ (j, v, k) ∷ []))) e,
+        ap (λ i. f (steps_of i run)) e,
+        ap f (steps_here run j v k),
+        step_before run j v k (suc i) n (omega (arith, e)),
+      ))
+      (λ ne. omega (
+        arith,
+        ap f (steps_there run j i v k (λ e. ne (sym e))),
+        step_within run j v k (suc i) n (omega (arith, from, ne)) (omega (arith, to)),
+      ))
 
-in_cond : (b : Bool) (a k : Kind CppcEntry) (l : List (Kind CppcEntry)) → Contains l k → Contains (cond b (a ∷ l) l) k
-in_cond true a k l c = later a k l c
-in_cond false a k l c = c
+  -- with one place more
+  place_more : (run : Run) (i n j : ℕ) → j ≡ i + n
+      → total f (lists_from run i (suc n)) ≡ total f (lists_from run i n) + f (steps_of j run)
+  place_more run i zero j is = omega (arith, ap (λ k. f (steps_of k run)) (let e : j ≡ i = omega (arith, is) in e))
+  place_more run i (suc n) j is = omega (arith, place_more run (suc i) n j (omega (arith, is)))
 
--- it is one of its seat's
-has_step : (run : Run) (x : Taken) → Contains run x → Contains (steps_of x.0 run) (own_kind x.2)
-has_step [] x c = absurd (omega (arith, c.1))
-has_step (s ∷ ss) x c = ⊎_elim
-    (λ (e : s ≡ x). subst (λ (y : Taken). Contains (steps_of x.0 (y ∷ ss)) (own_kind x.2)) (sym e)
-    (subst (λ b. Contains (cond b (own_kind x.2 ∷ steps_of x.0 ss) (steps_of x.0 ss)) (own_kind x.2)) (sym (eq-eqb x.0 x.0 refl)) (0, omega arith, refl)))
-    (λ (d : Contains ss x). in_cond (eqb s.0 x.0) (own_kind s.2) (own_kind x.2) (steps_of x.0 ss) (has_step ss x d))
-    (first_or_later s x ss c.0 c.1 c.2)
+-- # What the seats have
 
--- which has a place
-place_below : (Good : List CppcEntry → Type 0) (m : Machine CppcEntry) (run : Run) (n : Machine CppcEntry) (x : Taken) → Steps seat_of Good m run n
-    → Contains run x → x.0 < length n.views
-place_below Good m [] n x st c = absurd (omega (arith, c.1))
-place_below Good m (s ∷ ss) n x st c =
-    let next = after seat_of m s.0 s.1 s.2 in ⊎_elim
-    (λ (e : s ≡ x). omega (
-      arith,
-      elem_below m.views s.0 s.1 st.0,
-      grows m s.0 s.1 s.2,
-      never_fewer Good next ss n st.2,
-      ap (λ (y : Taken). y.0) e,
-    ))
-    (λ (d : Contains ss x). place_below Good next ss n x st.2 d)
-    (first_or_later s x ss c.0 c.1 c.2)
+module _ (run : Run) (ts : List Track) (all : AreKept run ts) (id : ℕ) (x : Track) (at : get_elem? ts id ≡ some x)
+    (own : x.own ≡ steps_of id run) (v : View CppcEntry) where
+  kept_in : (k : Kind CppcEntry) (n : ℕ) → n ≡ length ts → (f : List (Kind CppcEntry) → ℕ) → f [] ≡ 0
+      → total f (lists_from (run ++ (id, v, k) ∷ []) 0 n) + f x.own ≡ total (in_keeping f) ts + f (x.own ++ own_kind k ∷ [])
+  kept_in k n same f none =
+      let low = elem_below ts id x at in
+      omega (
+        arith,
+        step_within f run id v k 0 n (omega arith) (omega (arith, low, same)),
+        all f none,
+        ap (λ n. total f (lists_from run 0 n)) same,
+        ap f own,
+        ap (λ l. f (l ++ own_kind k ∷ [])) own,
+      )
 
-pub steps_are_kept : {R : Type 0} (by : Registers R) → StepsAreKept by
-steps_are_kept by key s o x c =
-    let low = place_below (MayBe (given_of by key)) opened o.run o.machine x o.ran c in
-    let wide = length-map s.views (λ (t : Track). t.view) in
-    let u = some_at s.views x.0 (omega (arith, low, ap (length {A = View CppcEntry}) o.views, wide)) in
-    let has = has_step o.run x c in
-    dite (ℕ_discrete u.0.view.parts 0)
-    (λ none. let k = o.joined x.0 u.0 u.1 none in (k.0, k.1, k.2, k.3, inr (steps_of x.0 o.run, k.4, has)))
-    (λ some. (
-      x.0,
-      u.0,
-      u.1,
-      omega (arith, some),
-      inl (subst (λ l. Contains l (own_kind x.2)) (sym (o.own x.0 u.0 u.1 (omega (arith, some)))) has),
-    ))
+  -- where one takes a step
+  pub kept_more : (k : Kind CppcEntry) (w : View CppcEntry) → AreKept (run ++ (id, v, k) ∷ []) (set ts id (did k w x))
+  kept_more k w f none = omega (
+    arith,
+    kept_in k (length (set ts id (did k w x))) (length-set ts id (did k w x)) f none,
+    total-set (in_keeping f) ts id x (did k w x) at,
+  )
+
+  -- where one is split, and the new seat, at the next place, took none
+  pub kept_split : (k : Kind CppcEntry) (left right : View CppcEntry) → steps_of (length ts) (run ++ (id, v, k) ∷ []) ≡ []
+      → AreKept (run ++ (id, v, k) ∷ []) (set ts id (did k left x) ++ fresh right ∷ [])
+  kept_split k left right past f none =
+      let ls = set ts id (did k left x) in let after : Run = run ++ (id, v, k) ∷ [] in
+      let wide : length (ls ++ fresh right ∷ []) ≡ suc (length ts) =
+      omega (arith, length-append ls (fresh right ∷ []), length-set ts id (did k left x)) in
+      let last : f (steps_of (length ts) after) ≡ 0 = ap f past ∙ none in
+      omega (
+        arith,
+        ap (λ n. total f (lists_from after 0 n)) wide,
+        place_more f after 0 (length ts) (length ts) (omega arith),
+        last,
+        none,
+        kept_in k (length ts) refl f none,
+        total-set (in_keeping f) ts id x (did k left x) at,
+        total-append (in_keeping f) ls (fresh right ∷ []),
+      )
+
+  -- where another is joined into it
+  pub kept_joined : (other : ℕ) (y : Track) → get_elem? (set ts id (joined_track x y)) other ≡ some y
+      → AreKept (run ++ (id, v, join_seats other y.view) ∷ []) (set (set ts id (joined_track x y)) other spent_track)
+  kept_joined other y there f none =
+      let both = joined_track x y in let ls = set ts id both in
+      omega (
+        arith,
+        kept_in (join_seats other y.view) (length (set ls other spent_track))
+            (length-set ls other spent_track ∙ length-set ts id both) f none,
+        total-set (in_keeping f) ts id x both at,
+        total-set (in_keeping f) ls other y spent_track there,
+        total-append f x.kept (y.own ∷ y.kept),
+        none,
+      )

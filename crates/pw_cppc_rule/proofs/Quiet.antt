@@ -113,7 +113,7 @@ quiet Good m inv j none (s ∷ ss) n st alone =
     subst NoFind (ap (λ b. cond b (own_kind s.2 ∷ steps_of j ss) (steps_of j ss)) (sym (eq-eqb s.0 j same)))
     ((λ f. not_find Good m inv j s.1 at none s.2 may (own_find s.2 f)), rest)
 
-pub some_at : {A : Type 0} (l : List A) (i : ℕ) → i < length l → (a : A) × (get_elem? l i ≡ some a)
+some_at : {A : Type 0} (l : List A) (i : ℕ) → i < length l → (a : A) × (get_elem? l i ≡ some a)
 some_at [] i h = absurd (omega (arith, h))
 some_at (x ∷ xs) zero h = (x, refl)
 some_at (x ∷ xs) (suc i) h = some_at xs i (omega (arith, h))

@@ -1,11 +1,8 @@
 -- A run with one more step, and the steps that a seat took in it.
-use Rattle.std.proofs.Common.{◌≡◌, ◌≢◌, ◌⊎◌, inl, inr, ⊎_elim, ℕ, zero, suc, ◌<◌, ◌≤◌, List, [], ◌∷◌, ◌++◌, Bool, true, false, length, map, set}
+use Rattle.std.proofs.Common.{◌≡◌, ◌≢◌, ◌⊎◌, inl, inr, ⊎_elim, ℕ, zero, suc, ◌≤◌, List, [], ◌∷◌, ◌++◌, Bool, true, false, length, map, set}
 use Rattle.std.proofs.Common.{cond, eqb, eq-eqb, ne_eqb, sym, refl, ap, ◌∙◌, subst, arith}
 use Rattle.std.proofs.lemmas.List.{length-append, length-set}
-use Rattle.std.specs.Prelude.{Contains}
 use mathlib.Core.Option.{some, some-injective, some-ne-none}
-use mathlib.Core.Logic.{dite}
-use native.Mathlib.Decide.{ℕ_discrete}
 use lib.ListN.{get_elem?}
 use Rattle.pw_cppc_state.specs.declared.entry.CppcEntry.{CppcEntry}
 use Rattle.pw_desk.specs.declared.view.View.{View}
@@ -13,11 +10,9 @@ use Rattle.pw_desk.specs.Machine.{Machine, spent_view}
 use Rattle.pw_desk.specs.Steps.{Kind, May, after, take_turn, find_held, slot_out, slot_back, release_with_entry, release_without_entry}
 use Rattle.pw_desk.specs.Steps.{draw_number, miss_draw, split_seat, join_seats, read_made, left_of, right_of, joined}
 use Rattle.pw_desk.specs.Law.{Steps}
-use Rattle.pw_books.proofs.Lists.{at_longer, elem_below, set_else, set_here}
+use Rattle.pw_books.proofs.Lists.{elem_below}
 use Rattle.pw_cppc_rule.specs.Slots.{seat_of}
-use Rattle.pw_cppc_rule.specs.declared.track.Track.{Track}
 use Rattle.pw_cppc_rule.specs.Tracks.{own_kind, steps_of}
-use Rattle.pw_cppc_rule.specs.Rule.{IsKept}
 
 abbrev pub Run : Type 0
 Run = List (ℕ × View CppcEntry × Kind CppcEntry)
@@ -26,7 +21,7 @@ set_wide : (l : List (View CppcEntry)) (j : ℕ) (w : View CppcEntry) → length
 set_wide l j w = omega (arith, length-set l j w)
 
 -- no seat's place goes
-pub grows : (m : Machine CppcEntry) (j : ℕ) (v : View CppcEntry) (k : Kind CppcEntry) → length m.views ≤ length (after seat_of m j v k).views
+grows : (m : Machine CppcEntry) (j : ℕ) (v : View CppcEntry) (k : Kind CppcEntry) → length m.views ≤ length (after seat_of m j v k).views
 grows m j v (take_turn count) = set_wide m.views j _
 grows m j v find_held = set_wide m.views j _
 grows m j v slot_out = set_wide m.views j _
@@ -40,7 +35,7 @@ grows m j v (split_seat n parts) =
 grows m j v (join_seats k w) = omega (arith, length-set m.views j (joined v w), length-set (set m.views j (joined v w)) k spent_view)
 grows m j v read_made = set_wide m.views j _
 
-pub never_fewer : (Good : List CppcEntry → Type 0) (m : Machine CppcEntry) (run : Run) (n : Machine CppcEntry) → Steps seat_of Good m run n → length m.views ≤ length n.views
+never_fewer : (Good : List CppcEntry → Type 0) (m : Machine CppcEntry) (run : Run) (n : Machine CppcEntry) → Steps seat_of Good m run n → length m.views ≤ length n.views
 never_fewer Good m [] n e = omega (arith, ap (λ (x : Machine CppcEntry). length x.views) e)
 never_fewer Good m (s ∷ ss) n st = omega (arith, grows m s.0 s.1 s.2, never_fewer Good (after seat_of m s.0 s.1 s.2) ss n st.2)
 
@@ -94,45 +89,3 @@ at_end [] a b zero e = inr (refl, some-injective a b e)
 at_end [] a b (suc j) e = absurd (some-ne-none b (sym e))
 at_end (x ∷ xs) a b zero e = inl e
 at_end (x ∷ xs) a b (suc j) e = ⊎_elim (λ h. inl h) (λ h. inr (ap suc h.0, h.1)) (at_end xs a b j e)
-
--- # Seats that are gone
-
-module _ (ts : List Track) (ks : List (Kind CppcEntry)) where
-  same_seat : (i : ℕ) (t u : Track) → get_elem? ts i ≡ some t → get_elem? ts i ≡ some u → t ≡ u
-  same_seat i t u a b = some-injective t u (sym a ∙ b)
-
-  -- a live seat that goes on keeps what it kept
-  pub kept_after : (id : ℕ) (x y : Track) → get_elem? ts id ≡ some x → 0 < y.view.parts → (Contains x.joined ks → Contains y.joined ks)
-      → IsKept ts ks → IsKept (set ts id y) ks
-  kept_after id x y at lives keeps h = dite (ℕ_discrete h.0 id)
-      (λ e. (
-        id,
-        y,
-        set_here ts id y (elem_below ts id x at),
-        lives,
-        keeps (subst (λ (t : Track). Contains t.joined ks) (same_seat id h.1 x (sym (ap (get_elem? ts) e) ∙ h.2) at) h.4),
-      ))
-      (λ ne. (h.0, h.1, set_else ts id h.0 y ne ∙ h.2, h.3, h.4))
-
-  pub kept_beside : (u : Track) → IsKept ts ks → IsKept (ts ++ u ∷ []) ks
-  kept_beside u h = (h.0, h.1, at_longer ts (u ∷ []) h.0 h.1 h.2, h.3, h.4)
-
-  -- a seat that is joined into another goes, and the other keeps what it had
-  module _ (id other : ℕ) (x y both gone : Track) (at : get_elem? ts id ≡ some x) (there : get_elem? ts other ≡ some y) (apart : other ≢ id)
-      (lives : 0 < both.view.parts) where
-    pub kept_in_both : Contains both.joined ks → IsKept (set (set ts id both) other gone) ks
-    kept_in_both h = (
-      id,
-      both,
-      set_else (set ts id both) other id gone (λ e. apart (sym e)) ∙ set_here ts id both (elem_below ts id x at),
-      lives,
-      h,
-    )
-
-    pub kept_joined : (Contains x.joined ks → Contains both.joined ks) → (Contains y.joined ks → Contains both.joined ks)
-        → IsKept ts ks → IsKept (set (set ts id both) other gone) ks
-    kept_joined first second h = dite (ℕ_discrete h.0 other)
-        (λ e. kept_in_both (second (subst (λ (t : Track). Contains t.joined ks) (same_seat other h.1 y (sym (ap (get_elem? ts) e) ∙ h.2) there) h.4)))
-        (λ far. dite (ℕ_discrete h.0 id)
-        (λ e. kept_in_both (first (subst (λ (t : Track). Contains t.joined ks) (same_seat id h.1 x (sym (ap (get_elem? ts) e) ∙ h.2) at) h.4)))
-        (λ ne. (h.0, h.1, set_else (set ts id both) other h.0 gone far ∙ (set_else ts id h.0 both ne ∙ h.2), h.3, h.4)))

@@ -13,7 +13,7 @@ use Rattle.pw_desk.specs.Steps.{miss_draw, read_made}
 use Rattle.pw_desk.specs.Steps.{IsSpare, drawn, entered, in_hand, in_place, led, let_go, looked, met_with, missed}
 use Rattle.pw_desk.specs.Told.{MeetsOther}
 use Rattle.pw_cppc_rule.specs.declared.track.Track.{Track}
-use Rattle.pw_cppc_rule.specs.Tracks.{kept, more}
+use Rattle.pw_cppc_rule.specs.Tracks.{keeping, more}
 use Rattle.pw_cppc_rule.specs.Slots.{Given, IsHeld, seat_of}
 
 -- a seat's view, and the slot where it has it in hand
@@ -32,7 +32,7 @@ Tells R = Step (Option (Worked R)) → Tracked R → ℕ → Tracked R → Type 
 
 -- these are its steps more
 abbrev pub Grew : {R : Type 0} → Tracked R → List (Kind CppcEntry) → Tracked R → Type 0
-Grew m ks n = kept n.0 ≡ more ks (kept m.0)
+Grew m ks n = keeping n.0 ≡ more ks (keeping m.0)
 
 abbrev pub Plays : Type 0 → Type 1
 Plays R = Step (Option (Worked R)) → Mine R → ℕ → Mine R → Type 0

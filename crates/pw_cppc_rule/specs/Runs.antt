@@ -1,5 +1,5 @@
 -- What the run tells that the table's rule speaks of.
-use Rattle.std.specs.Prelude.{◌≡◌, ◌≢◌, ◌⊎◌, ℕ, suc, ◌<◌, List, [], ◌∷◌, Option, Some, Contains}
+use Rattle.std.specs.Prelude.{◌≡◌, ◌≢◌, ◌⊎◌, ℕ, suc, ◌<◌, List, [], ◌∷◌, Option, Some}
 use mathlib.Core.Option.{some}
 use lib.ListN.{get_elem?}
 use Rattle.atomic_table.specs.Table.{State}
@@ -13,7 +13,6 @@ use Rattle.pw_desk.specs.Law.{opened}
 use Rattle.pw_cppc_rule.specs.declared.limit.Limit.{Limit}
 use Rattle.pw_cppc_rule.specs.declared.track.Track.{Track}
 use Rattle.pw_cppc_rule.specs.Slots.{MayBe, seat_of}
-use Rattle.pw_cppc_rule.specs.Tracks.{own_kind}
 use Rattle.pw_cppc_rule.specs.Rule.{Ruled, given_of}
 
 -- a step that finds the turn held
@@ -47,13 +46,6 @@ module _ {R : Type 0} (by : Registers R) where
   abbrev pub RuleHasInvariant : Type 0
   RuleHasInvariant = (key : Limit R) (s : State (Option (Worked R)) Track) (o : Ruled by key s)
       → Invariant seat_of (MayBe (given_of by key)) o.machine
-
-  -- Each step of the run stands in a live seat's keeping: among its own, or among those of a seat that was joined into it, or into
-  -- one of these.
-  abbrev pub StepsAreKept : Type 0
-  StepsAreKept = (key : Limit R) (s : State (Option (Worked R)) Track) (o : Ruled by key s) (x : ℕ × View CppcEntry × Kind CppcEntry)
-      → Contains o.run x → (i : ℕ) × (t : Track) × (get_elem? s.views i ≡ some t) × (0 < t.view.parts)
-      × (Contains t.own (own_kind x.2) ⊎ ((ks : List (Kind CppcEntry)) × Contains t.joined ks × Contains ks (own_kind x.2)))
 
   -- the seat that a seat met is the one that it last found with the turn
   abbrev pub MetWasFound : Type 0

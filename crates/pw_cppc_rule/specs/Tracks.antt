@@ -1,5 +1,6 @@
--- A seat of the table: its view, the steps of the desk's machine that it took itself, and those of seats that were joined into it.
-use Rattle.std.specs.Prelude.{ℕ, List, [], ◌∷◌, ◌++◌, ◌==◌, cond}
+-- A seat of the table: its view, and the steps of the desk's machine that it took itself, or that seats took which were joined into it.
+use Rattle.std.specs.Prelude.{◌≡◌, ℕ, zero, suc, ◌+◌, List, [], ◌∷◌, ◌++◌, ◌==◌, cond, length}
+use Rattle.pw_books.specs.Sums.{total}
 use Rattle.pw_cppc_state.specs.declared.entry.CppcEntry.{CppcEntry}
 use Rattle.pw_desk.specs.declared.view.View.{View}
 use Rattle.pw_desk.specs.Machine.{spent_view}
@@ -26,24 +27,13 @@ abbrev pub steps_of : ℕ → List (ℕ × View CppcEntry × Kind CppcEntry) →
 steps_of j [] = []
 steps_of j (s ∷ ss) = cond (s.0 == j) (own_kind s.2 ∷ steps_of j ss) (steps_of j ss)
 
--- the steps in a seat's keeping: its own, and a list of those of each seat that was joined into it, or into one of these
-abbrev pub Kept : Type 0
-Kept = List (Kind CppcEntry) × List (List (Kind CppcEntry))
-
-abbrev pub kept : Track → Kept
-kept t = (t.own, t.joined)
-
--- with these steps more of its own
-abbrev pub more : List (Kind CppcEntry) → Kept → Kept
-more ks k = (k.0 ++ ks, k.1)
-
 -- it took no step yet
 abbrev pub fresh : View CppcEntry → Track
-fresh v = record { view = v; own = []; joined = [] }
+fresh v = record { view = v; own = []; kept = [] }
 
 -- it took one more, and has this view
 abbrev pub did : Kind CppcEntry → View CppcEntry → Track → Track
-did k w t = record { view = w; own = t.own ++ own_kind k ∷ []; joined = t.joined }
+did k w t = record t { view = w; own = t.own ++ own_kind k ∷ [] }
 
 -- # Seats that are split and joined
 
@@ -54,7 +44,36 @@ abbrev pub right_track : ℕ → ℕ → Track → Track
 right_track n parts t = fresh (right_of n parts t.view)
 
 abbrev pub joined_track : Track → Track → Track
-joined_track t u = record (did (join_seats 0 u.view) (joined t.view u.view) t) { joined = t.joined ++ u.own ∷ u.joined }
+joined_track t u = record (did (join_seats 0 u.view) (joined t.view u.view) t) { kept = t.kept ++ u.own ∷ u.kept }
 
 abbrev pub spent_track : Track
 spent_track = fresh spent_view
+
+-- # What a seat has in keeping
+
+-- its own steps, and the lists of the seats that were joined into it
+abbrev pub Keeping : Type 0
+Keeping = List (Kind CppcEntry) × List (List (Kind CppcEntry))
+
+abbrev pub keeping : Track → Keeping
+keeping t = (t.own, t.kept)
+
+-- with these steps more of its own
+abbrev pub more : List (Kind CppcEntry) → Keeping → Keeping
+more ks k = (k.0 ++ ks, k.1)
+
+-- # Who has the steps of a run in keeping
+
+-- of a run the lists of so many places, from this one on
+abbrev pub lists_from : List (ℕ × View CppcEntry × Kind CppcEntry) → ℕ → ℕ → List (List (Kind CppcEntry))
+lists_from run j zero = []
+lists_from run j (suc n) = steps_of j run ∷ lists_from run (suc j) n
+
+-- what is counted of the seat's own list, and of those of the seats that were joined into it
+abbrev pub in_keeping : (List (Kind CppcEntry) → ℕ) → Track → ℕ
+in_keeping f t = f t.own + total f t.kept
+
+-- The lists of the run by places are those that the seats have in keeping, each as often: whatever is counted of a list, so that
+-- one without a step counts nothing, both have as much of it.
+abbrev pub AreKept : List (ℕ × View CppcEntry × Kind CppcEntry) → List Track → Type 0
+AreKept run ts = (f : List (Kind CppcEntry) → ℕ) → f [] ≡ 0 → total f (lists_from run 0 (length ts)) ≡ total (in_keeping f) ts
