@@ -175,7 +175,6 @@ impl<R: Registers> Coordinator<R> {
             .exchange(raw, last, Some(Load::Log(journal)));
         let None = empty else { unreachable!() };
         self.table.shared.store::<Put<Q>>(raw, last + 1, 0);
-        self.wake(last + 1);
     }
 
     /// The same with what it is about picked.
@@ -222,7 +221,6 @@ impl<R: Registers> Coordinator<R> {
             .exchange(raw, last, Some(Load::Log(journal)));
         let None = empty else { unreachable!() };
         self.table.shared.store::<Leave<Q>>(raw, last + 1, 0);
-        self.wake(last + 1);
     }
 
     /// The same with what it is about picked.
@@ -254,6 +252,5 @@ impl<R: Registers> Coordinator<R> {
         let empty = self.table.shared.exchange(raw, slot, Some(load));
         let None = empty else { unreachable!() };
         self.table.shared.store::<Give>(raw, slot + 1, 0);
-        self.wake(slot + 1);
     }
 }
