@@ -108,7 +108,7 @@ module _ {R : Type 0} (by : Registers R) where
 
   abbrev pub NumberIsRead : Type 0
   NumberIsRead = (n : ℕ) (key : Limit R) (id : ℕ) (m : Tracked R) → IsIdle m.0.view
-      → Allows (Ruled by key) n id m 0 (λ y. y) (looked_step (step n 0 0 0 none) m)
+      → Allows (Ruled by key) n id m 0 (λ y. y) (looked_step key.plan (step n 0 0 0 none) m)
 
   abbrev pub SeatIsSplit : Type 0
   SeatIsSplit = (key : Limit R) (id : ℕ) (x : Track) (n parts : ℕ) → IsIdle x.view → x.view.told ≡ None → IsSpare n x.view → 0 < parts

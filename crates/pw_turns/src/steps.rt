@@ -99,9 +99,11 @@ impl<R: Registers> Coordinator<R> {
         ensures view { let given = given_of R.Registers self.now.table.shared.key in
             let promise = promise_of R.Registers self.now.table.shared.key in
             let last = record_count self.now.plan in
-            MatchResult result (λ journal. LedOut R.Registers promise given _request last (mine raw.old.me) journal (mine raw.new.me))
+            MatchResult result
+            (λ journal. LedOut R.Registers promise given _request last (mine raw.old.me) journal (mine raw.new.me))
             (λ holder. Met Q.gives_up _request (mine raw.old.me) last holder (mine raw.new.me)) }
-        ensures own { MatchResult result (λ _. OneMore raw.old.me.0.own (take_journal _request) raw.new.me.0.own)
+        ensures own { MatchResult result
+            (λ _. OneMore raw.old.me.0.own (take_journal _request) raw.new.me.0.own)
             (λ _. OneMore raw.old.me.0.own (find_journal_held _request Q.gives_up) raw.new.me.0.own) }
     {
         let last = self.counts.records as usize;
@@ -134,9 +136,11 @@ impl<R: Registers> Coordinator<R> {
         ensures view { let given = given_of R.Registers self.now.table.shared.key in
             let promise = promise_of R.Registers self.now.table.shared.key in
             let last = record_count self.now.plan in
-            MatchResult result (λ journal. LedOut R.Registers promise given request last (mine raw.old.me) journal (mine raw.new.me))
+            MatchResult result
+            (λ journal. LedOut R.Registers promise given request last (mine raw.old.me) journal (mine raw.new.me))
             (λ holder. Met true request (mine raw.old.me) last holder (mine raw.new.me)) }
-        ensures own { MatchResult result (λ _. OneMore raw.old.me.0.own (take_journal request) raw.new.me.0.own)
+        ensures own { MatchResult result
+            (λ _. OneMore raw.old.me.0.own (take_journal request) raw.new.me.0.own)
             (λ _. OneMore raw.old.me.0.own (find_journal_held request true) raw.new.me.0.own) }
     {
         self.lead::<Brand>(raw, number, request)
@@ -209,10 +213,13 @@ impl<R: Registers> Coordinator<R> {
         requires count { Q.count ≡ R.faults journal.regs }
         requires out { IsOut (record_count self.now.plan) (mine raw.old.me) }
         requires found { let key = self.now.table.shared.key in
-            IsFound R.Registers (promise_of R.Registers key) (given_of R.Registers key) raw.old.me.0.view journal }
+            let promise = promise_of R.Registers key in
+            IsFound R.Registers promise (given_of R.Registers key) raw.old.me.0.view journal }
         ensures id { raw.new.table_id ≡ raw.old.table_id }
-        ensures view { mine raw.new.me ≡ (let_go (R.faults journal.regs) raw.old.me.0.view, rest raw.old.me.1) }
-        ensures own { OneMore raw.old.me.0.own (release_without_entry (R.faults journal.regs)) raw.new.me.0.own }
+        ensures view { mine raw.new.me
+            ≡ (let_go (R.faults journal.regs) raw.old.me.0.view, rest raw.old.me.1) }
+        ensures own { let count = R.faults journal.regs in
+            OneMore raw.old.me.0.own (release_without_entry count) raw.new.me.0.own }
     {
         let last = self.counts.records as usize;
         let empty = self
@@ -228,10 +235,13 @@ impl<R: Registers> Coordinator<R> {
         requires id { raw.old.table_id ≡ self.now.table.shared.table_id }
         requires out { IsOut (record_count self.now.plan) (mine raw.old.me) }
         requires found { let key = self.now.table.shared.key in
-            IsFound R.Registers (promise_of R.Registers key) (given_of R.Registers key) raw.old.me.0.view journal }
+            let promise = promise_of R.Registers key in
+            IsFound R.Registers promise (given_of R.Registers key) raw.old.me.0.view journal }
         ensures id { raw.new.table_id ≡ raw.old.table_id }
-        ensures view { mine raw.new.me ≡ (let_go (R.faults journal.regs) raw.old.me.0.view, rest raw.old.me.1) }
-        ensures own { OneMore raw.old.me.0.own (release_without_entry (R.faults journal.regs)) raw.new.me.0.own }
+        ensures view { mine raw.new.me
+            ≡ (let_go (R.faults journal.regs) raw.old.me.0.view, rest raw.old.me.1) }
+        ensures own { let count = R.faults journal.regs in
+            OneMore raw.old.me.0.own (release_without_entry count) raw.new.me.0.own }
     {
         self.leave::<Brand>(raw, journal);
     }
