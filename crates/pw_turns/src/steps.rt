@@ -2,12 +2,14 @@ ghost use Rattle.std.specs.Prelude.{◌≡◌, ◌<◌, ◌++◌, ◌∷◌, [],
 ghost use Rattle.atomic_table.specs.Table.{rest};
 ghost use Rattle.pw_parts.specs.Records.{record_count};
 ghost use Rattle.pw_model.specs.History.{replay};
-ghost use Rattle.pw_machine.specs.Steps.{Asks, HoldsAs, entered, freed, let_go};
+ghost use Rattle.pw_machine.specs.Steps.{Asks, HoldsAs, entered, find_journal_held, find_record_held, freed};
+ghost use Rattle.pw_machine.specs.Steps.{let_go, release_with_entry, release_without_entry, take_journal};
 ghost use Rattle.pw_rule.specs.Loads.{IsRecordOf};
 ghost use Rattle.pw_rule.specs.Moves.{TellsNext};
-ghost use Rattle.pw_rule.specs.Plays.{IsFound, IsGrown, Met};
+ghost use Rattle.pw_rule.specs.Plays.{IsFound, IsGrown, Met, mine};
 ghost use Rattle.pw_rule.specs.Rule.{given_of, promise_of};
 ghost use Rattle.pw_turns.specs.Asked.{entry_as};
+ghost use Rattle.pw_turns.specs.Went.{FreedOne, OneMore, TookOne};
 ghost use Rattle.pw_turns.specs.Steps.{IsOut, LedOut, MetRecord, TookOut, load_part};
 
 use crate::coordinator::{Coordinator, Raw};
@@ -30,14 +32,16 @@ impl<R: Registers> Coordinator<R> {
         requires id { raw.old.table_id ≡ self.now.table.shared.table_id }
         requires given { Q.given ≡ Some (given_of R.Registers self.now.table.shared.key) }
         requires asked { Q.request ≡ _request }
-        requires asks { Asks self.now.plan raw.old.me.0 _request }
+        requires asks { Asks self.now.plan raw.old.me.0.view _request }
         requires turn { turn < record_count self.now.plan }
-        requires next { TellsNext self.now.plan raw.old.me.0 _request turn }
-        requires number { (number ≡ raw.old.me.0.number) × (number < 65536) }
+        requires next { TellsNext self.now.plan raw.old.me.0.view _request turn }
+        requires number { (number ≡ raw.old.me.0.view.number) × (number < 65536) }
         ensures id { raw.new.table_id ≡ raw.old.table_id }
         ensures view { let given = given_of R.Registers self.now.table.shared.key in
-            MatchResult result (λ load. TookOut given _request raw.old.me turn load raw.new.me)
-            (λ holder. MetRecord Q.gives_up given _request raw.old.me turn holder raw.new.me) }
+            MatchResult result (λ load. TookOut given _request (mine raw.old.me) turn load (mine raw.new.me))
+            (λ holder. MetRecord Q.gives_up given _request (mine raw.old.me) turn holder (mine raw.new.me)) }
+        ensures own { MatchResult result (λ _. TookOne turn _request raw.old.me.0.own raw.new.me.0.own)
+            (λ _. OneMore raw.old.me.0.own (find_record_held turn _request Q.gives_up) raw.new.me.0.own) }
     {
         let word = turn as usize + 1;
         let mine = u64::from(number) + 1;
@@ -63,14 +67,16 @@ impl<R: Registers> Coordinator<R> {
         request: Request,
     ) -> Result<Load<R>, u32>
         requires id { raw.old.table_id ≡ self.now.table.shared.table_id }
-        requires asks { Asks self.now.plan raw.old.me.0 request }
+        requires asks { Asks self.now.plan raw.old.me.0.view request }
         requires turn { turn < record_count self.now.plan }
-        requires next { TellsNext self.now.plan raw.old.me.0 request turn }
-        requires number { (number ≡ raw.old.me.0.number) × (number < 65536) }
+        requires next { TellsNext self.now.plan raw.old.me.0.view request turn }
+        requires number { (number ≡ raw.old.me.0.view.number) × (number < 65536) }
         ensures id { raw.new.table_id ≡ raw.old.table_id }
         ensures view { let given = given_of R.Registers self.now.table.shared.key in
-            MatchResult result (λ load. TookOut given request raw.old.me turn load raw.new.me)
-            (λ holder. MetRecord true given request raw.old.me turn holder raw.new.me) }
+            MatchResult result (λ load. TookOut given request (mine raw.old.me) turn load (mine raw.new.me))
+            (λ holder. MetRecord true given request (mine raw.old.me) turn holder (mine raw.new.me)) }
+        ensures own { MatchResult result (λ _. TookOne turn request raw.old.me.0.own raw.new.me.0.own)
+            (λ _. OneMore raw.old.me.0.own (find_record_held turn request true) raw.new.me.0.own) }
     {
         self.take::<Brand>(raw, turn, number, request)
     }
@@ -86,15 +92,19 @@ impl<R: Registers> Coordinator<R> {
         requires given { Q.given ≡ Some (given_of R.Registers self.now.table.shared.key) }
         requires promise { Q.promise ≡ promise_of R.Registers self.now.table.shared.key }
         requires asked { Q.request ≡ _request }
-        requires asks { Asks self.now.plan raw.old.me.0 _request }
-        requires next { TellsNext self.now.plan raw.old.me.0 _request (record_count self.now.plan) }
-        requires number { (number ≡ raw.old.me.0.number) × (number < 65536) }
+        requires asks { Asks self.now.plan raw.old.me.0.view _request }
+        requires next { TellsNext self.now.plan raw.old.me.0.view _request (record_count self.now.plan) }
+        requires number { (number ≡ raw.old.me.0.view.number) × (number < 65536) }
         ensures id { raw.new.table_id ≡ raw.old.table_id }
         ensures view { let given = given_of R.Registers self.now.table.shared.key in
             let promise = promise_of R.Registers self.now.table.shared.key in
             let last = record_count self.now.plan in
-            MatchResult result (λ journal. LedOut R.Registers promise given _request last raw.old.me journal raw.new.me)
-            (λ holder. Met Q.gives_up _request raw.old.me last holder raw.new.me) }
+            MatchResult result
+            (λ journal. LedOut R.Registers promise given _request last (mine raw.old.me) journal (mine raw.new.me))
+            (λ holder. Met Q.gives_up _request (mine raw.old.me) last holder (mine raw.new.me)) }
+        ensures own { MatchResult result
+            (λ _. OneMore raw.old.me.0.own (take_journal _request) raw.new.me.0.own)
+            (λ _. OneMore raw.old.me.0.own (find_journal_held _request Q.gives_up) raw.new.me.0.own) }
     {
         let last = self.counts.records as usize;
         let mine = u64::from(number) + 1;
@@ -119,15 +129,19 @@ impl<R: Registers> Coordinator<R> {
         request: Request,
     ) -> Result<Held<Journal<R>>, u32>
         requires id { raw.old.table_id ≡ self.now.table.shared.table_id }
-        requires asks { Asks self.now.plan raw.old.me.0 request }
-        requires next { TellsNext self.now.plan raw.old.me.0 request (record_count self.now.plan) }
-        requires number { (number ≡ raw.old.me.0.number) × (number < 65536) }
+        requires asks { Asks self.now.plan raw.old.me.0.view request }
+        requires next { TellsNext self.now.plan raw.old.me.0.view request (record_count self.now.plan) }
+        requires number { (number ≡ raw.old.me.0.view.number) × (number < 65536) }
         ensures id { raw.new.table_id ≡ raw.old.table_id }
         ensures view { let given = given_of R.Registers self.now.table.shared.key in
             let promise = promise_of R.Registers self.now.table.shared.key in
             let last = record_count self.now.plan in
-            MatchResult result (λ journal. LedOut R.Registers promise given request last raw.old.me journal raw.new.me)
-            (λ holder. Met true request raw.old.me last holder raw.new.me) }
+            MatchResult result
+            (λ journal. LedOut R.Registers promise given request last (mine raw.old.me) journal (mine raw.new.me))
+            (λ holder. Met true request (mine raw.old.me) last holder (mine raw.new.me)) }
+        ensures own { MatchResult result
+            (λ _. OneMore raw.old.me.0.own (take_journal request) raw.new.me.0.own)
+            (λ _. OneMore raw.old.me.0.own (find_journal_held request true) raw.new.me.0.own) }
     {
         self.lead::<Brand>(raw, number, request)
     }
@@ -142,19 +156,21 @@ impl<R: Registers> Coordinator<R> {
     )
         requires id { raw.old.table_id ≡ self.now.table.shared.table_id }
         requires given { Q.given ≡ Some (given_of R.Registers self.now.table.shared.key) }
-        requires entry { Q.entry ≡ entry_as raw.old.me.0.number _request _fault }
+        requires entry { Q.entry ≡ entry_as raw.old.me.0.view.number _request _fault }
         requires count { Q.count ≡ R.faults journal.regs }
-        requires out { IsOut (record_count self.now.plan) raw.old.me }
+        requires out { IsOut (record_count self.now.plan) (mine raw.old.me) }
         requires grown { let key = self.now.table.shared.key in
-            IsGrown R.Registers (promise_of R.Registers key) (given_of R.Registers key) raw.old.me.0
-            (entry_as raw.old.me.0.number _request _fault) journal }
+            IsGrown R.Registers (promise_of R.Registers key) (given_of R.Registers key) raw.old.me.0.view
+            (entry_as raw.old.me.0.view.number _request _fault) journal }
         ensures id { raw.new.table_id ≡ raw.old.table_id }
-        ensures view { let e = entry_as raw.old.me.0.number _request _fault in
-            raw.new.me ≡ (
-              entered self.now.plan (replay self.now.plan (raw.old.me.0.seen ++ e ∷ [])) e
-                  (R.faults journal.regs) raw.old.me.0,
+        ensures view { let e = entry_as raw.old.me.0.view.number _request _fault in
+            mine raw.new.me ≡ (
+              entered self.now.plan (replay self.now.plan (raw.old.me.0.view.seen ++ e ∷ [])) e
+                  (R.faults journal.regs) raw.old.me.0.view,
               rest raw.old.me.1,
             ) }
+        ensures own { let e = entry_as raw.old.me.0.view.number _request _fault in
+            OneMore raw.old.me.0.own (release_with_entry e (R.faults journal.regs)) raw.new.me.0.own }
     {
         let last = self.counts.records as usize;
         let empty = self
@@ -163,7 +179,6 @@ impl<R: Registers> Coordinator<R> {
             .exchange(raw, last, Some(Load::Log(journal)));
         let None = empty else { unreachable!() };
         self.table.shared.store::<Put<Q>>(raw, last + 1, 0);
-        self.wake(last + 1);
     }
 
     /// The same with what it is about picked.
@@ -175,17 +190,19 @@ impl<R: Registers> Coordinator<R> {
         fault: u32,
     )
         requires id { raw.old.table_id ≡ self.now.table.shared.table_id }
-        requires out { IsOut (record_count self.now.plan) raw.old.me }
+        requires out { IsOut (record_count self.now.plan) (mine raw.old.me) }
         requires grown { let key = self.now.table.shared.key in
-            IsGrown R.Registers (promise_of R.Registers key) (given_of R.Registers key) raw.old.me.0
-            (entry_as raw.old.me.0.number request fault) journal }
+            IsGrown R.Registers (promise_of R.Registers key) (given_of R.Registers key) raw.old.me.0.view
+            (entry_as raw.old.me.0.view.number request fault) journal }
         ensures id { raw.new.table_id ≡ raw.old.table_id }
-        ensures view { let e = entry_as raw.old.me.0.number request fault in
-            raw.new.me ≡ (
-              entered self.now.plan (replay self.now.plan (raw.old.me.0.seen ++ e ∷ [])) e
-                  (R.faults journal.regs) raw.old.me.0,
+        ensures view { let e = entry_as raw.old.me.0.view.number request fault in
+            mine raw.new.me ≡ (
+              entered self.now.plan (replay self.now.plan (raw.old.me.0.view.seen ++ e ∷ [])) e
+                  (R.faults journal.regs) raw.old.me.0.view,
               rest raw.old.me.1,
             ) }
+        ensures own { let e = entry_as raw.old.me.0.view.number request fault in
+            OneMore raw.old.me.0.own (release_with_entry e (R.faults journal.regs)) raw.new.me.0.own }
     {
         self.put::<Brand>(raw, journal, request, fault);
     }
@@ -194,11 +211,15 @@ impl<R: Registers> Coordinator<R> {
     pub(crate) fn leave<Q: Asked>(&self, raw: &mut Raw<R>, journal: Held<Journal<R>>)
         requires id { raw.old.table_id ≡ self.now.table.shared.table_id }
         requires count { Q.count ≡ R.faults journal.regs }
-        requires out { IsOut (record_count self.now.plan) raw.old.me }
+        requires out { IsOut (record_count self.now.plan) (mine raw.old.me) }
         requires found { let key = self.now.table.shared.key in
-            IsFound R.Registers (promise_of R.Registers key) (given_of R.Registers key) raw.old.me.0 journal }
+            let promise = promise_of R.Registers key in
+            IsFound R.Registers promise (given_of R.Registers key) raw.old.me.0.view journal }
         ensures id { raw.new.table_id ≡ raw.old.table_id }
-        ensures view { raw.new.me ≡ (let_go (R.faults journal.regs) raw.old.me.0, rest raw.old.me.1) }
+        ensures view { mine raw.new.me
+            ≡ (let_go (R.faults journal.regs) raw.old.me.0.view, rest raw.old.me.1) }
+        ensures own { let count = R.faults journal.regs in
+            OneMore raw.old.me.0.own (release_without_entry count) raw.new.me.0.own }
     {
         let last = self.counts.records as usize;
         let empty = self
@@ -207,17 +228,20 @@ impl<R: Registers> Coordinator<R> {
             .exchange(raw, last, Some(Load::Log(journal)));
         let None = empty else { unreachable!() };
         self.table.shared.store::<Leave<Q>>(raw, last + 1, 0);
-        self.wake(last + 1);
     }
 
     /// The same with what it is about picked.
     pub(crate) fn leave_for(&self, raw: &mut Raw<R>, journal: Held<Journal<R>>)
         requires id { raw.old.table_id ≡ self.now.table.shared.table_id }
-        requires out { IsOut (record_count self.now.plan) raw.old.me }
+        requires out { IsOut (record_count self.now.plan) (mine raw.old.me) }
         requires found { let key = self.now.table.shared.key in
-            IsFound R.Registers (promise_of R.Registers key) (given_of R.Registers key) raw.old.me.0 journal }
+            let promise = promise_of R.Registers key in
+            IsFound R.Registers promise (given_of R.Registers key) raw.old.me.0.view journal }
         ensures id { raw.new.table_id ≡ raw.old.table_id }
-        ensures view { raw.new.me ≡ (let_go (R.faults journal.regs) raw.old.me.0, rest raw.old.me.1) }
+        ensures view { mine raw.new.me
+            ≡ (let_go (R.faults journal.regs) raw.old.me.0.view, rest raw.old.me.1) }
+        ensures own { let count = R.faults journal.regs in
+            OneMore raw.old.me.0.own (release_without_entry count) raw.new.me.0.own }
     {
         self.leave::<Brand>(raw, journal);
     }
@@ -226,17 +250,17 @@ impl<R: Registers> Coordinator<R> {
     pub(crate) fn free(&self, raw: &mut Raw<R>, turn: u32, load: Load<R>)
         requires id { raw.old.table_id ≡ self.now.table.shared.table_id }
         requires turn { turn < record_count self.now.plan }
-        requires out { IsOut turn raw.old.me }
+        requires out { IsOut turn (mine raw.old.me) }
         requires holds { IsRecordOf self.now.plan turn (load_part load) load }
-        requires noted { HoldsAs turn (load_part load) raw.old.me.0.held }
-        requires releasing { (raw.old.me.0.releasing ≡ true) × (raw.old.me.0.out ≡ []) }
+        requires noted { HoldsAs turn (load_part load) raw.old.me.0.view.held }
+        requires releasing { (raw.old.me.0.view.releasing ≡ true) × (raw.old.me.0.view.out ≡ []) }
         ensures id { raw.new.table_id ≡ raw.old.table_id }
-        ensures view { raw.new.me ≡ (freed turn raw.old.me.0, rest raw.old.me.1) }
+        ensures view { mine raw.new.me ≡ (freed turn raw.old.me.0.view, rest raw.old.me.1) }
+        ensures own { FreedOne turn raw.old.me.0.own raw.new.me.0.own }
     {
         let slot = turn as usize;
         let empty = self.table.shared.exchange(raw, slot, Some(load));
         let None = empty else { unreachable!() };
         self.table.shared.store::<Give>(raw, slot + 1, 0);
-        self.wake(slot + 1);
     }
 }
