@@ -1,6 +1,6 @@
 -- Each list of a run's steps stays in a seat's keeping.
-use Rattle.std.proofs.Common.{◌≡◌, ℕ, zero, suc, ◌+◌, ◌<◌, ◌≤◌, List, [], ◌∷◌, ◌++◌, length, set, sym, refl, ap, ◌∙◌, arith}
-use Rattle.std.proofs.lemmas.List.{length-append, length-set}
+use Rattle.std.proofs.Common.{◌≡◌, ℕ, zero, suc, ◌+◌, ◌<◌, ◌≤◌, List, [], ◌∷◌, ◌++◌, length, set, cond, eq-eqb, ne_eqb, sym, refl, ap, ◌∙◌, arith}
+use Rattle.std.proofs.lemmas.List.{length-append, length-map, length-set}
 use mathlib.Core.Option.{some}
 use mathlib.Core.Logic.{dite}
 use native.Mathlib.Decide.{ℕ_discrete}
@@ -9,10 +9,16 @@ use Rattle.pw_books.specs.Sums.{total}
 use Rattle.pw_books.proofs.Lists.{elem_below, total-append, total-set}
 use Rattle.pw_cppc_state.specs.declared.entry.CppcEntry.{CppcEntry}
 use Rattle.pw_desk.specs.declared.view.View.{View}
-use Rattle.pw_desk.specs.Steps.{Kind, join_seats}
+use Rattle.pw_desk.specs.Law.{Steps, opened}
+use Rattle.pw_desk.specs.Machine.{Machine}
+use Rattle.pw_desk.specs.Steps.{Kind, after, join_seats}
+use Rattle.pw_regs.specs.declared.registers.Registers.{Ghosts as Registers}
 use Rattle.pw_cppc_rule.specs.declared.track.Track.{Track}
 use Rattle.pw_cppc_rule.specs.Tracks.{AreKept, did, fresh, in_keeping, joined_track, lists_from, own_kind, spent_track, steps_of}
-use Rattle.pw_cppc_rule.proofs.Running.{Run, steps_here, steps_there}
+use Rattle.pw_cppc_rule.specs.Slots.{MayBe, seat_of}
+use Rattle.pw_cppc_rule.specs.Rule.{given_of}
+use Rattle.pw_cppc_rule.specs.Runs.{StepsAreKept}
+use Rattle.pw_cppc_rule.proofs.Running.{Run, never_fewer, steps_here, steps_there}
 
 -- # The lists of a run by places
 
@@ -110,3 +116,51 @@ module _ (run : Run) (ts : List Track) (all : AreKept run ts) (id : ℕ) (x : Tr
         total-append f x.kept (y.own ∷ y.kept),
         none,
       )
+
+-- # How many steps there are
+
+nil_lists : (i n : ℕ) → total (length {A = Kind CppcEntry}) (lists_from [] i n) ≡ 0
+nil_lists i zero = refl
+nil_lists i (suc n) = omega (arith, nil_lists (suc i) n)
+
+module _ (s : ℕ × View CppcEntry × Kind CppcEntry) (ss : Run) where
+  -- a first step at an earlier place
+  first_before : (i n : ℕ) → s.0 < i → total (length {A = Kind CppcEntry}) (lists_from (s ∷ ss) i n) ≡ total (length {A = Kind CppcEntry}) (lists_from ss i n)
+  first_before i zero low = refl
+  first_before i (suc n) low = omega (
+    arith,
+    ap (λ b. length (cond b (own_kind s.2 ∷ steps_of i ss) (steps_of i ss))) (ne_eqb s.0 i (λ e. omega (arith, low, e))),
+    first_before (suc i) n (omega (arith, low)),
+  )
+
+  -- or at one of them
+  first_within : (i n : ℕ) → i ≤ s.0 → s.0 < i + n
+      → total (length {A = Kind CppcEntry}) (lists_from (s ∷ ss) i n) ≡ total (length {A = Kind CppcEntry}) (lists_from ss i n) + 1
+  first_within i zero from to = absurd (omega (arith, from, to))
+  first_within i (suc n) from to = dite (ℕ_discrete s.0 i)
+      (λ e. omega (
+        arith,
+        ap (λ b. length (cond b (own_kind s.2 ∷ steps_of i ss) (steps_of i ss))) (eq-eqb s.0 i e),
+        first_before (suc i) n (omega (arith, e)),
+      ))
+      (λ ne. omega (
+        arith,
+        ap (λ b. length (cond b (own_kind s.2 ∷ steps_of i ss) (steps_of i ss))) (ne_eqb s.0 i ne),
+        first_within (suc i) n (omega (arith, from, ne)) (omega (arith, to)),
+      ))
+
+-- each step is at a place that there is
+all_placed : (Good : List CppcEntry → Type 0) (m : Machine CppcEntry) (run : Run) (n : Machine CppcEntry) (w : ℕ) → Steps seat_of Good m run n → length n.views ≤ w
+    → total (length {A = Kind CppcEntry}) (lists_from run 0 w) ≡ length run
+all_placed Good m [] n w e le = nil_lists 0 w
+all_placed Good m (s ∷ ss) n w st le = omega (
+  arith,
+  first_within s ss 0 w (omega arith) (omega (arith, elem_below m.views s.0 s.1 st.0, never_fewer Good m (s ∷ ss) n st, le)),
+  all_placed Good (after seat_of m s.0 s.1 s.2) ss n w st.2 le,
+)
+
+pub steps_are_kept : {R : Type 0} (by : Registers R) → StepsAreKept by
+steps_are_kept by key s o =
+    let wide : length o.machine.views ≡ length s.views =
+    ap (length {A = View CppcEntry}) (sym o.views) ∙ length-map s.views (λ (t : Track). t.view) in
+    sym (all_placed (MayBe (given_of by key)) opened o.run o.machine (length s.views) o.ran (omega (arith, wide))) ∙ o.kept (length {A = Kind CppcEntry}) refl

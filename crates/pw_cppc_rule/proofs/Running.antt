@@ -35,7 +35,7 @@ grows m j v (split_seat n parts) =
 grows m j v (join_seats k w) = omega (arith, length-set m.views j (joined v w), length-set (set m.views j (joined v w)) k spent_view)
 grows m j v read_made = set_wide m.views j _
 
-never_fewer : (Good : List CppcEntry → Type 0) (m : Machine CppcEntry) (run : Run) (n : Machine CppcEntry) → Steps seat_of Good m run n → length m.views ≤ length n.views
+pub never_fewer : (Good : List CppcEntry → Type 0) (m : Machine CppcEntry) (run : Run) (n : Machine CppcEntry) → Steps seat_of Good m run n → length m.views ≤ length n.views
 never_fewer Good m [] n e = omega (arith, ap (λ (x : Machine CppcEntry). length x.views) e)
 never_fewer Good m (s ∷ ss) n st = omega (arith, grows m s.0 s.1 s.2, never_fewer Good (after seat_of m s.0 s.1 s.2) ss n st.2)
 

@@ -1,5 +1,5 @@
 -- What the run tells that the table's rule speaks of.
-use Rattle.std.specs.Prelude.{◌≡◌, ◌≢◌, ◌⊎◌, ℕ, suc, ◌<◌, List, [], ◌∷◌, Option, Some}
+use Rattle.std.specs.Prelude.{◌≡◌, ◌≢◌, ◌⊎◌, ℕ, suc, ◌<◌, List, [], ◌∷◌, length, Option, Some}
 use mathlib.Core.Option.{some}
 use lib.ListN.{get_elem?}
 use Rattle.atomic_table.specs.Table.{State}
@@ -7,12 +7,14 @@ use Rattle.pw_regs.specs.declared.registers.Registers.{Ghosts as Registers}
 use Rattle.pw_cppc_state.specs.declared.entry.CppcEntry.{CppcEntry}
 use Rattle.pw_cppc_work.specs.Worked.{Worked}
 use Rattle.pw_desk.specs.declared.view.View.{View}
+use Rattle.pw_books.specs.Sums.{total}
 use Rattle.pw_desk.specs.Machine.{Invariant, Machine}
 use Rattle.pw_desk.specs.Steps.{Kind, after, find_held}
 use Rattle.pw_desk.specs.Law.{opened}
 use Rattle.pw_cppc_rule.specs.declared.limit.Limit.{Limit}
 use Rattle.pw_cppc_rule.specs.declared.track.Track.{Track}
 use Rattle.pw_cppc_rule.specs.Slots.{MayBe, seat_of}
+use Rattle.pw_cppc_rule.specs.Tracks.{in_keeping}
 use Rattle.pw_cppc_rule.specs.Rule.{Ruled, given_of}
 
 -- a step that finds the turn held
@@ -46,6 +48,11 @@ module _ {R : Type 0} (by : Registers R) where
   abbrev pub RuleHasInvariant : Type 0
   RuleHasInvariant = (key : Limit R) (s : State (Option (Worked R)) Track) (o : Ruled by key s)
       → Invariant seat_of (MayBe (given_of by key)) o.machine
+
+  -- no step of the run is in nobody's keeping: they are as many as those that the seats have
+  abbrev pub StepsAreKept : Type 0
+  StepsAreKept = (key : Limit R) (s : State (Option (Worked R)) Track) (o : Ruled by key s)
+      → length o.run ≡ total (in_keeping length) s.views
 
   -- the seat that a seat met is the one that it last found with the turn
   abbrev pub MetWasFound : Type 0
