@@ -1,4 +1,4 @@
-"""Checks README.md, CONTRIBUTING.md, docs/*.md and examples/*.md; prints what is wrong, and a count."""
+"""Checks README.md, CONTRIBUTING.md, docs/*.md and those below examples/; prints what is wrong, and a count."""
 
 import os
 import re
@@ -22,7 +22,7 @@ def check(holds, message):
 
 def documents():
     names = ["README.md", "CONTRIBUTING.md"]
-    return [TOP / n for n in names] + sorted((TOP / "docs").glob("*.md")) + sorted((TOP / "examples").glob("*.md"))
+    return [TOP / n for n in names] + sorted((TOP / "docs").glob("*.md")) + sorted((TOP / "examples").rglob("*.md"))
 
 
 def crates():

@@ -94,8 +94,8 @@ fn summed(
     Some(played)
 }
 
-/// Does the run that a line asks for, `alone`, `one caller`, `hold CPU OTHER` or `crowd COUNT`, and ` failing CALL` behind it
-/// where a register fails; and tells the text of its history where that is certain.
+/// Does the run that a line asks for, `alone`, `one caller`, `hold CPU OTHER` or `crowd COUNT`, and
+/// ` failing CALL` behind it where a register fails; and tells the text of its history where that is certain.
 fn run<R: Threads + Wait + Sync>(
     rt: &R,
     text: &mut String,
