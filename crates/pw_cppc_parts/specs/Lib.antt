@@ -1,2 +1,3 @@
 pub mod Machine
+pub mod Planning
 pub mod inner

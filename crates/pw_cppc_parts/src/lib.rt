@@ -2,5 +2,7 @@
 #![tactic(auto)]
 
 mod parts;
+mod planning;
 
 pub use parts::cppc_parts;
+pub use planning::cppc_plan;

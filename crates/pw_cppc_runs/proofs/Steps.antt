@@ -32,7 +32,8 @@ use Rattle.pw_cppc_runs.specs.Runs.SteersSerially.{steered, stopped}
 use Rattle.pw_cppc_runs.specs.Runs.IsRefusalOn.{unplanned as unplanned_on, unscripted, unspelled as unspelled_on}
 use Rattle.pw_cppc_runs.specs.Workers.{Steers, steering_together}
 use Rattle.pw_cppc_runs.specs.Workers.Steers.{opened as opened_by, steered as steered_together, stopped as stopped_by}
-use Rattle.pw_cppc_runs.specs.inner.Parts.{IsNotScripted, IsPlanBy, IsPlanOver, RunsSerially, parsing, scripting}
+use Rattle.pw_cppc_parts.specs.Planning.{IsPlanOver}
+use Rattle.pw_cppc_runs.specs.inner.Parts.{IsNotScripted, IsPlanBy, RunsSerially, parsing, scripting}
 use Rattle.pw_cppc_runs.specs.inner.Parts.RunsSerially.{ran, undone}
 use Rattle.pw_cppc_runs.specs.inner.Works.{Works}
 use Rattle.pw_cppc_runs.specs.inner.Works.Works.{opened, worked}

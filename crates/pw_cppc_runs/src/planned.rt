@@ -1,54 +1,27 @@
-ghost use Rattle.std.specs.Prelude.{◌≡◌, [], map, All, List as list, IfErr, IfOk, OnOk};
+ghost use Rattle.std.specs.Prelude.{◌≡◌, [], All, IfErr, IfOk, OnOk};
 ghost use Rattle.pw_base.specs.Outside.{KeepsFiles, KeepsSink};
 ghost use Rattle.pw_base.specs.Seen.{files_seen, sink_seen};
 ghost use Rattle.aml_block.specs.Written.{IsWritableBlock};
-ghost use Rattle.acpi_build.specs.declared.note.Note.{Note as note};
-ghost use Rattle.acpi_build.specs.Planning.{IsPlanFrom};
 ghost use Rattle.acpi_build.specs.Tables.{AreCountable};
-ghost use Rattle.pw_plan.specs.declared.parts.CpuParts.{CpuParts as cpu};
 ghost use Rattle.pw_blocks.specs.Held.{names_of};
 ghost use Rattle.pw_ends.specs.Ends.{Stopped};
 ghost use Rattle.pw_load.specs.Steps.{planning};
 ghost use Rattle.pw_runs.specs.inner.Parts.{mapping, readying};
-ghost use Rattle.pw_cppc_parts.specs.Machine.{AreCppcParts};
+ghost use Rattle.pw_cppc_parts.specs.Planning.{IsPlanOver};
 ghost use Rattle.pw_cppc_runs.specs.Runs.{AreSteered};
-ghost use Rattle.pw_cppc_runs.specs.inner.Parts.{IsPlanBy, IsPlanOver};
+ghost use Rattle.pw_cppc_runs.specs.inner.Parts.{IsPlanBy};
 
 use acpi_build::blocks_are_countable;
 use acpi_space::Space;
 use aml_block::Block;
-use aml_data::{FullPath, copy_full_path};
-use pw_base::{Files, Memory, Sink};
+use pw_base::{Files, Sink};
 use pw_cppc::CppcPlan;
-use pw_cppc_parts::cppc_parts;
+use pw_cppc_parts::cppc_plan;
 use pw_ends::without_memory;
 use pw_load::{load, make_plan, place};
-use pw_plan::Plan;
 use pw_text::Page;
 use std::alloc::Global;
 use std::mem::forget;
-
-/// The paths of a machine's processors.
-fn paths_of(alloc: Global, machine: &Plan) -> Result<Vec<FullPath>, Memory>
-    ensures { IfOk result (λ paths. paths.items ≡ map (λ (c : cpu). c.path) machine.now.cpus) }
-{
-    let mut paths = Vec::new(alloc);
-    for cpu in machine.cpus.as_slice() {
-        paths.push(copy_full_path(alloc, &cpu.path)?)?;
-    }
-    Ok(paths)
-}
-
-/// The plan of the performance of a machine's processors. The machine is that of these objects.
-fn plan_on(alloc: Global, space: &Space<'_>, machine: &Plan) -> Result<CppcPlan, Memory>
-    requires planned { (notes : list note) × IsPlanFrom space.now machine.now notes }
-    ensures paths { IfOk result (λ plan. plan.paths ≡ map (λ (c : cpu). c.path) machine.now.cpus) }
-    ensures parts { IfOk result (λ plan. AreCppcParts space.now machine.now plan.cpus) }
-{
-    let paths = paths_of(alloc, machine)?;
-    let cpus = cppc_parts(alloc, space, machine)?;
-    CppcPlan::new(alloc, paths, cpus)
-}
 
 /// The plan of performance that objects make; or the status, once the error output has the line that says why they
 /// make none, by way of an empty page.
@@ -69,7 +42,7 @@ fn plan_over<K: Sink>(
 {
     match make_plan(alloc, space, page, err) {
         Err(status) => Err(status),
-        Ok((machine, _)) => match plan_on(alloc, space, &machine) {
+        Ok((machine, _)) => match cppc_plan(alloc, space, &machine) {
             Ok(plan) => Ok(plan),
             Err(_) => Err(without_memory(err)),
         },

@@ -1,14 +1,10 @@
 -- What the parts of a run do.
-use Rattle.std.specs.Prelude.{◌≡◌, ◌≢◌, ℕ, false, List, [], codes, map, Option}
+use Rattle.std.specs.Prelude.{◌≡◌, ◌≢◌, ℕ, false, List, [], codes, Option}
 use Rattle.pw_base.specs.Outside.{Rose}
 use Rattle.pw_base.specs.Seen.{FilesSeen, OfFiles}
 use Rattle.aml_block.specs.declared.block.Block.{Block}
 use Rattle.acpi_space.specs.Distinct.{IsDistinct}
 use Rattle.acpi_space.specs.Namespace.{Entry, entries_in, places_of}
-use Rattle.acpi_build.specs.declared.note.Note.{Note}
-use Rattle.acpi_build.specs.Planning.{IsPlanFrom}
-use Rattle.pw_plan.specs.declared.parts.CpuParts.{CpuParts}
-use Rattle.pw_plan.specs.declared.plan.Plan.{Plan}
 use Rattle.pw_regs.specs.Seen.{RegistersSeen}
 use Rattle.pw_script.specs.declared.script.ScriptFault.{ScriptFault}
 use Rattle.pw_script.specs.declared.script.ScriptFault.TheVariants.{Memory}
@@ -16,7 +12,7 @@ use Rattle.pw_ends.specs.Seen.{Outputs}
 use Rattle.pw_ends.specs.Ends.{Work}
 use Rattle.pw_runs.specs.Scripts.{script_line}
 use Rattle.pw_cppc.specs.declared.plan.CppcPlan.{CppcPlan}
-use Rattle.pw_cppc_parts.specs.Machine.{AreCppcParts}
+use Rattle.pw_cppc_parts.specs.Planning.{IsPlanOver}
 use Rattle.pw_cppc_state.specs.declared.entry.CppcEntry.{CppcEntry}
 use Rattle.pw_cppc_script.specs.declared.script.CppcLine.{CppcLine}
 use Rattle.pw_cppc_script.specs.Reading.{IsNoScript}
@@ -24,14 +20,6 @@ use Rattle.pw_cppc_runs.specs.Runs.{IsSerialRun, PrintsRun}
 use Rattle.pw_cppc_runs.specs.Scripts.{HoldsNoScript}
 
 -- # The plan
-
--- the plan of the performance of a machine's processors, which these objects make
-pub record IsPlanOver (entries : List Entry) (P : CppcPlan) : Type 0 where
-  pub machine : Plan
-  pub notes : List Note
-  pub made : IsPlanFrom entries machine notes
-  pub paths : P.paths ≡ map (λ (c : CpuParts). c.path) machine.cpus
-  pub parts : AreCppcParts entries machine P.cpus
 
 -- the one that blocks make
 pub record IsPlanBy (blocks : List Block) (P : CppcPlan) : Type 0 where

@@ -1,0 +1,5 @@
+pub mod Asking
+pub mod Bounds
+pub mod Leading
+pub mod Refusing
+pub mod Writing

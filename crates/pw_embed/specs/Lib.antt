@@ -1,0 +1,13 @@
+pub mod Statuses
+pub mod Requests
+pub mod Replies
+pub mod Operations
+pub mod Paths
+pub mod Faults
+pub mod Blocks
+pub mod Planned
+pub mod Single
+pub mod CppcNumbers
+pub mod Cppc
+pub mod Machines
+pub mod inner
