@@ -45,9 +45,10 @@ def examples(text):
             yield command, shown
 
 
-def rust_lines():
-    """The lines of each source of a crate, without the space before them, so that what a document shows can be found."""
-    for path in (TOP / "crates").glob("*/src/**/*.rt"):
+def source_lines():
+    """The lines of each source of a crate and of each program in C, without the space before them, so that what a document shows
+    can be found."""
+    for path in [*(TOP / "crates").glob("*/src/**/*.rt"), *(TOP / "examples/c").glob("*.c")]:
         yield "\n".join(line.strip() for line in path.read_text(encoding="utf-8").splitlines()) + "\n"
 
 
@@ -62,7 +63,7 @@ def main():
         check(re.search(rf"^\*\*`{name}`\*\*", claims, re.M), f"docs/CLAIMS.md: no paragraph that begins with **`{name}`**")
     size = (TOP / "README.md").stat().st_size
     check(size <= 10_000, f"README.md: {size} bytes, more than 10,000")
-    sources = list(rust_lines())
+    sources = list(source_lines())
     for path in documents():
         check(path.is_file(), f"{path.relative_to(TOP)}: missing")
         if not path.is_file():
@@ -71,9 +72,9 @@ def main():
         for target, _ in LINK.findall(text):
             if "://" not in target:
                 check((path.parent / target).exists(), f"{path.relative_to(TOP)}: no file {target}")
-        for block in re.findall(r"^```rust\n(.*?)^```", text, re.M | re.S):
+        for block in re.findall(r"^```(?:rust|c)\n(.*?)^```", text, re.M | re.S):
             shown = "\n".join(line.strip() for line in block.splitlines()) + "\n"
-            check(any(shown in source for source in sources), f"{path.relative_to(TOP)}: no crate has these lines:\n{block}")
+            check(any(shown in source for source in sources), f"{path.relative_to(TOP)}: no source has these lines:\n{block}")
         for command, shown in examples(text):
             run = subprocess.run(
                 ["bash", "-c", command], cwd=TOP, text=True, stdin=subprocess.DEVNULL, stdout=subprocess.PIPE, stderr=subprocess.STDOUT
