@@ -4,6 +4,7 @@ use Rattle.acpi_values.specs.declared.operation.Chain.{Chain}
 use Rattle.acpi_values.specs.declared.operation.Op.{Op}
 use Rattle.acpi_values.specs.declared.operation.Op.TheVariants.{Set, Enter}
 use Rattle.acpi_values.specs.declared.register.Register.{Register}
+use Rattle.pw_plan.specs.Limits.{in_32_bits}
 use Rattle.pw_embed.specs.declared.operations.OpNumbers.{OpNumbers}
 use Rattle.pw_embed.specs.declared.status.Status.{Status}
 use Rattle.pw_embed.specs.declared.status.Status.TheVariants.{Done, Room}
@@ -33,6 +34,6 @@ op_numbers (Enter cpu composite) = on 2 cpu composite.register 0 composite.state
 
 -- The operations are written at the front of the room, and their count; or the room is too small, and stays as it was.
 unfoldable pub Listed : List Op → List OpNumbers → List OpNumbers → ℕ → Status → Type 0
-Listed list out out' count Done = (length list ≤ length out) × (out' ≡ map op_numbers list ++ drop (length list) out) × (count ≡ length list)
-Listed list out out' count Room = (length out < length list) × (out' ≡ out) × (count ≡ length list)
+Listed list out out' count Done = (length list ≤ length out) × (out' ≡ map op_numbers list ++ drop (length list) out) × (count ≡ in_32_bits (length list))
+Listed list out out' count Room = (length out < length list) × (out' ≡ out) × (count ≡ in_32_bits (length list))
 Listed list out out' count _ = ⊥

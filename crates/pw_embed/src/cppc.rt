@@ -1,4 +1,4 @@
-ghost use Rattle.std.specs.Prelude.{◌≡◌, ◌≤◌, ◌<◌, ◌^◌, IfOk};
+ghost use Rattle.std.specs.Prelude.{◌≡◌, ◌≤◌, IfOk};
 ghost use Rattle.pw_cppc.specs.Requests.{Has};
 ghost use Rattle.pw_cppc_state.specs.States.{AreNumbers, opening};
 ghost use Rattle.pw_cppc_state.specs.Operations.{opening_ops};
@@ -24,7 +24,7 @@ pub struct Cppc {
     pub(crate) state: CppcState,
     pub(crate) ops: Ops,
     ghost fits: { AreNumbers plan state } by { Prim.hlevel number_props },
-    ghost room: { (257 ≤ ops.capacity) × (ops.capacity < 2 ^ 32) },
+    ghost room: { 257 ≤ ops.capacity },
 }
 
 impl Cppc {
@@ -73,7 +73,6 @@ impl Cppc {
     pub fn ops(&self, out: &mut [OpNumbers], count: &mut u32) -> Status
         ensures { Listed self.now.ops.elements out.old out.new count.new result }
     {
-        let _spare = self.ops.spare();
         tell_ops(self.ops.list(), out, count)
     }
 }

@@ -1,8 +1,9 @@
-ghost use Rattle.std.specs.Prelude.{◌≡◌, ◌≤◌, ◌<◌, ◌^◌, ◌++◌, length, map, drop};
+ghost use Rattle.std.specs.Prelude.{◌≡◌, ◌≤◌, ◌++◌, length, map, drop};
 ghost use Rattle.pw_embed.specs.Operations.{Listed, op_numbers, on};
 
 use crate::status::Status;
 use acpi_values::{Chain, Op, Register};
+use pw_plan::in_32_bits;
 
 /// An operation on a register of a processor: 1 a value is written to it, 2 the processor enters an idle state by it.
 #[repr(C)]
@@ -76,10 +77,9 @@ fn put_ops(list: &[Op], out: &mut [OpNumbers])
 /// Writes operations at the front of the caller's room, where there is room for all of them, and how many they are.
 #[tactic(auto, unfolding(crate::specs::Operations::Listed))]
 pub fn tell_ops(list: &[Op], out: &mut [OpNumbers], count: &mut u32) -> Status
-    requires { length list.now < 2 ^ 32 }
     ensures { Listed list.now out.old out.new count.new result }
 {
-    *count = list.len() as u32;
+    *count = in_32_bits(list.len());
     if out.len() < list.len() {
         return Status::Room;
     }

@@ -1,4 +1,4 @@
-ghost use Rattle.std.specs.Prelude.{◌≡◌, ◌≤◌, ◌<◌, ◌^◌, [], IfOk, length};
+ghost use Rattle.std.specs.Prelude.{◌≡◌, ◌≤◌, IfOk};
 ghost use Rattle.pw_plan.specs.Requests.{Has};
 ghost use Rattle.pw_model.specs.States.{IsState, opening};
 ghost use Rattle.pw_model.specs.Operations.{opening_ops};
@@ -26,7 +26,7 @@ pub struct Single {
     pub(crate) state: State,
     pub(crate) ops: Ops,
     ghost fits: { IsState plan state } by { Prim.hlevel state_props },
-    ghost room: { (256 ≤ ops.capacity) × (ops.capacity < 2 ^ 32) },
+    ghost room: { 256 ≤ ops.capacity },
 }
 
 /// The state at the start, and the operations at the start in a list with room for those of any request.
@@ -34,7 +34,7 @@ pub fn opened(alloc: Global, plan: &Plan) -> Result<(State, Ops), Memory>
     ensures state { IfOk result (λ r. r.0 ≡ opening plan.now) }
     ensures fits { IfOk result (λ r. IsState plan.now r.0) }
     ensures ops { IfOk result (λ r. r.1.elements ≡ opening_ops plan.now) }
-    ensures room { IfOk result (λ r. (256 ≤ r.1.capacity) × (r.1.capacity < 2 ^ 32)) }
+    ensures room { IfOk result (λ r. 256 ≤ r.1.capacity) }
 {
     let state = State::open(alloc, plan)?;
     let most = plan.opening_bound().max(MOST_OF_A_REQUEST);
@@ -78,7 +78,6 @@ impl Single {
     pub fn ops(&self, out: &mut [OpNumbers], count: &mut u32) -> Status
         ensures { Listed self.now.ops.elements out.old out.new count.new result }
     {
-        let _spare = self.ops.spare();
         tell_ops(self.ops.list(), out, count)
     }
 }

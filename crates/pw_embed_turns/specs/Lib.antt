@@ -1,0 +1,5 @@
+pub mod Entries
+pub mod Registers
+pub mod Told
+pub mod Shared
+pub mod Seats
