@@ -8,13 +8,17 @@ ghost use Rattle.pw_embed.specs.Cppc.{Asked};
 ghost use Rattle.pw_embed.specs.Machines.{AddsBlock, Asks, Counts as Counted, Lists, Plans, Starts, TellsCpu};
 ghost use Rattle.pw_embed.specs.Operations.{Listed};
 ghost use Rattle.pw_embed.specs.Statuses.{Tells};
+ghost use Rattle.pw_embed_turns.specs.Seats.{Asks as SeatAsks, Counts as SeatCounts, Lists as SeatLists};
+ghost use Rattle.pw_embed_turns.specs.Seats.{Seals, Shows, TellsEntry};
 ghost use Rattle.pw_handles.specs.declared.kept.Kept.TheVariants.{Machine as machine};
 ghost use Rattle.pw_handles.specs.Handled.{Closes, KeptSo, OnCppc, OnMachine, Opens, OpensCppc};
+ghost use Rattle.pw_handles.specs.Seated.{JoinsTo, OnSeat, OpensSeatOf, OweOneCoordinator, SplitsTo};
 
 use pw_embed::{
     Counts, CppcReplyNumbers, CppcRequestNumbers, CpuNumbers, FaultNumbers, OpNumbers,
     ReplyNumbers, RequestNumbers,
 };
+use pw_embed_turns::{EntryNumbers, SeatFacts};
 use pw_handles::Handle;
 use std::alloc::Global;
 
@@ -120,6 +124,121 @@ pub extern "C" fn yeq_machine_ops(
 /// Closes an open handle.
 #[unsafe(no_mangle)]
 pub extern "C" fn yeq_machine_close(alloc: Global, h: &mut Handle) -> i32
+    ensures { Tells result (Closes h.old h.new) }
+{
+    h.close(alloc).code()
+}
+
+/// Opens a closed handle for the first seat of a new coordinator of a machine.
+#[unsafe(no_mangle)]
+pub extern "C" fn yeq_seat_open(
+    alloc: Global,
+    h: &mut Handle,
+    machine: &mut Handle,
+    entries: u32,
+) -> i32
+    ensures kept { KeptSo machine.old machine.new }
+    ensures opened { Tells result (OpensSeatOf h.old machine.old entries h.new) }
+{
+    h.open_seat(alloc, machine, entries).code()
+}
+
+/// Opens another, closed handle for a new seat, with so many of this one's parts.
+#[unsafe(no_mangle)]
+pub extern "C" fn yeq_seat_split(
+    alloc: Global,
+    h: &mut Handle,
+    other: &mut Handle,
+    parts: u32,
+) -> i32
+    ensures { Tells result (SplitsTo h.old other.old parts h.new other.new) }
+{
+    h.split_seat(alloc, other, parts).code()
+}
+
+/// Makes a request by a seat, or gives up where another seat has what it needs.
+#[unsafe(no_mangle)]
+pub extern "C" fn yeq_seat_ask(
+    alloc: Global,
+    h: &mut Handle,
+    asked: &RequestNumbers,
+    reply: &mut ReplyNumbers,
+) -> i32
+    ensures { Tells result (λ s. OnSeat h.old h.new s (reply.new ≡ reply.old)
+        (λ t u st. SeatAsks t asked.now reply.old u reply.new st)) }
+{
+    h.ask_seat(alloc, asked, reply).code()
+}
+
+/// Tells the operations of a seat's last request, or those at the start, and the request's number.
+#[unsafe(no_mangle)]
+pub extern "C" fn yeq_seat_ops(
+    alloc: Global,
+    h: &mut Handle,
+    out: &mut [OpNumbers],
+    count: &mut u32,
+    number: &mut u64,
+) -> i32
+    ensures { Tells result (λ s. OnSeat h.old h.new s
+        ((out.new ≡ out.old) × (count.new ≡ count.old) × (number.new ≡ number.old))
+        (λ t u st. (u ≡ t)
+        × SeatLists t (out.old, count.old, number.old) (out.new, count.new, number.new) st)) }
+{
+    h.seat_ops(alloc, out, count, number).code()
+}
+
+/// Tells what a seat knows.
+#[unsafe(no_mangle)]
+pub extern "C" fn yeq_seat_tell(alloc: Global, h: &mut Handle, facts: &mut SeatFacts) -> i32
+    ensures { Tells result (λ s. OnSeat h.old h.new s (facts.new ≡ facts.old)
+        (λ t u st. (u ≡ t) × Shows t facts.old facts.new st)) }
+{
+    h.tell_seat(alloc, facts).code()
+}
+
+/// Joins another seat of the same coordinator into this one, and closes the other handle.
+#[unsafe(no_mangle)]
+pub extern "C" fn yeq_seat_join(alloc: Global, h: &mut Handle, other: &mut Handle) -> i32
+    requires { OweOneCoordinator h.old other.old }
+    ensures { Tells result (JoinsTo h.old other.old h.new other.new) }
+{
+    h.join_seat(alloc, other).code()
+}
+
+/// Ends the coordinator of its only seat.
+#[unsafe(no_mangle)]
+pub extern "C" fn yeq_seat_seal(alloc: Global, h: &mut Handle) -> i32
+    ensures { Tells result (λ s. OnSeat h.old h.new s (Unit {0}) Seals) }
+{
+    h.seal_seat(alloc).code()
+}
+
+/// Counts the entries of the history of a coordinator that has ended.
+#[unsafe(no_mangle)]
+pub extern "C" fn yeq_seat_entries(alloc: Global, h: &mut Handle, count: &mut u32) -> i32
+    ensures { Tells result (λ s. OnSeat h.old h.new s (count.new ≡ count.old)
+        (λ t u st. (u ≡ t) × SeatCounts t count.old count.new st)) }
+{
+    h.seat_entries(alloc, count).code()
+}
+
+/// Tells the entry of this index of the history of a coordinator that has ended.
+#[unsafe(no_mangle)]
+pub extern "C" fn yeq_seat_entry(
+    alloc: Global,
+    h: &mut Handle,
+    index: u32,
+    entry: &mut EntryNumbers,
+) -> i32
+    ensures { Tells result (λ s. OnSeat h.old h.new s (entry.new ≡ entry.old)
+        (λ t u st. (u ≡ t) × TellsEntry t index entry.old entry.new st)) }
+{
+    h.seat_entry(alloc, index, entry).code()
+}
+
+/// Closes an open handle.
+#[unsafe(no_mangle)]
+pub extern "C" fn yeq_seat_close(alloc: Global, h: &mut Handle) -> i32
     ensures { Tells result (Closes h.old h.new) }
 {
     h.close(alloc).code()

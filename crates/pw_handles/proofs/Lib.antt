@@ -1,3 +1,4 @@
 pub mod AsBox
 pub mod Places
 pub mod Handling
+pub mod Seating

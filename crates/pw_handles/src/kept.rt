@@ -1,4 +1,5 @@
 use pw_embed::{Cppc, Machine};
+use pw_embed_turns::Seat;
 
 /// What a handle is open for.
 #[derive(Drop)]
@@ -6,5 +7,6 @@ pub enum Kept {
     /// What no open handle has.
     Nothing,
     Machine(Machine),
+    Seat(Seat),
     Cppc(Cppc),
 }

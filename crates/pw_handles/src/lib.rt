@@ -8,6 +8,7 @@ mod machines;
 mod parts;
 mod performance;
 mod place;
+mod seats;
 
 pub use handle::{Handle, handles_cross};
 pub use kept::Kept;
