@@ -13,7 +13,8 @@
  * yeq_seat_ops tells.
  *
  * Each call answers a number of enum yeq_status. Where that isn't YEQ_DONE, all handles, and what the call would
- * have written, are as they were, but for what is said at YEQ_ROOM, at struct yeq_fault, and at yeq_seat_ops.
+ * have written, are as they were, but for what is said at YEQ_ROOM, at struct yeq_fault, and at yeq_seat_ops. A seat
+ * also learns from YEQ_FULL, YEQ_STOPPED and YEQ_NUMBERS what it had not seen.
  *
  * The library has no state of its own, starts no thread and waits for nothing. It takes memory by the three
  * functions at the end of this header, which the program defines, and wants memcpy, memmove and memset from
@@ -55,7 +56,7 @@ enum yeq_status {
     YEQ_OPEN = 3,      /* A handle that is to be closed is open. */
     YEQ_KIND = 4,      /* A handle is open, but isn't at the step that the call is for. */
     YEQ_RANGE = 5,     /* A number is out of range: of a processor, a kind, parts, entries, an index. */
-    YEQ_ROOM = 6,      /* The room is too small: the count or length is written, and nothing else. */
+    YEQ_ROOM = 6,      /* The room is too small: how much is needed is written, and nothing else. */
     YEQ_BLOCK = 7,     /* The bytes spell no block: struct yeq_fault says why, and where. */
     YEQ_TWICE = 8,     /* Two objects are given one path: struct yeq_fault and the path say which. */
     YEQ_OBJECT = 9,    /* An object means nothing: struct yeq_fault and its path say why, and where. */
@@ -367,7 +368,7 @@ int32_t yeq_seat_ask(struct yeq_seat *seat, const struct yeq_request *request, s
 /* Writes the operations of the seat's last request, their count, and the request's number in the history, from 1. It
  * takes no memory. On the first seat it tells the operations at the start, number 0, until it makes a request. There
  * are none, number 0, on another seat before its first request, and where the last one came to YEQ_BUSY, YEQ_FULL or
- * YEQ_STOPPED. */
+ * YEQ_STOPPED. At YEQ_ROOM the number is written too. */
 int32_t yeq_seat_ops(struct yeq_seat *seat, struct yeq_op *ops, size_t room, uint32_t *count, uint64_t *number);
 
 /* Tells what the seat knows. It takes no memory. */
