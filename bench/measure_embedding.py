@@ -2,7 +2,8 @@
 
 usage: measure_embedding.py ARCHIVE
 The machines are those of measure_drive.py with low power idle states in every cluster. Times are the least of several runs of
-examples/c/bench.c by the clock; bytes are those of examples/c/room.c.
+examples/c/bench.c by the clock; bytes are those of examples/c/room.c, and of the stack those of examples/c/stack.c on the
+tables of examples/.
 """
 
 import os
@@ -25,7 +26,7 @@ def build(folder, archive, name, sources):
     made = folder / name
     files = [C / f"{source}.c" for source in (name, "tables", *sources)]
     flags = ["-std=c11", "-D_POSIX_C_SOURCE=200809L", "-O2", f"-I{TOP}/include"]
-    subprocess.run(["cc", *flags, *files, archive, "-o", made], check=True)
+    subprocess.run(["cc", *flags, *files, archive, "-pthread", "-o", made], check=True)
     return made
 
 
@@ -33,7 +34,7 @@ def numbers(program, table):
     """What each line of a run says, by its words: `WORDS: NUMBER`, and behind `, with the lists` a second number."""
     said = subprocess.run([program, table], check=True, capture_output=True, text=True).stdout
     found = {}
-    for what, first, second in re.findall(r"^(.*): ([\d.]+)(?: ns|)(?:, with the lists ([\d.]+))?$", said, re.M):
+    for what, first, second in re.findall(r"^(.*): (-?[\d.]+)(?: ns)?(?:, with the lists ([\d.]+))?$", said, re.M):
         found[what] = float(first)
         if second:
             found[f"{what}, with the lists"] = float(second)
@@ -64,6 +65,9 @@ def main():
         put([least(bench, table) for table in tables], lambda ns: f"{ns:.1f}")
         print(f"\n| memory, bytes | {head}")
         put([numbers(room, table) for table in tables], lambda count: f"{count:,.0f}")
+        stack = build(folder, sys.argv[1], "stack", ["memory"])
+        examples = [TOP / f"examples/{name}.aml" for name in ("laptop", "desktop", "server", "clusters")]
+        print(f"\n{subprocess.run([stack, *examples], check=True, capture_output=True, text=True).stdout}", end="")
 
 
 main()
