@@ -3,7 +3,8 @@
 
 #include "yeqorwas.h"
 
-#include <string.h>
+/* The archive wants it too. Where there is no C library there may be no string.h. */
+void *memcpy(void *restrict to, const void *restrict from, size_t count);
 
 struct block {
     size_t size; /* of what lies behind this header */
