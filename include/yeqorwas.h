@@ -355,7 +355,8 @@ int32_t yeq_machine_close(struct yeq_machine *machine);
 /* ---- Seats: the first one has all 65,536 parts of its coordinator, and a split gives some away. ---- */
 
 /* Opens a closed handle for the first seat of a new coordinator, whose history has room for so many entries, 65,536
- * at most. It takes the plan from a machine with a plan that isn't started, and leaves that as it is. */
+ * at most. It makes the plan of the blocks again of a machine with a plan that isn't started, and leaves that as it is.
+ * That it then doesn't answer YEQ_TWICE, YEQ_OBJECT or YEQ_LIMIT, here and at yeq_cppc_open, no contract says. */
 int32_t yeq_seat_open(struct yeq_seat *seat, struct yeq_machine *machine, uint32_t entries);
 
 /* Opens another, closed handle for a new seat with so many parts of this one's: one at least, and fewer than it has. */
