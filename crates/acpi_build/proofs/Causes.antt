@@ -66,7 +66,8 @@ unfit_caused : (C : Note → Type 0) (cpus : List CpuParts) (d : ℕ) (ds : List
 unfit_caused C cpus d [] cause = All-nil C
 unfit_caused C cpus d (domain ∷ domains) cause =
     All-append C (unfit_note cpus d domain) (unfit_notes cpus (d + 1) domains)
-    (one_unfit C cpus d domain (λ some. let e : d + 0 ≡ d = omega arith in subst (λ n. C (note_at (cpu_in cpus (first_of domain.members)).path.segs (UnfitDomain (in_32_bits n)))) e (cause 0 (omega arith) some)))
+    (one_unfit C cpus d domain (λ some. let e : d + 0 ≡ d = omega arith in subst (λ n. C (note_at (cpu_in cpus (first_of domain.members)).path.segs (UnfitDomain (in_32_bits n)))) e
+    (cause 0 (omega arith) some)))
     (unfit_caused C cpus (d + 1) domains (λ j l some. let e : d + suc j ≡ d + 1 + j = omega arith in
     subst (λ n. C (note_at (cpu_in cpus (first_of (domain_in domains j).members)).path.segs (UnfitDomain (in_32_bits n)))) e (cause (suc j) (omega (arith, l)) some)))
 

@@ -8,11 +8,11 @@ use Rattle.std.proofs.lemmas.List.Elements.{All-append, All-cons, All-nil, All-h
 use Rattle.aml_data.specs.declared.data.Width.{Width}
 use Rattle.aml_data.specs.declared.path.Path.{Path}
 use Rattle.aml_data.specs.Countable.{is_itself}
-use Rattle.aml_laws.proofs.Counting.{writable_counts}
-use Rattle.aml_terms.specs.declared.opcode.TheConstants.{METHOD_OP}
-use Rattle.aml_terms.specs.declared.term.Term.{Term, Term-F, out-Term}
-use Rattle.aml_terms.specs.declared.term.Term.TheOpen as layer
-use Rattle.aml_terms.specs.Written.{AreWritable, IsWritableLayer, IsWritableTerm}
+use Rattle.aml_data.proofs.Counting.{writable_counts}
+use Rattle.aml_block.specs.declared.opcode.TheConstants.{METHOD_OP}
+use Rattle.aml_block.specs.declared.term.Term.{Term, Term-F, out-Term}
+use Rattle.aml_block.specs.declared.term.Term.TheOpen as layer
+use Rattle.aml_block.specs.WrittenTerms.{AreWritable, IsWritableLayer, IsWritableTerm}
 use Rattle.aml_block.specs.declared.block.Block.{Block}
 use Rattle.aml_block.specs.Written.{IsWritableBlock}
 use Rattle.acpi_space.specs.Lookup.{no_entry}

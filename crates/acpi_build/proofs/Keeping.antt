@@ -96,7 +96,8 @@ seen_more old new kept more e is each updates d i =
     ∙ or_cond (is_entry d i e) (list_any (is_entry d i) kept) ∙ sym (list_any-append (is_entry d i) kept (e ∷ [])) ∙ ap (list_any (is_entry d i)) (sym is)
 
 -- a pair is new where it wasn't seen
-pub is_fresh : (seen : BTreeSet (ℕ × ℕ)) (kept more : List CDependency) (e : CDependency) (fresh : Bool) → more ≡ kept ++ e ∷ [] → ((d i : ℕ) → contains pair_cmp seen (d, i) ≡ list_any (is_entry d i) kept)
+pub is_fresh : (seen : BTreeSet (ℕ × ℕ)) (kept more : List CDependency) (e : CDependency) (fresh : Bool) → more ≡ kept ++ e ∷ []
+    → ((d i : ℕ) → contains pair_cmp seen (d, i) ≡ list_any (is_entry d i) kept)
     → fresh ≡ not (contains pair_cmp seen (e.domain, e.index)) → list_any (is_entry e.domain e.index) kept ≡ not fresh
 is_fresh seen kept more e fresh _ each is = sym (each e.domain e.index) ∙ sym (twice (contains pair_cmp seen (e.domain, e.index))) ∙ ap not (sym is)
   where
@@ -108,7 +109,8 @@ is_fresh seen kept more e fresh _ each is = sym (each e.domain e.index) ∙ sym 
 pub refused_there : (path : Place) (states k i : ℕ) (kept entries : List CDependency) (e : CDependency) (notes : List Note) (fault : BuildFault) → i < length entries → e ≡ get_or entries i e
     → e.index < states → list_any (is_entry e.domain e.index) kept ≡ true → IsThis fault (Object (record { segs = path }) (place k 3) Range)
     → IsFault fault (kept_from path states k kept (drop i entries) notes)
-refused_there path states k i kept entries e notes fault l is small there this = by fault this (let t : nat_lt e.index states ≡ true = grind (arith, nat_tests) in rw (rest_from entries i e l is, t, there) refl)
+refused_there path states k i kept entries e notes fault l is small there this = by fault this (let t : nat_lt e.index states ≡ true = grind (arith, nat_tests)
+    in rw (rest_from entries i e l is, t, there) refl)
   where
     by : (f : BuildFault) → IsThis f (Object (record { segs = path }) (place k 3) Range) → kept_from path states k kept (drop i entries) notes ≡ Err (Object (record { segs = path }) (place k 3) Range)
         → IsFault f (kept_from path states k kept (drop i entries) notes)

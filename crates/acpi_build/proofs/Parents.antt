@@ -236,7 +236,8 @@ falls_by entries n (Some m) l last =
         | inl beyond ↦ let rise = containers_rise entries n last.at 0 beyond last.within in omega (arith, rise, short)
         | inr same ↦
             let at : last.at ≡ n = omega arith in
-            let own : depth_in entries (get_or cs n 0) < depth_in entries (get_or cs n 0) = subst (λ q. depth_in entries (get_or cs q 0) < depth_in entries (get_or cs n 0)) at short in omega (arith, own)
+            let own : depth_in entries (get_or cs n 0) < depth_in entries (get_or cs n 0) = subst (λ q. depth_in entries (get_or cs q 0) < depth_in entries (get_or cs n 0)) at short
+            in omega (arith, own)
       ])
     ] in
     below_bound n m (let is = last.is in omega (arith, is, less))

@@ -70,7 +70,8 @@ other_there entries place j o distinct at is other d width given =
     let same : i ≡ j = same_some (sym found ∙ at) in
     other d (sym is ∙ ap (λ k. (entry_in entries k).object) (sym same) ∙ object)
 
-seen_yields : (entries : List Entry) (k : ℕ) (name : Name) (j : ℕ) (o : Thing) → IsDistinct (places_of entries) → number_at entries (place_below entries k name) ≡ Some j → (entry_in entries j).object ≡ o
+seen_yields : (entries : List Entry) (k : ℕ) (name : Name) (j : ℕ) (o : Thing) → IsDistinct (places_of entries) → number_at entries (place_below entries k name) ≡ Some j
+    → (entry_in entries j).object ≡ o
     → Yields (IsNoteOf entries k) (Looked entries (place_below entries k name)) (seen (place_below entries k name) (entry_in entries j).width o)
 seen_yields entries k name j (data_object d) distinct at is =
     let there = number_told entries (place_below entries k name) j at in
@@ -169,15 +170,18 @@ unfolding tss_at
 tss_yields entries k distinct =
     states_yields TssMeans length tss_of entries k names.Tss distinct tss_means (λ x t e. subst (λ xs. IsTable TssMeans entries (place_below entries k names.Tss) (Some xs)) (no_elements x e) t)
 
-control_yields : (entries : List Entry) (k : ℕ) (name : Name) → IsDistinct (places_of entries) → Yields (IsNoteOf entries k) (IsTable (λ width. ControlMeans) entries (place_below entries k name)) (control_at entries k name)
+control_yields : (entries : List Entry) (k : ℕ) (name : Name) → IsDistinct (places_of entries)
+    → Yields (IsNoteOf entries k) (IsTable (λ width. ControlMeans) entries (place_below entries k name)) (control_at entries k name)
 unfolding control_at
 control_yields entries k name distinct = table_yields (λ width. ControlMeans) (λ width. control_of) entries k name distinct (λ width. control_means)
 
-limit_yields : (entries : List Entry) (k : ℕ) (name : Name) → IsDistinct (places_of entries) → Yields (IsNoteOf entries k) (IsTable LimitMeans entries (place_below entries k name)) (limit_at entries k name)
+limit_yields : (entries : List Entry) (k : ℕ) (name : Name) → IsDistinct (places_of entries)
+    → Yields (IsNoteOf entries k) (IsTable LimitMeans entries (place_below entries k name)) (limit_at entries k name)
 unfolding limit_at
 limit_yields entries k name distinct = table_yields LimitMeans limit_of entries k name distinct (λ width d n. means_32 width (place 0 0) d n)
 
-dependency_yields : (entries : List Entry) (k : ℕ) (name : Name) → IsDistinct (places_of entries) → Yields (IsNoteOf entries k) (IsTable DomainMeans entries (place_below entries k name)) (dependency_at entries k name)
+dependency_yields : (entries : List Entry) (k : ℕ) (name : Name) → IsDistinct (places_of entries)
+    → Yields (IsNoteOf entries k) (IsTable DomainMeans entries (place_below entries k name)) (dependency_at entries k name)
 unfolding dependency_at
 dependency_yields entries k name distinct = table_yields DomainMeans domain_of entries k name distinct domain_means
 
@@ -194,7 +198,8 @@ abbrev Keeps : ℕ → List CDependency → List CDependency → List CDependenc
 Keeps count kept es r = r ≡ kept ++ filter (fits count) es
 
 -- an entry that is kept, where it isn't refused as a repeat
-one_kept : (C : Note → Type 0) (path : Place) (count n : ℕ) (kept es : List CDependency) (e : CDependency) (b : Bool) → Yields C (Keeps count (kept ++ e ∷ []) es) (kept_from path count (n + 1) (kept ++ e ∷ []) es)
+one_kept : (C : Note → Type 0) (path : Place) (count n : ℕ) (kept es : List CDependency) (e : CDependency) (b : Bool)
+    → Yields C (Keeps count (kept ++ e ∷ []) es) (kept_from path count (n + 1) (kept ++ e ∷ []) es)
     → Yields C (λ r. r ≡ kept ++ e ∷ filter (fits count) es) (cond b (refused path (place n 3) Range) (kept_from path count (n + 1) (kept ++ e ∷ []) es))
 one_kept C path count n kept es e true rest = yields_refused C (λ r. r ≡ kept ++ e ∷ filter (fits count) es) path (place n 3) Range
 one_kept C path count n kept es e false rest = yields_weaker C C (Keeps count (kept ++ e ∷ []) es) (λ r. r ≡ kept ++ e ∷ filter (fits count) es) (kept_from path count (n + 1) (kept ++ e ∷ []) es)
@@ -249,7 +254,8 @@ idle_yields entries k distinct =
 
 -- # Scales
 
-scale_yields : {S : Type 0} (Means : Width → Data → List S → Type 0) (control : S → ℕ) (entries : List Entry) (k : ℕ) (first pair limit domain : Name) (steps : Option (List S)) → IsDistinct (places_of entries)
+scale_yields : {S : Type 0} (Means : Width → Data → List S → Type 0) (control : S → ℕ) (entries : List Entry) (k : ℕ) (first pair limit domain : Name) (steps : Option (List S))
+    → IsDistinct (places_of entries)
     → AreStates Means length entries (place_below entries k first) steps
     → Yields (IsNoteOf entries k) (IsScale Means control entries (place_below entries k first) (place_below entries k pair) (place_below entries k limit) (place_below entries k domain))
     (scale_of entries k pair limit domain (option_map (map control) steps))
@@ -314,7 +320,8 @@ parts_yields entries distinct =
     let P = AreParts entries in
     yields_then C (AllZip (IsContainerOf entries) (containers_of entries)) P (each (container_parts entries) (containers_of entries)) _
     (yields_each C (IsContainerOf entries) (container_parts entries) (containers_of entries) (λ k among.
-    yields_weaker (IsNoteOf entries k) C (IsContainerOf entries k) (IsContainerOf entries k) (container_parts entries k) (λ note cause. (k, inl among, cause)) (λ c is. is) (container_yields entries k distinct))) (λ containers a.
+    yields_weaker (IsNoteOf entries k) C (IsContainerOf entries k) (IsContainerOf entries k) (container_parts entries k) (λ note cause. (k, inl among, cause))
+    (λ c is. is) (container_yields entries k distinct))) (λ containers a.
     yields_then C (AllZip (IsCpuOf entries) (processors_of entries)) P (each (cpu_parts entries) (processors_of entries)) _
     (yields_each C (IsCpuOf entries) (cpu_parts entries) (processors_of entries) (λ k among.
     yields_weaker (IsNoteOf entries k) C (IsCpuOf entries k) (IsCpuOf entries k) (cpu_parts entries k) (λ note cause. (k, inr among, cause)) (λ c is. is) (cpu_yields entries k distinct))) (λ cpus b.

@@ -136,7 +136,8 @@ deep_enough entries (x ∷ xs) m k (suc j, l, e) = deep_enough entries xs (great
 
 -- # Both ways
 
-pub processors_are : (entries : List Entry) (k : ℕ) → IsDistinct (places_of entries) → (Contains (processors_of entries) k → IsProcessor entries k) × (IsProcessor entries k → Contains (processors_of entries) k)
+pub processors_are : (entries : List Entry) (k : ℕ) → IsDistinct (places_of entries) → (Contains (processors_of entries) k → IsProcessor entries k)
+    × (IsProcessor entries k → Contains (processors_of entries) k)
 unfolding processors_of
 processors_are entries k distinct = (
   λ there. processor_to entries k (All-contains (λ q. q < length entries) (processors_of entries) k (processors_within entries) there)
@@ -162,7 +163,8 @@ container_there entries k l e =
     (contains_range (most_segments entries ks + 1) (depth_in entries k) (omega (arith, deep)))
     (contains_filter (λ q. depth_in entries q == depth_in entries k) ks k among same)
 
-pub containers_are : (entries : List Entry) (k : ℕ) → IsDistinct (places_of entries) → (Contains (containers_of entries) k → IsContainer entries k) × (IsContainer entries k → Contains (containers_of entries) k)
+pub containers_are : (entries : List Entry) (k : ℕ) → IsDistinct (places_of entries) → (Contains (containers_of entries) k → IsContainer entries k)
+    × (IsContainer entries k → Contains (containers_of entries) k)
 containers_are entries k distinct = (
   λ there. container_to entries k (All-contains (λ q. q < length entries) (containers_of entries) k (containers_within entries) there)
       (All-contains (λ q. is_container entries q ≡ true) (containers_of entries) k (containers_pass entries) there),

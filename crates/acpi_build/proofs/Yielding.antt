@@ -36,7 +36,8 @@ yields_noted C P path kind x cause p old = record { more = note_at path kind ∷
 pub yields_refused : {A : Type 0} (C : Note → Type 0) (P : A → Type 0) (path : Place) (place : place_in) (why : Why) → Yields C P (refused path place why)
 yields_refused C P path place why old = tt
 
-joined : {A B : Type 0} (C : Note → Type 0) (P : A → Type 0) (Q : B → Type 0) (old mid : List Note) (x : A) (r : Result (B × List Note) BuildFault) → Adds C P old x mid → Told C Q mid r → Told C Q old r
+joined : {A B : Type 0} (C : Note → Type 0) (P : A → Type 0) (Q : B → Type 0) (old mid : List Note) (x : A) (r : Result (B × List Note) BuildFault) → Adds C P old x mid → Told C Q mid r
+    → Told C Q old r
 joined C P Q old mid x (Ok made) first second = record {
   more = first.more ++ second.more;
   grown = second.grown ∙ ap (λ l. l ++ second.more) first.grown ∙ append_assoc old first.more second.more;
@@ -54,7 +55,8 @@ then_told C P Q old (Err fault) f first next = tt
 pub yields_then : {A B : Type 0} (C : Note → Type 0) (P : A → Type 0) (Q : B → Type 0) (m : Build A) (f : A → Build B) → Yields C P m → ((x : A) → P x → Yields C Q (f x)) → Yields C Q (m >>= f)
 yields_then C P Q m f first next old = then_told C P Q old (m old) f (first old) next
 
-weaker_told : {A : Type 0} (C D : Note → Type 0) (P Q : A → Type 0) (old : List Note) (r : Result (A × List Note) BuildFault) → ((n : Note) → C n → D n) → ((x : A) → P x → Q x) → Told C P old r → Told D Q old r
+weaker_told : {A : Type 0} (C D : Note → Type 0) (P Q : A → Type 0) (old : List Note) (r : Result (A × List Note) BuildFault) → ((n : Note) → C n → D n) → ((x : A) → P x → Q x) → Told C P old r
+    → Told D Q old r
 weaker_told C D P Q old (Ok made) c p told = record { more = told.more; grown = told.grown; caused = All-weaker C D c told.more told.caused; holds = p made.0 told.holds }
 weaker_told C D P Q old (Err fault) c p told = tt
 

@@ -62,7 +62,8 @@ pub(crate) fn object_below<'s, 'a>(
     name: Name,
 ) -> Option<&'s Placed<'a>>
     requires { index < length space.now }
-    ensures number { option_map (λ p. p.now.index) result ≡ number_at space.now (place_below space.now index name) }
+    ensures number { option_map (λ p. p.now.index) result
+        ≡ number_at space.now (place_below space.now index name) }
     ensures object { IfSome result (λ p. thing p.now.object ≡ (entry_in space.now p.now.index).object) }
     ensures width { IfSome result (λ p. p.now.width ≡ (entry_in space.now p.now.index).width) }
 {
@@ -148,7 +149,8 @@ fn put_label(labels: &mut Vec<Option<u32>>, at: usize, number: usize)
     requires { at < length labels.old.items }
     ensures many { length labels.new.items ≡ length labels.old.items }
     ensures each { (q : ℕ) → slice_index_or labels.new.items q None
-        ≡ option_or (slice_index_or labels.old.items q None) (if nat_eq q at then Some (cut number) else None) }
+        ≡ option_or (slice_index_or labels.old.items q None)
+        (if nat_eq q at then Some (cut number) else None) }
 {
     if labels[at].is_none() {
         labels[at] = Some(in_32_bits(number));

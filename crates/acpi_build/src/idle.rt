@@ -156,7 +156,8 @@ fn used(
     ensures value { Builds (λ v. v.items) result notes.old.items notes.new.items
         (kept_of (place_below space.now index Csd) lpi.now (option_map (λ v. v.items) cst.now)
         (option_map (λ v. v.items) csd.now)) }
-    ensures fit { IfOk result (λ v. FitsIdle (idle_table lpi.now (option_map (λ v. v.items) cst.now)) v.items) }
+    ensures fit { IfOk result
+        (λ v. FitsIdle (idle_table lpi.now (option_map (λ v. v.items) cst.now)) v.items) }
 {
     if lpi.is_some() {
         return Ok(Vec::new(alloc));

@@ -14,8 +14,8 @@ ghost use Rattle.acpi_build.specs.Planning.{AreSame, IsPlanFrom};
 ghost use Rattle.acpi_build.specs.Meaning.{IsAround, IsContainer, IsOuter, IsParent, IsProcessor};
 ghost use Rattle.acpi_build.specs.Sources.{IsCaused, IsContainerOf, IsCpuOf};
 
-/// Which objects are processors and containers, and their orders (ACPI 6.5, 8.4): processors stand in the order of
-/// the objects, containers by the number of their segments and then in that order.
+/// Which objects are processors and containers, and their orders (ACPI 6.5, 8.4): processors stand in
+/// the order of the objects, containers by the number of their segments and then in that order.
 pub fn processors_and_containers()
     ensures processors { (entries : List entry_type) (k : ℕ) → IsDistinct (places_of entries)
         → (Contains (processors_of entries) k ↔ IsProcessor entries k) }
@@ -25,20 +25,21 @@ pub fn processors_and_containers()
     ensures outer_first { (entries : List entry_type) → AllPairs (IsOuter entries) (containers_of entries) }
 {}
 
-/// The parent of an object is the container with the longest path that begins its own and is shorter; it has none
-/// where no container's path does. A plan has at most 256 containers.
+/// The parent of an object is the container with the longest path that begins its own and is shorter; it
+/// has none where no container's path does. A plan has at most 256 containers.
 pub fn parents_are_innermost()
     ensures some { (entries : List entry_type) (k n : ℕ) → IsDistinct (places_of entries)
         → length (containers_of entries) ≤ 256
         → ((parent_of entries k ≡ Some n)
-        ↔ ((n < length (containers_of entries)) × IsParent entries k (slice_index (containers_of entries) n))) }
+        ↔ ((n < length (containers_of entries))
+        × IsParent entries k (slice_index (containers_of entries) n))) }
     ensures none { (entries : List entry_type) (k : ℕ) → IsDistinct (places_of entries)
         → ((parent_of entries k ≡ None)
         ↔ ((c : ℕ) → Contains (containers_of entries) c → IsAround entries k c → ⊥)) }
 {}
 
-/// The containers and processors of a plan are those among the objects, one by one: each has its path, its parent,
-/// and the tables that the objects at its names mean (ACPI 6.5, 8.4).
+/// The containers and processors of a plan are those among the objects, one by one: each has its path,
+/// its parent, and the tables that the objects at its names mean (ACPI 6.5, 8.4).
 pub fn tables_are_meant()
     ensures containers { (entries : List entry_type) (P : plan_type) (notes : List note_type)
         → IsDistinct (places_of entries) → IsPlanFrom entries P notes
@@ -61,8 +62,8 @@ pub fn one_plan()
         → IsPlanFrom entries P first → IsPlanFrom entries Q second → AreSame P Q × (first ≡ second) }
 {}
 
-/// What blocks place is countable where the blocks can be written, so where bytes spell them: `plan` asks for no
-/// more.
+/// What blocks place is countable where the blocks can be written, so where bytes spell them: `plan`
+/// asks for no more.
 pub fn blocks_are_countable()
     ensures { (blocks : List block_type) → All IsWritableBlock blocks → AreCountable (entries_in blocks) }
 {}

@@ -18,7 +18,8 @@ use std::alloc::Global;
 /// Notes the domains that can't be coordinated, each at its first member.
 fn note_domains(alloc: Global, plan: &Plan, notes: &mut Vec<Note>) -> Result<(), Memory>
     requires { All (λ (d : domain_type). 0 < length d.members) plan.now.domains }
-    ensures { OnOk result (notes.new.items ≡ notes.old.items ++ unfit_notes plan.now.cpus 0 plan.now.domains) }
+    ensures { OnOk result (notes.new.items ≡ notes.old.items
+        ++ unfit_notes plan.now.cpus 0 plan.now.domains) }
 {
     for (place, domain) in plan.domains.as_slice().iter().enumerate() {
         if domain.unfit > 0 {
@@ -43,10 +44,10 @@ fn limit_fault(fault: PlanFault) -> BuildFault
     }
 }
 
-/// The plan of the machine that the objects of a namespace tell of (ACPI 6.5, 8.4), with notes of what counts as
-/// absent and of the domains that can't be coordinated. `Object` comes where a table means nothing: the first in the
-/// order of containers, processors and names. `Limit` comes where all tables mean something, and a limit of plans is
-/// passed.
+/// The plan of the machine that the objects of a namespace tell of (ACPI 6.5, 8.4), with notes of what
+/// counts as absent and of the domains that can't be coordinated. `Object` comes where a table means
+/// nothing: the first in the order of containers, processors and names. `Limit` comes where all tables
+/// mean something, and a limit of plans is passed.
 #[tactic(auto, unfolding(crate::specs::Planning::parts_within))]
 pub fn plan(alloc: Global, space: &Space) -> Result<(Plan, Vec<Note>), BuildFault>
     requires { AreCountable space.now }

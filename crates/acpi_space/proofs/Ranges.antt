@@ -40,7 +40,8 @@ itself Greater e = absurd (false≢true (sym (ap is_gt e)))
 after_first : (s seg : List ℕ) (above a : ℕ) → s ≡ seg → above + 1 ≤ a → is_gt (key_cmp (key s above) (key seg a)) ≡ false → ⊥
 after_first s seg above a same more e =
     let equal : slice_cmp nat_cmp seg seg ≡ Equal = itself (slice_cmp nat_cmp seg seg) (nat_list_cmp_total.antisymm seg seg) in
-    let plain : is_gt (nat_cmp a above) ≡ false = subst (λ o. is_gt (ordering_then o (nat_cmp a above)) ≡ false) equal (subst (λ t. is_gt (ordering_then (slice_cmp nat_cmp seg t) (nat_cmp a above)) ≡ false) same e) in
+    let plain : is_gt (nat_cmp a above) ≡ false = subst (λ o. is_gt (ordering_then o (nat_cmp a above)) ≡ false) equal (subst (λ t. is_gt (ordering_then (slice_cmp nat_cmp seg t) (nat_cmp a above))
+    ≡ false) same e) in
     let less = not_above a above plain in
     absurd (omega arith)
 

@@ -4,10 +4,10 @@ use Rattle.std.proofs.lemmas.Bool.Decides.{eqb_tells}
 use Rattle.aml_data.specs.declared.data.Data.{Data}
 use Rattle.aml_data.specs.declared.data.Width.{Width}
 use Rattle.aml_data.specs.declared.path.Path.{Path}
-use Rattle.aml_terms.specs.declared.term.Term.{Term, Term-F, map-Term, out-Term, fold_out-Term}
-use Rattle.aml_terms.specs.declared.term.Term.TheOpen as layer
-use Rattle.aml_terms.specs.declared.term.Term.TheVariants.{Name, Scope, Device, Processor, Unread, Alias, External, Mutex, Event, Region}
-use Rattle.aml_terms.specs.declared.term.Term.TheViews.{outs-Name, outs-Scope, outs-Device, outs-Processor, outs-Unread, outs-Alias, outs-External, outs-Mutex, outs-Event, outs-Region}
+use Rattle.aml_block.specs.declared.term.Term.{Term, Term-F, map-Term, out-Term, fold_out-Term}
+use Rattle.aml_block.specs.declared.term.Term.TheOpen as layer
+use Rattle.aml_block.specs.declared.term.Term.TheVariants.{Name, Scope, Device, Processor, Unread, Alias, External, Mutex, Event, Region}
+use Rattle.aml_block.specs.declared.term.Term.TheViews.{outs-Name, outs-Scope, outs-Device, outs-Processor, outs-Unread, outs-Alias, outs-External, outs-Mutex, outs-Event, outs-Region}
 use Rattle.acpi_space.specs.Things.Thing.{data_object, device, processor, alias_of}
 use Rattle.acpi_space.specs.Places.{Place, place_of, opened}
 use Rattle.acpi_space.specs.inner.Naming.{named_by}

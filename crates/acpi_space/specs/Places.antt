@@ -48,6 +48,7 @@ IsKnown known place = (rest : Place) × Contains known (place ++ rest)
 pub data Opens (known : List Place) (scope : Place) (path : Path) : Place → Type 0 where
   opens_there : is_single path ≡ false → Opens known scope path (place_of scope path)
   opens_nearest : is_single path ≡ true → (n : ℕ) → n ≤ length scope → IsKnown known (take n scope ++ path.segs)
-      → ((m : ℕ) → n < m → m ≤ length scope → IsKnown known (take m scope ++ path.segs) → ⊥) → Opens known scope path (take n scope ++ path.segs)
+      → ((m : ℕ) → n < m → m ≤ length scope → IsKnown known (take m scope ++ path.segs) → ⊥)
+      → Opens known scope path (take n scope ++ path.segs)
   opens_new : is_single path ≡ true → ((m : ℕ) → m ≤ length scope → IsKnown known (take m scope ++ path.segs) → ⊥)
       → Opens known scope path (scope ++ path.segs)

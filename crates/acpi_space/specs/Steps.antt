@@ -3,9 +3,9 @@
 use Rattle.std.specs.Prelude.{◌==◌, List, [], ◌∷◌, ◌++◌, map, Option, Some, None, if◌then◌else◌}
 use Rattle.aml_data.specs.declared.data.Width.{Width}
 use Rattle.aml_data.specs.declared.path.Path.{Path}
-use Rattle.aml_terms.specs.declared.opcode.TheConstants.{METHOD_OP}
-use Rattle.aml_terms.specs.declared.term.Term.{Term, Term-F, fold-Term}
-use Rattle.aml_terms.specs.declared.term.Term.TheOpen as layer
+use Rattle.aml_block.specs.declared.opcode.TheConstants.{METHOD_OP}
+use Rattle.aml_block.specs.declared.term.Term.{Term, Term-F, fold-Term}
+use Rattle.aml_block.specs.declared.term.Term.TheOpen as layer
 use Rattle.acpi_space.specs.Things.{Thing}
 use Rattle.acpi_space.specs.Things.Thing.{data_object, device, processor, method, alias_of}
 use Rattle.acpi_space.specs.Places.{Place, place_of, opened}
@@ -55,7 +55,8 @@ abbrev pub steps_layer : Width → Term-F Turn → Turn
 steps_layer width (layer.Name path value) scope before = gives width (place_of scope path) (data_object value) ∷ []
 steps_layer width (layer.Scope path inside) scope before = then_inside (opens (opened (touched before) scope path)) inside before
 steps_layer width (layer.Device path inside) scope before = then_inside (gives width (place_of scope path) device) inside before
-steps_layer width (layer.Processor path id block len inside) scope before = then_inside (gives width (place_of scope path) processor) inside before
+steps_layer width (layer.Processor path id block len inside) scope before = then_inside (gives width (place_of scope path) processor) inside
+    before
 steps_layer width (layer.Unread opcode body) scope before = if opcode == METHOD_OP then method_steps width scope (named_by body) else []
 steps_layer width (layer.Alias source alias) scope before = gives width (place_of scope alias) (alias_of source) ∷ []
 steps_layer width other scope before = []

@@ -85,7 +85,8 @@ pub(crate) fn at_objects(
     placed: &[Placed],
     around: &[Option<u32>],
 ) -> Result<Vec<Option<u32>>, Memory>
-    requires { (i : ℕ) (d : placed_of) → i < length placed.now → (get_or placed.now i d).name < length around.now }
+    requires { (i : ℕ) (d : placed_of) → i < length placed.now
+        → (get_or placed.now i d).name < length around.now }
     ensures { IfOk result (λ r. r.items ≡ map (λ (p : placed_of). get_or around.now p.name None) placed.now) }
 {
     let mut result = Vec::new(alloc);

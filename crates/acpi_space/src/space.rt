@@ -199,7 +199,8 @@ impl<'a> Space<'a> {
         labels: &[Option<u32>],
     ) -> Result<Vec<Option<u32>>, Memory>
         requires { length labels.now ≡ length self.now }
-        ensures { IfOk result (λ r. r.items ≡ map (λ (e : entry_of). label_around self.now labels.now e.path) self.now) }
+        ensures { IfOk result
+            (λ r. r.items ≡ map (λ (e : entry_of). label_around self.now labels.now e.path) self.now) }
     {
         self.tree.facts();
         let around = around_places(

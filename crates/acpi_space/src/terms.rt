@@ -14,9 +14,9 @@ use crate::building::Building;
 use crate::fault::SpaceFault;
 use crate::object::Object;
 use aml_block::Term;
+use aml_block::opcode::METHOD_OP;
 use aml_data::opcode::{PARENT_PREFIX_CHAR, ROOT_CHAR};
 use aml_data::{DataFault, Seg, Width, name_of};
-use aml_terms::opcode::METHOD_OP;
 use pw_base::{CompactList, Memory};
 use std::alloc::Global;
 

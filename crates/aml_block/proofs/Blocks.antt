@@ -6,12 +6,12 @@ use Rattle.aml_data.specs.declared.fault.DataFault.TheVariants.{Memory as no_dat
 use Rattle.aml_data.specs.Decoded.{AreBytes}
 use Rattle.aml_data.proofs.Steps.{IsBytes, IsBytes-drop}
 use Rattle.aml_data.proofs.Places.{all_bytes}
-use Rattle.aml_terms.specs.declared.fault.TermFault.{TermFault}
-use Rattle.aml_terms.specs.declared.fault.TermFault.TheVariants.{Data as in_part, BadTerm as bad_term}
-use Rattle.aml_terms.specs.inner.Reading.{terms_at}
+use Rattle.aml_block.specs.declared.term_fault.TermFault.{TermFault}
+use Rattle.aml_block.specs.declared.term_fault.TermFault.TheVariants.{Data as in_part, BadTerm as bad_term}
+use Rattle.aml_block.specs.inner.TermReading.{terms_at}
 use Rattle.aml_data.proofs.Causes.{IsCause}
-use Rattle.aml_terms.proofs.Causes.{IsTermCause, block_terms_cause}
-use Rattle.aml_terms.proofs.TermLists.{terms_take, terms_again, terms_fail, terms_refused}
+use Rattle.aml_block.proofs.Causes.{IsTermCause, block_terms_cause}
+use Rattle.aml_block.proofs.TermLists.{terms_take, terms_again, terms_fail, terms_refused}
 use Rattle.aml_block.specs.declared.block.Header.{Header}
 use Rattle.aml_block.specs.declared.block.Block.{Block}
 use Rattle.aml_block.specs.declared.fault.HeaderFault.{HeaderFault}
@@ -23,7 +23,7 @@ use Rattle.aml_block.specs.Header.{IsHeader, HasSize, HasSignature, HasLength, H
 use Rattle.aml_block.specs.Spelling.{BlockSpells}
 use Rattle.aml_block.specs.Faults.{HeaderFails, BlockFails, fails_in_header, fails_in_terms}
 use Rattle.aml_block.specs.inner.Reading.{Gives, header_part, header_at, terms_part, block_at}
-use Rattle.aml_terms.proofs.Chains.{bind_ok, bind_err, done, ok_is, err_is}
+use Rattle.aml_block.proofs.Chains.{bind_ok, bind_err, done, ok_is, err_is}
 use Rattle.aml_block.proofs.Steps.{terms_ok, terms_err}
 use Rattle.aml_block.proofs.Headers.{HeaderTold, header_told, header_again, header_refused}
 

@@ -1,6 +1,6 @@
 -- What terms give, as a part of a block.
 use Rattle.std.proofs.Common.{◌≡◌, Result, Ok, Err, refl, ap}
-use Rattle.aml_terms.specs.declared.fault.TermFault.{TermFault}
+use Rattle.aml_block.specs.declared.term_fault.TermFault.{TermFault}
 use Rattle.aml_block.specs.declared.fault.BlockFault.{BlockFault}
 use Rattle.aml_block.specs.Causes.{term_cause}
 use Rattle.aml_block.specs.inner.Reading.{terms_part}

@@ -4,10 +4,10 @@ use Rattle.std.specs.Prelude.{IfOk}
 use Rattle.std.proofs.lemmas.List.{length-take}
 use Rattle.aml_data.specs.declared.data.Data.{Data}
 use Rattle.aml_data.specs.Countable.{IsIn, IsCountable}
-use Rattle.aml_terms.specs.Values.{HasValue}
-use Rattle.aml_terms.proofs.TermValues.{values_countable}
-use Rattle.aml_terms.specs.Written.{written_terms}
-use Rattle.aml_terms.proofs.TermLists.{terms_spelled, terms_least, terms_writable}
+use Rattle.aml_block.specs.Values.{HasValue}
+use Rattle.aml_block.proofs.TermValues.{values_countable}
+use Rattle.aml_block.specs.WrittenTerms.{written_terms}
+use Rattle.aml_block.proofs.TermLists.{terms_spelled, terms_least, terms_writable}
 use Rattle.aml_block.specs.declared.block.Block.{Block}
 use Rattle.aml_block.specs.declared.fault.BlockFault.{BlockFault}
 use Rattle.aml_block.specs.Header.{field}

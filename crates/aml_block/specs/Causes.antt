@@ -1,8 +1,8 @@
 -- What a fault of a part is as a fault of the block.
 use Rattle.aml_data.specs.declared.fault.DataFault.{DataFault}
 use Rattle.aml_data.specs.declared.fault.DataFault.TheVariants.{Memory as no_data_memory}
-use Rattle.aml_terms.specs.declared.fault.TermFault.{TermFault}
-use Rattle.aml_terms.specs.declared.fault.TermFault.TheVariants.{Data as in_part, BadTerm as bad_term}
+use Rattle.aml_block.specs.declared.term_fault.TermFault.{TermFault}
+use Rattle.aml_block.specs.declared.term_fault.TermFault.TheVariants.{Data as in_part, BadTerm as bad_term}
 use Rattle.aml_block.specs.declared.fault.BlockFault.{BlockFault}
 use Rattle.aml_block.specs.declared.fault.BlockFault.TheVariants.{Data as in_data, BadTerm, ReadFault, Memory}
 use Rattle.aml_block.specs.declared.file.FileFault.{FileFault}

@@ -1,8 +1,8 @@
 -- The first fault of a block: that of its header, and behind a right header that of its terms. Places count from the first
 -- byte of the block.
 use Rattle.std.specs.Prelude.{ℕ, ◌<◌, List, length, drop}
-use Rattle.aml_terms.specs.declared.fault.TermFault.{TermFault}
-use Rattle.aml_terms.specs.Faults.{TermsFail}
+use Rattle.aml_block.specs.declared.term_fault.TermFault.{TermFault}
+use Rattle.aml_block.specs.TermFaults.{TermsFail}
 use Rattle.aml_block.specs.declared.fault.HeaderFault.{HeaderFault}
 use Rattle.aml_block.specs.declared.fault.HeaderFault.TheVariants.{Large, Short, Signature, Length, Sum}
 use Rattle.aml_block.specs.declared.fault.BlockFault.{BlockFault}

@@ -5,3 +5,11 @@ pub mod Written
 pub mod Faults
 pub mod Answers
 pub mod inner
+pub mod Opcodes
+pub mod Layouts
+pub mod Grammar
+pub mod TermFaults
+pub mod WrittenTerms
+pub mod Values
+pub mod BlocksCauses
+pub mod Held

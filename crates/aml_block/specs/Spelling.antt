@@ -1,6 +1,6 @@
 -- What spells a block: its header, and then its terms (ACPI 6.5, 5.2.11).
 use Rattle.std.specs.Prelude.{ℕ, List, drop}
-use Rattle.aml_terms.specs.Grammar.{TermsSpell}
+use Rattle.aml_block.specs.Grammar.{TermsSpell}
 use Rattle.aml_block.specs.declared.block.Block.{Block}
 use Rattle.aml_block.specs.declared.header.TheConstants.{HEADER_SIZE}
 use Rattle.aml_block.specs.Header.{IsHeader, HasSize, HasLength, HasSum}

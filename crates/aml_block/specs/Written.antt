@@ -1,7 +1,7 @@
 -- The written form of a block: of every part the shortest spelling, with the length and the checksum that fit it.
 use Rattle.std.specs.Prelude.{◌≡◌, ℕ, ◌+◌, ◌-◌, ◌%◌, ◌≤◌, ◌<◌, ◌^◌, List, ◌∷◌, ◌++◌, length, sum}
 use Rattle.std.specs.Int.{w32, to_le_bytes}
-use Rattle.aml_terms.specs.Written.{written_terms, AreWritableTerms}
+use Rattle.aml_block.specs.WrittenTerms.{written_terms, AreWritableTerms}
 use Rattle.aml_block.specs.declared.block.Block.{Block}
 use Rattle.aml_block.specs.declared.block.Header.{Header}
 use Rattle.aml_block.specs.declared.header.TheConstants.{LARGEST, HEADER_SIZE}

@@ -1,7 +1,7 @@
 ghost use Rattle.std.specs.Prelude.{◌≡◌};
 
+use crate::Term;
 use aml_data::Width;
-use aml_terms::Term;
 use pw_base::CompactList;
 
 /// Which table a block is.

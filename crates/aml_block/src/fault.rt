@@ -3,9 +3,9 @@ ghost use Rattle.aml_block.specs.declared.fault.BlockFault.TheVariants as faults
 ghost use Rattle.aml_block.specs.declared.fault.WriteFault.TheVariants as write_faults;
 ghost use Rattle.aml_block.specs.Causes.{data_cause, term_cause, file_cause};
 
+use crate::TermFault;
 use crate::file::FileFault;
 use aml_data::DataFault;
-use aml_terms::TermFault;
 use pw_base::{Failed, Memory};
 use std::alloc::{AllocError, AllocFailed};
 use thiserror::Error;

@@ -4,7 +4,7 @@ ghost use Rattle.aml_block.specs.declared.fault.BlockFault.{BlockFault as fault_
 ghost use Rattle.aml_data.specs.declared.data.Data.{Data};
 ghost use Rattle.aml_data.specs.Countable.{IsIn, IsCountable};
 ghost use Rattle.aml_data.specs.Decoded.{AreBytes};
-ghost use Rattle.aml_terms.specs.Values.{HasValue};
+ghost use Rattle.aml_block.specs.Values.{HasValue};
 ghost use Rattle.aml_block.specs.Spelling.{BlockSpells};
 ghost use Rattle.aml_block.specs.Faults.{BlockFails};
 ghost use Rattle.aml_block.specs.Written.{written_block, IsInRange, IsWritableBlock};
@@ -31,7 +31,8 @@ pub fn block_or_fault()
 /// spelling of a block is shorter; and each block that bytes spell can be written.
 pub fn written_blocks()
     ensures spelled { (b : block) → IsWritableBlock b → IsInRange b.header → BlockSpells b (written_block b) }
-    ensures least { (b : block) (bytes : List ℕ) → BlockSpells b bytes → length (written_block b) ≤ length bytes }
+    ensures least { (b : block) (bytes : List ℕ) → BlockSpells b bytes
+        → length (written_block b) ≤ length bytes }
     ensures writable { (b : block) (bytes : List ℕ) → BlockSpells b bytes → IsWritableBlock b }
 {}
 

@@ -11,7 +11,7 @@ ghost use Rattle.aml_block.specs.inner.Reading.{Gives, block_at};
 use crate::block::Block;
 use crate::fault::BlockFault;
 use crate::header::{HEADER_SIZE, header_of};
-use aml_terms::terms_of;
+use crate::terms_of;
 use std::alloc::Global;
 
 #[tactic(auto, unfolding(crate::specs::inner::Reading::block_at))]

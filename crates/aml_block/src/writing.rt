@@ -9,7 +9,7 @@ ghost use Rattle.aml_block.specs.Spelling.{BlockSpells};
 use crate::block::{Block, Header, Signature};
 use crate::fault::WriteFault;
 use crate::header::{HEADER_SIZE, LARGEST, sum_of};
-use aml_terms::{encode_terms, is_writable_terms, written_terms_len};
+use crate::{encode_terms, is_writable_terms, written_terms_len};
 use pw_base::{Memory, Sink, put_all};
 use std::alloc::Global;
 

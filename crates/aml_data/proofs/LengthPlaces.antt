@@ -82,7 +82,8 @@ pub length_fault : (bytes : List ℕ) (at : ℕ) (r : Result (ℕ × ℕ) DataFa
 length_fault bytes at (Ok x) fits given = tt
 length_fault bytes at (Err e) fits given = length_fails (length bytes) (drop at bytes) e (IsBytes-drop at bytes fits) (place_fails bytes at e given)
 
-pub length_first_fault : (bytes : List ℕ) (at : ℕ) (r : Result (ℕ × ℕ) DataFault) → Tells (λ x. x) r (length_from_place at bytes) → (f : DataFault) → LenFails (length bytes) (drop at bytes) f → r ≡ Err f
+pub length_first_fault : (bytes : List ℕ) (at : ℕ) (r : Result (ℕ × ℕ) DataFault) → Tells (λ x. x) r (length_from_place at bytes) → (f : DataFault) → LenFails (length bytes) (drop at bytes) f
+    → r ≡ Err f
 length_first_fault bytes at r given f h = sym (told_is r (length_from_place at bytes) given) ∙ place_refused bytes at f h
 
 -- ---- a length, or a fault

@@ -20,3 +20,10 @@ pub mod WrittenLengths
 pub mod Causes
 pub mod Room
 pub mod SegOrder
+pub mod ShortestParts
+pub mod ShortestNames
+pub mod ShortestObjects
+pub mod Placed
+pub mod Variants
+pub mod Nestings
+pub mod Counting

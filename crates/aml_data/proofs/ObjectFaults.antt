@@ -48,7 +48,8 @@ revision_fails depth end (b ∷ rest) fault e =
       | inr h ↦ met (λ f. FailsWithin depth end (91 ∷ b ∷ rest) f) (BadLead (end - length (b ∷ rest)) b) fault h.1 (fails_other_second (eqb-false _ _ h.0))
     ]
 
-object_text_fails : (depth end : ℕ) (rest : List ℕ) (fault : DataFault) → ◌>>=◌ {B = Data × List ℕ} (text_at end rest) (λ text. Ok (Text text.0, text.1)) ≡ Err fault → FailsWithin depth end (13 ∷ rest) fault
+object_text_fails : (depth end : ℕ) (rest : List ℕ) (fault : DataFault) → ◌>>=◌ {B = Data × List ℕ} (text_at end rest) (λ text. Ok (Text text.0, text.1)) ≡ Err fault
+    → FailsWithin depth end (13 ∷ rest) fault
 object_text_fails depth end rest fault e =
     elim (bind_err (text_at end rest) (λ text. Ok (Text text.0, text.1)) fault e) [
       | inl h ↦ fails_in_text (text_fails end rest fault h)
@@ -76,7 +77,8 @@ as_object depth end lead rest fault other (fails_other_byte none) = fails_other_
   name = other.name;
 })
 
-integer_fails : (depth end lead : ℕ) (rest : List ℕ) (fault : DataFault) → OtherLead lead → IsBytes (lead ∷ rest) → ◌>>=◌ {B = Data × List ℕ} (constant_at end (lead ∷ rest)) (λ n. Ok (Int n.0, n.1)) ≡ Err fault
+integer_fails : (depth end lead : ℕ) (rest : List ℕ) (fault : DataFault) → OtherLead lead → IsBytes (lead ∷ rest) → ◌>>=◌ {B = Data × List ℕ} (constant_at end (lead ∷ rest)) (λ n. Ok (Int n.0, n.1))
+    ≡ Err fault
     → FailsWithin depth end (lead ∷ rest) fault
 integer_fails depth end lead rest fault other fits e =
     elim (bind_err (constant_at end (lead ∷ rest)) (λ n. Ok (Int n.0, n.1)) fault e) [
@@ -109,7 +111,8 @@ no_object_fails : (depth : ℕ) (inner : Option (ℕ → List ℕ → Read Data)
 unfolding object_by
 no_object_fails depth inner end fault e = met (λ f. FailsWithin depth end [] f) (Short end) fault e fails_no_object
 
-by_fails : (depth : ℕ) (inner : Option (ℕ → List ℕ → Read Data)) → Inner FailingWithin depth inner → (end : ℕ) (bytes : List ℕ) (fault : DataFault) → IsBytes bytes → object_by inner end bytes ≡ Err fault
+by_fails : (depth : ℕ) (inner : Option (ℕ → List ℕ → Read Data)) → Inner FailingWithin depth inner → (end : ℕ) (bytes : List ℕ) (fault : DataFault) → IsBytes bytes
+    → object_by inner end bytes ≡ Err fault
     → FailsWithin depth end bytes fault
 by_fails depth inner h end [] fault fits e = no_object_fails depth inner end fault e
 by_fails depth inner h end (lead ∷ rest) fault fits e = lead_fails depth inner h end lead rest fault (lead_case lead) fits e

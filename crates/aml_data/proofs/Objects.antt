@@ -45,7 +45,8 @@ revision_takes depth end (b ∷ rest) x fits e =
       | inr h ↦ absurd (let impossible = h.1 in cc)
     ]
 
-object_text_takes : (depth end : ℕ) (rest : List ℕ) (x : Data × List ℕ) → IsBytes (13 ∷ rest) → (text_at end rest >>= λ text. Ok (Text text.0, text.1)) ≡ Ok x → Takes (SpellsWithin depth) (13 ∷ rest) x
+object_text_takes : (depth end : ℕ) (rest : List ℕ) (x : Data × List ℕ) → IsBytes (13 ∷ rest) → (text_at end rest >>= λ text. Ok (Text text.0, text.1)) ≡ Ok x
+    → Takes (SpellsWithin depth) (13 ∷ rest) x
 object_text_takes depth end rest x fits e =
     let a = bind_ok (text_at end rest) (λ text. Ok (Text text.0, text.1)) x e in
     let text = a.0.0 in

@@ -84,7 +84,8 @@ length-VarPackage count vs =
     let body = joined (map written vs) in
     rw (written-VarPackage count vs) (length-sized 19 (written_constant count ++ body) ∙ ap (λ (k : ℕ). 1 + length (written_length k) + k) (length-append (written_constant count) body))
 
-pub length-counted : (c : Counted Data) → let n = length (written_constant c.count) + length (joined (map written c.elements)) in length (written (variant.VarPackage c)) ≡ 1 + length (written_length n) + n
+pub length-counted : (c : Counted Data) → let n = length (written_constant c.count) + length (joined (map written c.elements)) in length (written (variant.VarPackage c))
+    ≡ 1 + length (written_length n) + n
 length-counted c = length-VarPackage c.count c.elements
 
 pub ruleset names = (length-written_name)

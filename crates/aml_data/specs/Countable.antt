@@ -24,5 +24,7 @@ IsCountable object = LayerIsCountable (out-Data object)
 -- an object is in itself, and in a package one of whose elements it is in
 pub data IsIn (part : Data) : Data → Type 0 where
   is_itself : IsIn part part
-  is_in_element : (count : ℕ) (elements : List Data) (element : Data) → Contains elements element → IsIn part element → IsIn part (Package count elements)
-  is_in_counted : (count : ℕ) (elements : List Data) (element : Data) → Contains elements element → IsIn part element → IsIn part (VarPackage count elements)
+  is_in_element : (count : ℕ) (elements : List Data) (element : Data) → Contains elements element → IsIn part element
+      → IsIn part (Package count elements)
+  is_in_counted : (count : ℕ) (elements : List Data) (element : Data) → Contains elements element → IsIn part element
+      → IsIn part (VarPackage count elements)

@@ -22,13 +22,15 @@ pub data Follows : ℕ → ℕ → Type 0 where
 
 -- a byte that begins no integer constant
 abbrev pub IsNoConstant : ℕ → Type 0
-IsNoConstant lead = (lead ≢ ZERO_OP) × (lead ≢ ONE_OP) × (lead ≢ BYTE_PREFIX) × (lead ≢ WORD_PREFIX) × (lead ≢ DWORD_PREFIX) × (lead ≢ QWORD_PREFIX)
+IsNoConstant lead = (lead ≢ ZERO_OP) × (lead ≢ ONE_OP) × (lead ≢ BYTE_PREFIX) × (lead ≢ WORD_PREFIX) × (lead ≢ DWORD_PREFIX)
+    × (lead ≢ QWORD_PREFIX)
 
 -- an integer constant: its lead byte, and then the bytes of its number
 pub data ConstFails : ℕ → List ℕ → DataFault → Type 0 where
   fails_no_constant : {end : ℕ} → ConstFails end [] (Short end)
   fails_few_bytes : {end lead n : ℕ} {rest : List ℕ} → Follows lead n → length rest < n → ConstFails end (lead ∷ rest) (Short end)
-  fails_other_byte : {end lead : ℕ} {rest : List ℕ} → IsNoConstant lead → ConstFails end (lead ∷ rest) (BadLead (end - length (lead ∷ rest)) lead)
+  fails_other_byte : {end lead : ℕ} {rest : List ℕ} → IsNoConstant lead
+      → ConstFails end (lead ∷ rest) (BadLead (end - length (lead ∷ rest)) lead)
 
 -- a string behind its lead byte: its bytes up to the 0 that ends it
 pub data TextFails : ℕ → List ℕ → DataFault → Type 0 where
@@ -60,11 +62,14 @@ pub data SeveralFail : ℕ → ℕ → List ℕ → DataFault → Type 0 where
 -- the segments of a name, by their first byte
 pub data SegmentsFail : ℕ → List ℕ → DataFault → Type 0 where
   fails_no_segments : {end : ℕ} → SegmentsFail end [] (Short end)
-  fails_in_two : {end : ℕ} {bytes : List ℕ} {fault : DataFault} → SeveralFail 2 end bytes fault → SegmentsFail end (DUAL_NAME_PREFIX ∷ bytes) fault
+  fails_in_two : {end : ℕ} {bytes : List ℕ} {fault : DataFault} → SeveralFail 2 end bytes fault
+      → SegmentsFail end (DUAL_NAME_PREFIX ∷ bytes) fault
   fails_no_count : {end : ℕ} → SegmentsFail end (MULTI_NAME_PREFIX ∷ []) (Short end)
   fails_count_zero : {end : ℕ} {rest : List ℕ} → SegmentsFail end (MULTI_NAME_PREFIX ∷ 0 ∷ rest) (BadName (end - length (0 ∷ rest)))
-  fails_in_many : {end n : ℕ} {bytes : List ℕ} {fault : DataFault} → 0 < n → SeveralFail n end bytes fault → SegmentsFail end (MULTI_NAME_PREFIX ∷ n ∷ bytes) fault
-  fails_in_one : {end b : ℕ} {rest : List ℕ} {fault : DataFault} → b ≢ NULL_NAME → b ≢ DUAL_NAME_PREFIX → b ≢ MULTI_NAME_PREFIX → SeveralFail 1 end (b ∷ rest) fault
+  fails_in_many : {end n : ℕ} {bytes : List ℕ} {fault : DataFault} → 0 < n → SeveralFail n end bytes fault
+      → SegmentsFail end (MULTI_NAME_PREFIX ∷ n ∷ bytes) fault
+  fails_in_one : {end b : ℕ} {rest : List ℕ} {fault : DataFault} → b ≢ NULL_NAME → b ≢ DUAL_NAME_PREFIX → b ≢ MULTI_NAME_PREFIX
+      → SeveralFail 1 end (b ∷ rest) fault
       → SegmentsFail end (b ∷ rest) fault
 
 -- the longest prefix stands in front
@@ -96,20 +101,28 @@ mutual
     fails_no_object : {depth end : ℕ} → FailsWithin depth end [] (Short end)
     fails_other_lead : {depth end lead : ℕ} {rest : List ℕ} → BeginsNothing lead
         → FailsWithin depth end (lead ∷ rest) (BadLead (end - length (lead ∷ rest)) lead)
-    fails_in_constant : {depth end lead n : ℕ} {rest : List ℕ} → Follows lead n → length rest < n → FailsWithin depth end (lead ∷ rest) (Short end)
+    fails_in_constant : {depth end lead n : ℕ} {rest : List ℕ} → Follows lead n → length rest < n
+        → FailsWithin depth end (lead ∷ rest) (Short end)
     fails_no_second : {depth end : ℕ} → FailsWithin depth end (EXT_OP_PREFIX ∷ []) (Short end)
-    fails_other_second : {depth end b : ℕ} {rest : List ℕ} → b ≢ REVISION_OP → FailsWithin depth end (EXT_OP_PREFIX ∷ b ∷ rest) (BadLead (end - length (b ∷ rest)) b)
-    fails_in_text : {depth end : ℕ} {rest : List ℕ} {fault : DataFault} → TextFails end rest fault → FailsWithin depth end (STRING_PREFIX ∷ rest) fault
+    fails_other_second : {depth end b : ℕ} {rest : List ℕ} → b ≢ REVISION_OP
+        → FailsWithin depth end (EXT_OP_PREFIX ∷ b ∷ rest) (BadLead (end - length (b ∷ rest)) b)
+    fails_in_text : {depth end : ℕ} {rest : List ℕ} {fault : DataFault} → TextFails end rest fault
+        → FailsWithin depth end (STRING_PREFIX ∷ rest) fault
     fails_in_path : {depth end lead : ℕ} {rest : List ℕ} {fault : DataFault} → begins_name lead ≡ true → NameFails end (lead ∷ rest) fault
         → FailsWithin depth end (lead ∷ rest) fault
-    fails_in_buffer : {depth end : ℕ} {rest : List ℕ} {fault : DataFault} → SizedFails ConstFails end rest fault → FailsWithin depth end (BUFFER_OP ∷ rest) fault
+    fails_in_buffer : {depth end : ℕ} {rest : List ℕ} {fault : DataFault} → SizedFails ConstFails end rest fault
+        → FailsWithin depth end (BUFFER_OP ∷ rest) fault
     fails_too_deep : {end : ℕ} {rest : List ℕ} → FailsWithin zero end (PACKAGE_OP ∷ rest) (TooDeep (end - length (PACKAGE_OP ∷ rest)))
-    fails_in_count : {depth end : ℕ} {rest : List ℕ} {fault : DataFault} → SizedFails (FewerThan 1) end rest fault → FailsWithin (suc depth) end (PACKAGE_OP ∷ rest) fault
+    fails_in_count : {depth end : ℕ} {rest : List ℕ} {fault : DataFault} → SizedFails (FewerThan 1) end rest fault
+        → FailsWithin (suc depth) end (PACKAGE_OP ∷ rest) fault
     fails_in_elements : {depth end count : ℕ} {fault : DataFault} {c body : List ℕ} (b rest : List ℕ) → Holds (c ++ body) b → Octet count c
         → ElementsFail depth count (end - length rest) body fault → FailsWithin (suc depth) end (PACKAGE_OP ∷ (b ++ rest)) fault
-    fails_var_too_deep : {end : ℕ} {rest : List ℕ} → FailsWithin zero end (VAR_PACKAGE_OP ∷ rest) (TooDeep (end - length (VAR_PACKAGE_OP ∷ rest)))
-    fails_in_var_count : {depth end : ℕ} {rest : List ℕ} {fault : DataFault} → SizedFails ConstFails end rest fault → FailsWithin (suc depth) end (VAR_PACKAGE_OP ∷ rest) fault
-    fails_in_var_elements : {depth end count : ℕ} {fault : DataFault} {c body : List ℕ} (b rest : List ℕ) → Holds (c ++ body) b → Const count c
+    fails_var_too_deep : {end : ℕ} {rest : List ℕ}
+        → FailsWithin zero end (VAR_PACKAGE_OP ∷ rest) (TooDeep (end - length (VAR_PACKAGE_OP ∷ rest)))
+    fails_in_var_count : {depth end : ℕ} {rest : List ℕ} {fault : DataFault} → SizedFails ConstFails end rest fault
+        → FailsWithin (suc depth) end (VAR_PACKAGE_OP ∷ rest) fault
+    fails_in_var_elements : {depth end count : ℕ} {fault : DataFault} {c body : List ℕ} (b rest : List ℕ) → Holds (c ++ body) b
+        → Const count c
         → ElementsFail depth count (end - length rest) body fault → FailsWithin (suc depth) end (VAR_PACKAGE_OP ∷ (b ++ rest)) fault
 
   -- the elements of a package of so many, where its bytes go on: one too many, this one, or one after it

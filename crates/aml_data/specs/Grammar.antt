@@ -56,12 +56,14 @@ mutual
     spells_ones : {depth : ℕ} → SpellsWithin depth Ones (ONES_OP ∷ [])
     spells_revision : {depth : ℕ} → SpellsWithin depth Revision (EXT_OP_PREFIX ∷ REVISION_OP ∷ [])
     spells_text : {depth : ℕ} (t : List ℕ) → AllByRecursion IsAscii t → SpellsWithin depth (Text t) (STRING_PREFIX ∷ t ++ 0 ∷ [])
-    spells_buffer : {depth size : ℕ} {bytes b : List ℕ} → Sized (Both Const Rest) (size, bytes) b → SpellsWithin depth (Buffer size bytes) (BUFFER_OP ∷ b)
+    spells_buffer : {depth size : ℕ} {bytes b : List ℕ} → Sized (Both Const Rest) (size, bytes) b
+        → SpellsWithin depth (Buffer size bytes) (BUFFER_OP ∷ b)
     spells_path : {depth : ℕ} {name : Path} {b : List ℕ} → NameOf name b → HasPart name → SpellsWithin depth (at_path name) b
     spells_package : {depth count : ℕ} {elements : List Data} {c body b : List ℕ} → Holds (c ++ body) b → Octet count c
         → AllSpelled depth elements body → length elements ≤ count → SpellsWithin (suc depth) (Package count elements) (PACKAGE_OP ∷ b)
     spells_var_package : {depth count : ℕ} {elements : List Data} {c body b : List ℕ} → Holds (c ++ body) b → Const count c
-        → AllSpelled depth elements body → length elements ≤ count → SpellsWithin (suc depth) (VarPackage count elements) (VAR_PACKAGE_OP ∷ b)
+        → AllSpelled depth elements body → length elements ≤ count
+        → SpellsWithin (suc depth) (VarPackage count elements) (VAR_PACKAGE_OP ∷ b)
 
   pub data AllSpelled : ℕ → List Data → List ℕ → Type 0 where
     spells_none : {depth : ℕ} → AllSpelled depth [] []

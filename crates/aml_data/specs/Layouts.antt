@@ -44,7 +44,8 @@ pub record Both {A B : Type 0} (S : A → List ℕ → Type 0) (T : B → List �
 pub data BothFail {A : Type 0} (F : ℕ → List ℕ → DataFault → Type 0) (S : A → List ℕ → Type 0) (G : ℕ → List ℕ → DataFault → Type 0)
     : ℕ → List ℕ → DataFault → Type 0 where
   fails_in_one : {end : ℕ} {bytes : List ℕ} {fault : DataFault} → F end bytes fault → BothFail F S G end bytes fault
-  fails_in_other : {end : ℕ} {fault : DataFault} {a : A} (front rest : List ℕ) → S a front → G end rest fault → BothFail F S G end (front ++ rest) fault
+  fails_in_other : {end : ℕ} {fault : DataFault} {a : A} (front rest : List ℕ) → S a front → G end rest fault
+      → BothFail F S G end (front ++ rest) fault
 
 -- # A length and what it holds
 
@@ -61,5 +62,6 @@ pub record Sized {A : Type 0} (S : A → List ℕ → Type 0) (v : A) (bytes : L
 -- The PkgLength fails, or what it holds fails so, where its own bytes end.
 pub data SizedFails (F : ℕ → List ℕ → DataFault → Type 0) : ℕ → List ℕ → DataFault → Type 0 where
   fails_in_length : {end : ℕ} {bytes : List ℕ} {fault : DataFault} → LenFails end bytes fault → SizedFails F end bytes fault
-  fails_inside : {end : ℕ} {fault : DataFault} {content : List ℕ} (front rest : List ℕ) → Holds content front → F (end - length rest) content fault
+  fails_inside : {end : ℕ} {fault : DataFault} {content : List ℕ} (front rest : List ℕ) → Holds content front
+      → F (end - length rest) content fault
       → SizedFails F end (front ++ rest) fault

@@ -55,7 +55,8 @@ written_prefix path = if path.root then ROOT_CHAR ∷ [] else replicate path.ups
 
 -- what says how many segments follow: one alone needs nothing
 abbrev pub segments_lead : ℕ → List ℕ
-segments_lead n = if n == 0 then NULL_NAME ∷ [] else (if n == 1 then [] else (if n == 2 then DUAL_NAME_PREFIX ∷ [] else MULTI_NAME_PREFIX ∷ n ∷ []))
+segments_lead n = if n == 0 then NULL_NAME ∷ [] else (if n == 1 then [] else (if n == 2 then DUAL_NAME_PREFIX ∷ [] else MULTI_NAME_PREFIX
+    ∷ n ∷ []))
 
 -- the segments of a name
 abbrev pub written_segments : List (List ℕ) → List ℕ

@@ -72,7 +72,8 @@ pub fn one_object_fault()
 
 /// From each place in a list of bytes an integer constant is spelled, or there is a first fault.
 pub fn constant_or_fault()
-    ensures { (bytes : List ℕ) (at : ℕ) → AreBytes bytes → at ≤ length bytes → SpelledOrFails Const ConstFails bytes at }
+    ensures { (bytes : List ℕ) (at : ℕ) → AreBytes bytes → at ≤ length bytes
+        → SpelledOrFails Const ConstFails bytes at }
 {}
 
 /// From each place in a list of bytes there is a PkgLength, or there is a first fault.
@@ -82,10 +83,12 @@ pub fn length_or_fault()
 
 /// From each place in a list of bytes a name is spelled, or there is a first fault.
 pub fn name_or_fault()
-    ensures { (bytes : List ℕ) (at : ℕ) → AreBytes bytes → at ≤ length bytes → SpelledOrFails NameOf NameFails bytes at }
+    ensures { (bytes : List ℕ) (at : ℕ) → AreBytes bytes → at ≤ length bytes
+        → SpelledOrFails NameOf NameFails bytes at }
 {}
 
 /// From each place in a list of bytes a data object is spelled, or there is a first fault.
 pub fn object_or_fault()
-    ensures { (bytes : List ℕ) (at : ℕ) → AreBytes bytes → at ≤ length bytes → SpelledOrFails Spells Fails bytes at }
+    ensures { (bytes : List ℕ) (at : ℕ) → AreBytes bytes → at ≤ length bytes
+        → SpelledOrFails Spells Fails bytes at }
 {}

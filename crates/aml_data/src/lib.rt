@@ -18,6 +18,7 @@ mod object;
 pub mod opcode;
 mod path;
 mod seg;
+mod shortest;
 mod text;
 mod writable;
 mod writing;
@@ -40,5 +41,9 @@ pub use name::name_of;
 pub use object::object_of;
 pub use path::{FullPath, Path, copy_full_path, copy_path};
 pub use seg::Seg;
+pub use shortest::{
+    countable_parts, nesting_within, shortest_constant, shortest_length, shortest_name,
+    shortest_object,
+};
 pub use writable::{is_writable, is_writable_name};
 pub use writing::{encode_constant, encode_length, encode_name};

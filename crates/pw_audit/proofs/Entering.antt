@@ -15,14 +15,14 @@ use Rattle.pw_text.specs.Lines.{text_of, with_feed}
 use Rattle.pw_script.specs.Asking.{CanBeAsked}
 use Rattle.pw_script.specs.HistoryText.{entry_lines, history_lines, history_text, lines_from, op_line, opening_lines}
 use Rattle.pw_script.specs.Lawful.{Begins, IsRunOf}
-use Rattle.pw_texts.specs.Telling.{HasSegments, IsNarrow, unseated}
-use Rattle.pw_texts.specs.Completing.{IsStart}
-use Rattle.pw_texts.specs.Wholes.{BeginsWhole, IsWhole, entry_line, lines_within, next_line, next_op_lines, pieces_of}
-use Rattle.pw_texts.proofs.Determined.{head_of, opening-same, tail_of}
-use Rattle.pw_texts.proofs.Ends.{fault-ends, opening-ends, whole-run}
-use Rattle.pw_texts.proofs.Narrow.{lawful-formed, lawful-narrow, lawful-opening, opening-narrow, start-narrow}
-use Rattle.pw_texts.proofs.Nexts.{next-line, next-op}
-use Rattle.pw_texts.proofs.Readers.{entry-same}
+use Rattle.pw_script.specs.Telling.{HasSegments, IsNarrow, unseated}
+use Rattle.pw_script.specs.Completing.{IsStart}
+use Rattle.pw_script.specs.Wholes.{BeginsWhole, IsWhole, entry_line, lines_within, next_line, next_op_lines, pieces_of}
+use Rattle.pw_script.proofs.Determined.{head_of, opening-same, tail_of}
+use Rattle.pw_script.proofs.Ends.{fault-ends, opening-ends, whole-run}
+use Rattle.pw_script.proofs.Narrow.{lawful-formed, lawful-narrow, lawful-opening, opening-narrow, start-narrow}
+use Rattle.pw_script.proofs.Nexts.{next-line, next-op}
+use Rattle.pw_script.proofs.Readers.{entry-same}
 use Rattle.pw_audit.specs.declared.answer.AuditFault.{AuditFault}
 use Rattle.pw_audit.specs.Audited.{IsUnfinished, IsWrong}
 use Rattle.pw_audit.specs.inner.Queues.{Leaves, left_of}

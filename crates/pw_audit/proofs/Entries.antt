@@ -17,7 +17,7 @@ use Rattle.pw_script.specs.HistoryText.{entry_lines, op_line, outcome_words, req
 use Rattle.pw_script.specs.Lawful.{Begins}
 use Rattle.pw_script.specs.inner.Behind.{behind, head_text}
 use Rattle.pw_script.proofs.Printed.{entry_text}
-use Rattle.pw_texts.specs.Wholes.{entry_line}
+use Rattle.pw_script.specs.Wholes.{entry_line}
 use Rattle.pw_audit.specs.declared.answer.AuditFault.{AuditFault}
 use Rattle.pw_audit.specs.inner.Queues.{IsNext, Takes, left_of}
 use Rattle.pw_audit.specs.inner.Stopping.{FitsAt, MayCome, NoEntry, StopsBehind, StopsIn, entry_with, outcome_at}

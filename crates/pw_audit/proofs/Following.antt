@@ -18,10 +18,10 @@ use Rattle.pw_text.specs.Lines.{text_of}
 use Rattle.pw_script.specs.HistoryText.{entry_lines, history_lines, history_text, lines_from, op_line, opening_lines}
 use Rattle.pw_script.specs.Lawful.{Begins}
 use Rattle.pw_script.specs.inner.Openings.{opened, opening_line}
-use Rattle.pw_texts.specs.Completing.{IsStart}
-use Rattle.pw_texts.specs.Wholes.{Starts, lines_within, next_line, next_op_lines}
-use Rattle.pw_texts.proofs.Beginnings.{history_lines-append}
-use Rattle.pw_texts.proofs.Firsts.{each_rest, own-append}
+use Rattle.pw_script.specs.Completing.{IsStart}
+use Rattle.pw_script.specs.Wholes.{Starts, lines_within, next_line, next_op_lines}
+use Rattle.pw_script.proofs.Beginnings.{history_lines-append}
+use Rattle.pw_script.proofs.Firsts.{each_rest, own-append}
 use Rattle.pw_audit.specs.inner.Queues.{EachOwn, Leaves, Takes, left_of}
 use Rattle.pw_audit.specs.inner.Stopping.{MayCome, WithinOpening}
 use Rattle.pw_audit.proofs.Showing.{Shown}

@@ -16,8 +16,8 @@ use Rattle.pw_script.specs.HistoryText.{path_of, request_words, tolerance_words}
 use Rattle.pw_script.specs.Lawful.{Begins}
 use Rattle.pw_script.specs.inner.Behind.{behind, head_text}
 use Rattle.pw_script.specs.inner.Paths.{paths_of}
-use Rattle.pw_texts.specs.Telling.{HasSegments}
-use Rattle.pw_texts.proofs.Words.{entry-over, path_of-same}
+use Rattle.pw_script.specs.Telling.{HasSegments}
+use Rattle.pw_script.proofs.TextWords.{entry-over, path_of-same}
 use Rattle.pw_audit.specs.inner.Looking.{IsWord, cpu_by}
 
 -- # Looking up

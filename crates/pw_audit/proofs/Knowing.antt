@@ -10,7 +10,7 @@ use Rattle.pw_model.specs.declared.entry.HistoryEntry.{HistoryEntry}
 use Rattle.pw_notice.specs.Limits.{own}
 use Rattle.pw_script.specs.Asking.{CanBeAsked, IsNarrowRequest}
 use Rattle.pw_script.specs.Lawful.{Lawful}
-use Rattle.pw_texts.specs.Wholes.{BeginsWhole, IsWhole}
+use Rattle.pw_script.specs.Wholes.{BeginsWhole, IsWhole}
 use Rattle.pw_audit.specs.declared.answer.Audit.{Audit}
 use Rattle.pw_audit.specs.declared.answer.AuditFault.{AuditFault}
 use Rattle.pw_audit.specs.declared.answer.AuditFault.TheVariants.{TooLong, Wrong, Unfinished, Memory}

@@ -11,11 +11,11 @@ use Rattle.pw_script.specs.Asking.{CanBeAsked}
 use Rattle.pw_script.specs.HistoryText.{history_lines, lines_from, op_line, opening_lines}
 use Rattle.pw_script.specs.Lawful.{Begins}
 use Rattle.pw_script.specs.inner.Openings.{opened, opening_line}
-use Rattle.pw_texts.specs.Telling.{HasSegments, IsNarrowFault}
-use Rattle.pw_texts.specs.Wholes.{BeginsWhole, IsFirstLine, IsWhole}
-use Rattle.pw_texts.proofs.Determined.{head-opening, head_of, heads-tell}
-use Rattle.pw_texts.proofs.Ends.{first-line, opening-op}
-use Rattle.pw_texts.proofs.Narrow.{lawful-opening, opening-narrow}
+use Rattle.pw_script.specs.Telling.{HasSegments, IsNarrowFault}
+use Rattle.pw_script.specs.Wholes.{BeginsWhole, IsFirstLine, IsWhole}
+use Rattle.pw_script.proofs.Determined.{head-opening, head_of, heads-tell}
+use Rattle.pw_script.proofs.Ends.{first-line, opening-op}
+use Rattle.pw_script.proofs.Narrow.{lawful-opening, opening-narrow}
 use Rattle.pw_audit.specs.declared.answer.AuditFault.{AuditFault}
 use Rattle.pw_audit.specs.declared.answer.AuditFault.TheVariants.{TooLong, Wrong, Unfinished, Memory}
 use Rattle.pw_audit.specs.Audited.{IsWrong}

@@ -9,13 +9,13 @@ use Rattle.pw_text.specs.Lines.{text_of, with_feed}
 use Rattle.pw_script.specs.Asking.{CanBeAsked}
 use Rattle.pw_script.specs.HistoryText.{history_lines, history_text}
 use Rattle.pw_script.specs.Lawful.{Begins}
-use Rattle.pw_texts.specs.Telling.{HasSegments}
-use Rattle.pw_texts.specs.Wholes.{BeginsWhole, HasFeed, IsWhole, Starts, onto_first, pieces_of}
-use Rattle.pw_texts.proofs.Beginnings.{begins-whole}
-use Rattle.pw_texts.proofs.Cuts.{AllOver, Over, ended-same}
-use Rattle.pw_texts.proofs.Determined.{lines-over}
-use Rattle.pw_texts.proofs.Ends.{begins-shorter, each-feed}
-use Rattle.pw_texts.proofs.Firsts.{each_first, each_rest}
+use Rattle.pw_script.specs.Telling.{HasSegments}
+use Rattle.pw_script.specs.Wholes.{BeginsWhole, HasFeed, IsWhole, Starts, onto_first, pieces_of}
+use Rattle.pw_script.proofs.Beginnings.{begins-whole}
+use Rattle.pw_script.proofs.Cuts.{AllOver, Over, ended-same}
+use Rattle.pw_script.proofs.Determined.{lines-over}
+use Rattle.pw_script.proofs.Ends.{begins-shorter, each-feed}
+use Rattle.pw_script.proofs.Firsts.{each_first, each_rest}
 use Rattle.pw_audit.specs.Audited.{IsUnfinished, IsWrong}
 
 -- # Pieces

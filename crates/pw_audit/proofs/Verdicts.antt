@@ -5,8 +5,8 @@ use Rattle.std.proofs.lemmas.Bool.{cases_order}
 use Rattle.std.proofs.lemmas.List.{take_min}
 use Rattle.pw_plan.specs.declared.plan.Plan.{Plan}
 use Rattle.pw_plan.specs.declared.request.Request.{Request}
-use Rattle.pw_texts.specs.Wholes.{BeginsWhole, IsWhole, pieces_of}
-use Rattle.pw_texts.proofs.Ends.{begins-shorter}
+use Rattle.pw_script.specs.Wholes.{BeginsWhole, IsWhole, pieces_of}
+use Rattle.pw_script.proofs.Ends.{begins-shorter}
 use Rattle.pw_audit.specs.declared.answer.Audit.{Audit}
 use Rattle.pw_audit.specs.declared.answer.AuditFault.{AuditFault}
 use Rattle.pw_audit.specs.declared.answer.AuditFault.TheVariants.{TooLong, Wrong, Unfinished, Memory}

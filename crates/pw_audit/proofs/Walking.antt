@@ -15,9 +15,9 @@ use Rattle.pw_text.specs.Lines.{text_of}
 use Rattle.pw_script.specs.Asking.{CanBeAsked}
 use Rattle.pw_script.specs.HistoryText.{entry_lines, history_lines, history_text, opening_lines}
 use Rattle.pw_script.specs.Lawful.{IsRunOf}
-use Rattle.pw_texts.specs.Telling.{HasSegments}
-use Rattle.pw_texts.specs.Completing.{IsStart}
-use Rattle.pw_texts.specs.Wholes.{pieces_of}
+use Rattle.pw_script.specs.Telling.{HasSegments}
+use Rattle.pw_script.specs.Completing.{IsStart}
+use Rattle.pw_script.specs.Wholes.{pieces_of}
 use Rattle.pw_audit.specs.declared.answer.AuditFault.{AuditFault}
 use Rattle.pw_audit.specs.Audited.{IsUnfinished, IsWrong}
 use Rattle.pw_audit.specs.inner.Queues.{EachOwn, Leaves, Takes, left_of}

@@ -6,7 +6,7 @@ use Rattle.pw_plan.specs.declared.request.Request.{Request}
 use Rattle.pw_model.specs.declared.entry.HistoryEntry.{HistoryEntry}
 use Rattle.pw_script.specs.HistoryText.{history_text}
 use Rattle.pw_script.specs.Lawful.{Lawful}
-use Rattle.pw_texts.specs.Wholes.{BeginsWhole, IsWhole, pieces_of}
+use Rattle.pw_script.specs.Wholes.{BeginsWhole, IsWhole, pieces_of}
 use Rattle.pw_audit.specs.declared.answer.Audit.{Audit}
 use Rattle.pw_audit.specs.declared.answer.TheConstants.{MOST_BYTES}
 

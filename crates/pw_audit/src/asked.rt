@@ -45,7 +45,8 @@ impl Asked {
     fn put(&mut self, request: Request) -> Result<(), Memory>
         ensures size { OnOk result (length self.new ≡ length self.old) }
         ensures first { OnOk result ((p : ℕ) → p < length self.old →
-            left_of self.new p ≡ (if cpu_of request == p then request ∷ left_of self.old p else left_of self.old p)) }
+            left_of self.new p
+            ≡ (if cpu_of request == p then request ∷ left_of self.old p else left_of self.old p)) }
     {
         let cpu = request.cpu() as usize;
         if cpu < self.stacks.len() {

@@ -1,6 +1,6 @@
 ghost use Rattle.std.specs.Prelude.{◌≡◌, ◌≢◌, ◌<◌, ◌↔◌, ℕ, length, Err, IfOk, IsOk};
 ghost use Rattle.pw_script.specs.Reading.{requests_of};
-ghost use Rattle.pw_texts.specs.Wholes.{IsWhole, pieces_of};
+ghost use Rattle.pw_script.specs.Wholes.{IsWhole, pieces_of};
 ghost use Rattle.pw_audit.specs.declared.answer.TheConstants.{MOST_BYTES};
 ghost use Rattle.pw_audit.specs.declared.answer.AuditFault.TheVariants as faults;
 ghost use Rattle.pw_audit.specs.Audited.{IsShort, IsUnfinished, IsWrong, Shows};
@@ -20,7 +20,8 @@ pub fn audit(alloc: Global, plan: &Plan, script: &Script, text: &[u8]) -> Result
     ensures long { (b : ℕ) → result ≢ Err faults.Memory →
         result ≡ Err (faults.TooLong b) ↔ ((b ≡ MOST_BYTES) × (MOST_BYTES < length text.now)) }
     ensures wrong { (k : ℕ) → result ≢ Err faults.Memory →
-        result ≡ Err (faults.Wrong k) ↔ (IsShort text.now × IsWrong plan.now (requests_of script.now.lines) text.now k) }
+        result ≡ Err (faults.Wrong k)
+        ↔ (IsShort text.now × IsWrong plan.now (requests_of script.now.lines) text.now k) }
     ensures unfinished { (n : ℕ) → result ≢ Err faults.Memory →
         result ≡ Err (faults.Unfinished n) ↔ (IsShort text.now × (n ≡ length (pieces_of text.now))
         × IsUnfinished plan.now (requests_of script.now.lines) text.now) }

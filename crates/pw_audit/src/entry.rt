@@ -6,7 +6,7 @@ ghost use Rattle.pw_model.specs.States.{IsState};
 ghost use Rattle.pw_model.specs.History.{after_entry, request_of};
 ghost use Rattle.pw_script.specs.HistoryText.{entry_lines};
 ghost use Rattle.pw_script.specs.inner.Paths.{paths_of};
-ghost use Rattle.pw_texts.specs.Telling.{HasSegments};
+ghost use Rattle.pw_script.specs.Telling.{HasSegments};
 ghost use Rattle.pw_audit.specs.inner.Looking.{LeadsTo};
 ghost use Rattle.pw_audit.specs.inner.Queues.{EachOwn, Takes};
 ghost use Rattle.pw_audit.specs.inner.Stopping.{MayCome, StopsAtEntry, entry_with};
@@ -28,7 +28,14 @@ const ANY_LATENCY: u32 = u32::MAX;
 
 /// An entry of seat 0, of a processor.
 fn plain(cpu: u32, code: u32, argument: u32, tolerance: u32, fault: u32) -> HistoryEntry
-    ensures { result ≡ record { seat = 0; cpu = cpu; code = code; argument = argument; tolerance = tolerance; fault = fault } }
+    ensures { result ≡ record {
+      seat = 0;
+      cpu = cpu;
+      code = code;
+      argument = argument;
+      tolerance = tolerance;
+      fault = fault;
+    } }
 {
     HistoryEntry {
         seat: 0,
@@ -93,7 +100,8 @@ pub(crate) fn read_entry<'a>(
     requires short { before + length left.now < 2 ^ 32 }
     ensures may { IfOk result (λ r. MayCome names.now state.old asked.old r.0) }
     ensures seat { IfOk result (λ r. r.0.seat ≡ 0) }
-    ensures text { IfOk result (λ r. left.now ≡ text_of (entry_lines names.now state.old number r.0) ++ r.2.now) }
+    ensures text { IfOk result (λ r. left.now ≡ text_of (entry_lines names.now state.old number r.0)
+        ++ r.2.now) }
     ensures lines { IfOk result (λ r. r.1 ≡ before + length (entry_lines names.now state.old number r.0)) }
     ensures takes { IfOk result (λ r. Takes asked.old r.0.cpu (request_of r.0) asked.new) }
     ensures after { IfOk result (λ r. state.new ≡ after_entry names.now state.old r.0) }

@@ -5,7 +5,7 @@ ghost use Rattle.pw_plan.specs.Requests.{Has, cpu_of};
 ghost use Rattle.pw_script.specs.Lawful.{Begins};
 ghost use Rattle.pw_script.specs.inner.Behind.{head_text};
 ghost use Rattle.pw_script.specs.inner.Paths.{paths_of};
-ghost use Rattle.pw_texts.specs.Telling.{HasSegments};
+ghost use Rattle.pw_script.specs.Telling.{HasSegments};
 ghost use Rattle.pw_audit.specs.inner.Looking.{LeadsTo};
 ghost use Rattle.pw_audit.specs.inner.Queues.{EachOwn, IsNext, Takes};
 

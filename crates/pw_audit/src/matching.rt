@@ -20,7 +20,8 @@ pub(crate) fn strip<'a>(left: &'a [u8], text: &[u8]) -> Option<&'a [u8]>
 
 /// The bytes up to the first space, and what stands behind it.
 pub(crate) fn word(bytes: &[u8]) -> (&[u8], &[u8])
-    ensures { (w rest : List ℕ) → IsWord w → bytes.now ≡ w ++ 32 ∷ rest → (result.0.now ≡ w) × (result.1.now ≡ rest) }
+    ensures { (w rest : List ℕ) → IsWord w → bytes.now ≡ w ++ 32 ∷ rest → (result.0.now ≡ w)
+        × (result.1.now ≡ rest) }
 {
     for (index, byte) in bytes.iter().enumerate() {
         if *byte == b' ' {

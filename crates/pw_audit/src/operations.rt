@@ -13,7 +13,8 @@ use pw_base::Memory;
 /// Puts the fields of a register, with commas between.
 fn push_fields(line: &mut Vec<u8>, register: &Register) -> Result<(), Memory>
     ensures { OnOk result (line.new.items ≡ line.old.items
-        ++ join_with_byte 44 (decimal register.now.space ∷ decimal register.now.width ∷ decimal register.now.offset
+        ++ join_with_byte 44 (decimal register.now.space ∷ decimal register.now.width
+        ∷ decimal register.now.offset
         ∷ decimal register.now.access ∷ hex_text register.now.address ∷ [])) }
 {
     push_decimal(line, u64::from(register.space))?;
@@ -59,7 +60,8 @@ fn push_set(
     value: u64,
 ) -> Result<(), Memory>
     ensures { OnOk result (line.new.items ≡ line.old.items
-        ++ ((codes "  set " ++ (path_of names.now cpu ++ (32 ∷ register_text register.now))) ++ (32 ∷ hex_text value))) }
+        ++ ((codes "  set " ++ (path_of names.now cpu ++ (32 ∷ register_text register.now)))
+        ++ (32 ∷ hex_text value))) }
 {
     push_target(line, names, b"  set ", cpu, register)?;
     push(line, b" ")?;

@@ -23,7 +23,8 @@ pub(crate) fn read_count<'a>(
     count: u32,
     left: &'a [u8],
 ) -> Result<Option<(u32, &'a [u8])>, Memory>
-    ensures { IfOk result (λ o. MatchOption o ((k : ℕ) → k < count → Begins (with_feed (decimal k)) left.now → ⊥)
+    ensures { IfOk result (λ o. MatchOption o ((k : ℕ) → k < count → Begins (with_feed (decimal k)) left.now
+        → ⊥)
         (λ r. (r.0 < count) × (left.now ≡ with_feed (decimal r.0) ++ r.1.now))) }
 {
     for number in 0..count {

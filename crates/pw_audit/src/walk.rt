@@ -9,7 +9,7 @@ ghost use Rattle.pw_script.specs.HistoryText.{history_text, opening_lines};
 ghost use Rattle.pw_script.specs.Lawful.{Lawful};
 ghost use Rattle.pw_script.specs.Reading.{requests_of};
 ghost use Rattle.pw_script.specs.inner.Paths.{paths_of};
-ghost use Rattle.pw_texts.specs.Telling.{HasSegments};
+ghost use Rattle.pw_script.specs.Telling.{HasSegments};
 ghost use Rattle.pw_audit.specs.Audited.{IsShort, Shows};
 ghost use Rattle.pw_audit.specs.inner.Looking.{LeadsTo};
 ghost use Rattle.pw_audit.specs.inner.Stopping.{Refuses, known};
@@ -23,8 +23,7 @@ use pw_base::List;
 use pw_core::{Ops, State, open_all};
 use pw_model::HistoryEntry;
 use pw_plan::{Plan, Request};
-use pw_script::Line;
-use pw_texts::plans_have_segments;
+use pw_script::{Line, plans_have_segments};
 use std::alloc::Global;
 use std::collections::HashMap;
 
@@ -71,7 +70,8 @@ fn read_entries(
     requires room { 256 ≤ ops.old.capacity }
     requires opened { before ≡ length (opening_lines names.now None) }
     requires short { length (text_of (opening_lines names.now None)) + length text.now < 2 ^ 31 }
-    ensures lawful { IfOk result (λ entries. Lawful names.now (known names.now (requests_of lines.now)) None entries.items) }
+    ensures lawful { IfOk result
+        (λ entries. Lawful names.now (known names.now (requests_of lines.now)) None entries.items) }
     ensures text { IfOk result (λ entries. text_of (opening_lines names.now None) ++ text.now
         ≡ history_text names.now None entries.items) }
     ensures seats { IfOk result (λ entries. AllByRecursion (λ (e : entry). e.seat ≡ 0) entries.items) }

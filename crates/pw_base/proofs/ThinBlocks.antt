@@ -152,7 +152,8 @@ module _ {M : Type 1} {𝓤 : Ura M} (𝓛 : Logic 𝓤) where
 module _ {M : Type 1} {𝓤 : Ura M} {𝓛 : Logic 𝓤} {K : Type 0} {Γ : List (Item 𝓤)} {G : Goal 𝓤 𝓛.H} where
   -- a pointer, and a word behind a pointer, are read through a `&`. [the cell; the way back]
   pub pointer_in : K → Soaks G → {κ : Lft} {q : Share} (b o rb at : ℕ)
-      → ((q' : Share) → Seq K 𝓛 (‵ (fat q' ty_ptr rb at (vptr b o)) ∷ Shut 𝓛 κ q (part_at RawPtr q' (block_ptr b o) rb at) ∷ Γ) G) → Seq K 𝓛 (‵ (hidden_shr RawPtr κ (block_ptr b o) rb at) ∷ ‵ (flft κ q) ∷ Γ) G
+      → ((q' : Share) → Seq K 𝓛 (‵ (fat q' ty_ptr rb at (vptr b o)) ∷ Shut 𝓛 κ q (part_at RawPtr q' (block_ptr b o) rb at) ∷ Γ) G)
+      → Seq K 𝓛 (‵ (hidden_shr RawPtr κ (block_ptr b o) rb at) ∷ ‵ (flft κ q) ∷ Γ) G
   pointer_in t z {κ} {q} b o rb at k =
       looks t z RawPtr (plain_Copied 𝓛 Ptr coded_ptr (ty_ptr ∷ []) ptr_own rawptr_pure ptr_val RawPtr-laws.tells).opens (block_ptr b o) rb at (λ q' vs. move t (1 ∷ []) $ feq_l t (λ e.
       rewrite t 0 (λ (us : List Val). ‵ (cell_at q' RawPtr.mir us rb at)) e refl $ move t (2 ∷ []) $ drop t $ k q'))
@@ -163,7 +164,8 @@ module _ {M : Type 1} {𝓤 : Ura M} {𝓛 : Logic 𝓤} {K : Type 0} {Γ : List
       feq_i t (List Val) (vptr b o ∷ []) (vptr b o ∷ []) refl $ move t (1 ∷ 0 ∷ []) $ shuts t z RawPtr q' (block_ptr b o) (vptr b o ∷ []) rb at $ s)
 
   pub word_in : K → Soaks G → {κ : Lft} {q : Share} (n b at : ℕ)
-      → ((q' : Share) → n < 2 ^ 64 → Seq K 𝓛 (‵ (fat q' (ty_int w64) b at (vint w64 n)) ∷ Shut 𝓛 κ q (part_at usize q' n b at) ∷ Γ) G) → Seq K 𝓛 (‵ (lent_at usize (block_ptr b at) n κ) ∷ ‵ (flft κ q) ∷ Γ) G
+      → ((q' : Share) → n < 2 ^ 64 → Seq K 𝓛 (‵ (fat q' (ty_int w64) b at (vint w64 n)) ∷ Shut 𝓛 κ q (part_at usize q' n b at) ∷ Γ) G)
+      → Seq K 𝓛 (‵ (lent_at usize (block_ptr b at) n κ) ∷ ‵ (flft κ q) ∷ Γ) G
   word_in t z {κ} {q} n b at k =
       fsplit t $ drop t $ hide t $ looks t z usize (uint_Copied 𝓛 w64).opens n b at (λ q' vs. move t (1 ∷ []) $ fsplit t $ feq_l t (λ e. flt_l t (λ fn.
       rewrite t 0 (λ (us : List Val). ‵ (cell_at q' usize.mir us b at)) e refl $ move t (2 ∷ []) $ drop t $ k q' fn)))

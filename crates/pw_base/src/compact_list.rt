@@ -31,7 +31,8 @@ impl<T> Model for CompactList<T> {
 // An empty block for as many elements as `like` has.
 fn reserve<T>(alloc: &Global, like: &[T]) -> Option<(Slots<T>, Open<T, Global>)>
     requires { type_align T.row ≤ 8 }
-    ensures { IfSome result (λ r. (slots_len r.0 ≡ length like.now) × (slots_ptr r.0 ≡ r.1.ptr +ₚ 8) × (slots_len r.0 ≡ r.1.len)) }
+    ensures { IfSome result (λ r. (slots_len r.0 ≡ length like.now) × (slots_ptr r.0 ≡ r.1.ptr +ₚ 8)
+        × (slots_len r.0 ≡ r.1.len)) }
 {
     let len = like.len();
     if !fits::<T>(len) {

@@ -150,7 +150,8 @@ impl<T, A: Allocator> Open<T, A> {
 
 impl<T, A: Allocator> Thin<T, A> {
     pub(crate) fn open(self) -> (Slots<T>, Open<T, A>)
-        ensures slots { (slots_ptr result.0 ≡ result.1.ptr +ₚ 8) × IsFull result.0 × (slots_items result.0 ≡ self.items) }
+        ensures slots { (slots_ptr result.0 ≡ result.1.ptr +ₚ 8) × IsFull result.0
+            × (slots_items result.0 ≡ self.items) }
         ensures open { (result.1.len ≡ slots_len result.0) × (result.1.heap ≡ self.heap) }
     {
         let Thin { ptr, by } = self;

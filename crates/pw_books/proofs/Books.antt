@@ -106,7 +106,8 @@ module _ {E : Type 0} (seat_of : E → ℕ) where
       → Knows seat_of book seen → Knows seat_of book mid
   knows_between [] log mid seen p q k s = tt
   knows_between (c ∷ cs) log mid seen p q k s = (
-    sym (squeezed (entries_of seat_of c.seat seen) (entries_of seat_of c.seat mid) (entries_of seat_of c.seat log) (begins_calls c.seat mid seen p) (begins_calls c.seat log mid q) (s.0 ∙ sym k.0)) ∙ s.0,
+    sym (squeezed (entries_of seat_of c.seat seen) (entries_of seat_of c.seat mid) (entries_of seat_of c.seat log) (begins_calls c.seat mid seen p) (begins_calls c.seat log mid q) (s.0 ∙ sym k.0))
+        ∙ s.0,
     knows_between cs log mid seen p q k.1 s.1,
   )
 

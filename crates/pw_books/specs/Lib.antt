@@ -1,2 +1,13 @@
 pub mod Books
 pub mod Sums
+pub mod Asked
+pub mod Seats
+pub mod Workers
+pub mod inner
+pub mod Machine
+pub mod Steps
+pub mod Law
+pub mod Waits
+pub mod Told
+pub mod Histories
+pub mod Kinds

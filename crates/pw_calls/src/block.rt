@@ -1,8 +1,10 @@
 //! Blocks and their terms (ACPI 6.5, 5.2.11 and 20.2.5).
 
-use aml_block::{Block, Signature, encode_block, is_writable_block, parse, read, read_all, write};
+use aml_block::{
+    Block, Signature, Term, encode_block, encode_terms, is_writable_block, is_writable_terms,
+    parse, read, read_all, terms_of, write, written_terms_len,
+};
 use aml_data::Width;
-use aml_terms::{Term, encode_terms, is_writable_terms, terms_of, written_terms_len};
 use pw_base::{Memory, MemoryFile, MemoryFiles, MemorySink};
 use std::alloc::Global;
 use std::test::*;

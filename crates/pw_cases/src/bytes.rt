@@ -4,7 +4,7 @@ use std::alloc::Global;
 const HEADER_END: &[u8] = b"POWER POWERTAB\x01\x00\x00\x00PWR \x01\x00\x00\x00";
 
 /// Puts the bytes that words spell: `5B` is a byte, `5B83` two, `3*00` three of one, `'_PPC` a text.
-pub fn put_bytes(alloc: Global, bytes: &mut Vec<u8>, words: &str) -> Option<()> {
+pub(crate) fn put_bytes(alloc: Global, bytes: &mut Vec<u8>, words: &str) -> Option<()> {
     for word in words.split_whitespace() {
         put_word(alloc, bytes, word)?;
     }
@@ -60,7 +60,7 @@ fn sum_of(bytes: &[u8]) -> u8 {
 }
 
 /// A block of this signature and body with the right length and checksum.
-pub fn block_of(alloc: Global, signature: &str, body: &[u8]) -> Option<Vec<u8>> {
+pub(crate) fn block_of(alloc: Global, signature: &str, body: &[u8]) -> Option<Vec<u8>> {
     let length = u32::try_from(body.len()).ok()?.checked_add(36)?;
     let mut block = signature.as_bytes().to_vec(alloc).ok()?;
     block.extend_from_slice(&length.to_le_bytes()).ok()?;

@@ -8,11 +8,12 @@ use std::alloc::Global;
 use std::sync::Wait;
 use std::thread::Threads;
 
-/// One run: what the files `a`, `b` and `c` hold, the words, what the outside is like, and what must come: what
-/// stands on the two outputs, all of it or so many first bytes, and how many operations the registers saw, unless any
-/// number may come. A processor's request may be held until another's has been answered.
+/// One run: what the files `a`, `b` and `c` hold, the words, what the outside is like, and what must
+/// come: what stands on the two outputs, all of it or so many first bytes, and how many operations the
+/// registers saw, unless any number may come. A processor's request may be held until another's has been
+/// answered.
 #[derive(Drop)]
-pub struct Case {
+pub(crate) struct Case {
     a: Vec<u8>,
     b: Vec<u8>,
     c: Vec<u8>,
@@ -27,7 +28,7 @@ pub struct Case {
 }
 
 impl Case {
-    pub fn new(alloc: Global) -> Case {
+    pub(crate) fn new(alloc: Global) -> Case {
         Case {
             a: Vec::new(alloc),
             b: Vec::new(alloc),
@@ -44,7 +45,7 @@ impl Case {
     }
 
     /// Begins a case of the same files, words and text over another outside.
-    pub fn again(&mut self) {
+    pub(crate) fn again(&mut self) {
         self.outside = SOUND;
         self.held = None;
         self.out_first = u32::MAX;
@@ -53,13 +54,13 @@ impl Case {
     }
 
     /// Begins a case of the same file `a`, with another script.
-    pub fn other(&mut self) {
+    pub(crate) fn other(&mut self) {
         self.anew();
         self.c.clear();
     }
 
     /// Begins a case of the same files `a` and `c` and the same words, with another history.
-    pub fn anew(&mut self) {
+    pub(crate) fn anew(&mut self) {
         self.again();
         self.b.clear();
         self.out.clear();
@@ -67,7 +68,7 @@ impl Case {
     }
 
     /// Reads a line of the list.
-    pub fn read(&mut self, alloc: Global, line: &str) -> Option<()> {
+    pub(crate) fn read(&mut self, alloc: Global, line: &str) -> Option<()> {
         let Some((key, rest)) = line.split_once(" ") else {
             return if line.is_empty() { Some(()) } else { None };
         };
@@ -156,7 +157,7 @@ impl Case {
     }
 
     /// What came of the run: `as it must be`, or what else.
-    pub fn run<T: Threads + Wait + Sync>(
+    pub(crate) fn run<T: Threads + Wait + Sync>(
         &self,
         rt: &T,
         alloc: Global,

@@ -13,8 +13,8 @@ use std::sync::Wait;
 use std::thread::Threads;
 use std::{fs, io};
 
-/// Begins the case that a line names: with nothing of the one before, with its file `a`, with its files `a` and `c`, or
-/// with all but its outside.
+/// Begins the case that a line names: with nothing of the one before, with its file `a`, with its files
+/// `a` and `c`, or with all but its outside.
 fn begun<'a>(alloc: Global, case: &mut Case, line: &'a str) -> Option<&'a str> {
     if let Some(name) = line.strip_prefix("case ") {
         *case = Case::new(alloc);

@@ -5,7 +5,7 @@ use std::alloc::Global;
 /// How the outside of a run is made: how much it takes or gives at once, for how much it has room, and at
 /// which call it fails, counted from 1; at none where that is 0.
 #[derive(Clone, Copy)]
-pub struct Outside {
+pub(crate) struct Outside {
     reads_of: u32,
     read_fails: u32,
     writes_of: u32,
@@ -18,7 +18,7 @@ pub struct Outside {
 }
 
 /// One that doesn't fail.
-pub const SOUND: Outside = Outside {
+pub(crate) const SOUND: Outside = Outside {
     reads_of: 1 << 20,
     read_fails: 0,
     writes_of: 20_000_000,
@@ -32,7 +32,7 @@ pub const SOUND: Outside = Outside {
 
 impl Outside {
     /// The number that a line of the list sets.
-    pub fn number(&mut self, key: &str) -> Option<&mut u32> {
+    pub(crate) fn number(&mut self, key: &str) -> Option<&mut u32> {
         match key {
             "reads-of" => Some(&mut self.reads_of),
             "read-fails" => Some(&mut self.read_fails),
@@ -48,7 +48,7 @@ impl Outside {
     }
 
     /// The files `a`, `b` and `c` that hold these bytes.
-    pub fn files(
+    pub(crate) fn files(
         &self,
         alloc: Global,
         a: &[u8],
@@ -63,17 +63,17 @@ impl Outside {
         Ok(MemoryFiles::new(held, fails, self.reads_of.max(1)))
     }
 
-    pub fn out(&self, alloc: Global) -> Result<MemorySink, Memory> {
+    pub(crate) fn out(&self, alloc: Global) -> Result<MemorySink, Memory> {
         let fails = just(alloc, self.write_fails)?;
         MemorySink::new(alloc, self.room, fails, self.writes_of.max(1))
     }
 
-    pub fn err(&self, alloc: Global) -> Result<MemorySink, Memory> {
+    pub(crate) fn err(&self, alloc: Global) -> Result<MemorySink, Memory> {
         let fails = just(alloc, self.error_fails)?;
         MemorySink::new(alloc, 1000, fails, self.errors_of.max(1))
     }
 
-    pub fn regs(&self, alloc: Global) -> Result<FailingRegisters, Memory> {
+    pub(crate) fn regs(&self, alloc: Global) -> Result<FailingRegisters, Memory> {
         let fails = just(alloc, self.register_fails)?;
         FailingRegisters::new(alloc, self.registers, fails)
     }

@@ -48,8 +48,8 @@ fn put_whole<K: Sink>(
     page.flush(sink)
 }
 
-/// Puts what `check` prints of a plan and its notes: a line for each container, processor, domain, group and note,
-/// and one for the number of notes. Memory is taken before the sink sees a byte.
+/// Puts what `check` prints of a plan and its notes: a line for each container, processor, domain, group
+/// and note, and one for the number of notes. Memory is taken before the sink sees a byte.
 pub fn print_check<K: Sink>(
     alloc: Global,
     plan: &Plan,

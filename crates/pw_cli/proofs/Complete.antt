@@ -5,10 +5,10 @@ use Rattle.pw_words.specs.declared.command.WordsFault.{WordsFault}
 use Rattle.pw_words.specs.declared.command.WordsFault.TheVariants.{Refused, Memory}
 use Rattle.pw_words.specs.Words.{AskFor, Asked, IsCommand}
 use Rattle.pw_words.proofs.Asking.{one_asked}
-use Rattle.pw_ends.specs.Seen.{Seen, NoneFailed}
-use Rattle.pw_ends.specs.Ends.{Work}
+use Rattle.pw_load.specs.Seen.{Seen, NoneFailed}
+use Rattle.pw_load.specs.Ends.{Work}
 use Rattle.pw_turns.specs.declared.close.Sealed.{Sealed}
-use Rattle.pw_ends.proofs.Completeness.{IsJudged, so_printed, so_refused, so_unprinted, so_printable}
+use Rattle.pw_load.proofs.Completeness.{IsJudged, so_printed, so_refused, so_unprinted, so_printable}
 use Rattle.pw_cli.specs.Runs.{EndsBy, EndsSo, IsComplete, IsCompleteFor, IsSettled, Obeys, Ran, names_in, words_line, words_status, work_of}
 use Rattle.pw_cli.specs.Runs.EndsBy.{misworded, without_memory, commanded}
 use Rattle.pw_cli.proofs.Obeying.{command_is_judged, did_or_lost, does_not, none_unread, settled_is_one, within_of}

@@ -8,11 +8,11 @@ use Rattle.pw_script.specs.declared.script.Line.{Line as line}
 use Rattle.pw_script.specs.HistoryText.{history_text}
 use Rattle.pw_script.specs.Reading.{requests_of}
 use Rattle.pw_drive.specs.Driven.{stopped_at}
-use Rattle.pw_ends.specs.Seen.{Seen}
-use Rattle.pw_ends.specs.Ends.{Does}
-use Rattle.pw_ends.specs.Ends.Stops.{without_memory as no_memory}
-use Rattle.pw_ends.specs.Ends.Prints.{whole as all_printed, unwritten as part_printed}
-use Rattle.pw_ends.specs.Ends.Does.{stopped as stops, printed as printed_so}
+use Rattle.pw_load.specs.Seen.{Seen}
+use Rattle.pw_load.specs.Ends.{Does}
+use Rattle.pw_load.specs.Ends.Stops.{without_memory as no_memory}
+use Rattle.pw_load.specs.Ends.Prints.{whole as all_printed, unwritten as part_printed}
+use Rattle.pw_load.specs.Ends.Does.{stopped as stops, printed as printed_so}
 use Rattle.pw_runs.specs.Runs.{AreGiven, DrivesSerially, IsSerialRun, IsTextOn, PrintsRun, driving, entries_of}
 use Rattle.pw_runs.specs.Runs.DrivesSerially.{stopped, drove}
 use Rattle.pw_runs.specs.Runs.PrintsRun.{whole, unwritten, failed, failed_unwritten, without_memory}

@@ -5,24 +5,24 @@ use Rattle.pw_base.specs.Seen.{FilesSeen}
 use Rattle.pw_words.specs.Words.{AskFor, Asked}
 use Rattle.pw_words.specs.Words.Asked.{on_blocks, drive, audit, cppc, generate}
 use Rattle.pw_words.proofs.Asking.{few_counted}
-use Rattle.pw_ends.specs.Seen.{Seen, NoneFailed}
-use Rattle.pw_ends.specs.Ends.{Does}
-use Rattle.pw_ends.specs.Ends.Stops.{refused, unread, without_memory}
-use Rattle.pw_ends.specs.Ends.Prints.{whole, unwritten, cut}
-use Rattle.pw_ends.specs.Ends.Does.{stopped, printed}
-use Rattle.pw_ends.proofs.Completeness.{IsJudged, judged_of}
+use Rattle.pw_load.specs.Seen.{Seen, NoneFailed}
+use Rattle.pw_load.specs.Ends.{Does}
+use Rattle.pw_load.specs.Ends.Stops.{refused, unread, without_memory}
+use Rattle.pw_load.specs.Ends.Prints.{whole, unwritten, cut}
+use Rattle.pw_load.specs.Ends.Does.{stopped, printed}
+use Rattle.pw_load.proofs.Completeness.{IsJudged, judged_of}
 use Rattle.pw_tasks.proofs.One.{never_unread, refusal_is_1, task_is_one}
 use Rattle.pw_turns.specs.declared.close.Sealed.{Sealed}
 use Rattle.pw_runs.proofs.One.{drive_is_one, refusal_is_1_or_7, working_apart, working_refuses_once}
 use Rattle.pw_runs.proofs.One.{never_unread as never_unread_drive}
-use Rattle.pw_trial.proofs.One.{trying_is_one}
-use Rattle.pw_trial.proofs.One.{does_or_failed as tries_or_failed}
-use Rattle.pw_review.proofs.One.{refusal_is_1_7_or_8, reviewing_is_one}
-use Rattle.pw_review.proofs.One.{never_unread as never_unread_audit}
-use Rattle.pw_cppc_runs.proofs.Ending.{Failed as LostBy, works_or_failed}
-use Rattle.pw_cppc_runs.proofs.Ending.{does_or_failed as steers_or_failed}
-use Rattle.pw_cppc_runs.proofs.One.{steer_is_one, together_is_judged}
-use Rattle.pw_cppc_runs.proofs.One.{never_unread as never_unread_cppc, refusal_is_1_or_7 as cppc_refusal}
+use Rattle.pw_runs.proofs.TrialOne.{trying_is_one}
+use Rattle.pw_runs.proofs.TrialOne.{does_or_failed as tries_or_failed}
+use Rattle.pw_runs.proofs.AuditOne.{refusal_is_1_7_or_8, reviewing_is_one}
+use Rattle.pw_runs.proofs.AuditOne.{never_unread as never_unread_audit}
+use Rattle.pw_runs.proofs.CppcEnding.{Failed as LostBy, works_or_failed}
+use Rattle.pw_runs.proofs.CppcEnding.{does_or_failed as steers_or_failed}
+use Rattle.pw_runs.proofs.CppcOne.{steer_is_one, together_is_judged}
+use Rattle.pw_runs.proofs.CppcOne.{never_unread as never_unread_cppc, refusal_is_1_or_7 as cppc_refusal}
 use Rattle.pw_cli.specs.Runs.{DrivesBy, IsSettled, IsWithin, Obeys, RegistersHeld, SteersBy, driving_by, names_in, steering_by, work_of}
 use Rattle.pw_cli.proofs.Driving.{does_or_failed}
 use Rattle.pw_cli.proofs.Working.{does_or_failed as worked_or_failed}

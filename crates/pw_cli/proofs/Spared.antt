@@ -10,20 +10,20 @@ use Rattle.pw_script.specs.declared.script.TheConstants.{MOST_OPERATIONS}
 use Rattle.pw_script.specs.Reading.{operations}
 use Rattle.pw_drive.specs.Driven.{OperatesFor, stopped_at}
 use Rattle.pw_turns.specs.declared.close.Sealed.{Sealed}
-use Rattle.pw_workers.specs.Drives.{Opens}
-use Rattle.pw_ends.specs.Seen.{Seen}
-use Rattle.pw_ends.specs.Ends.{Does}
-use Rattle.pw_ends.specs.Ends.Does.{stopped as stops}
+use Rattle.pw_drive.specs.Drives.{Opens}
+use Rattle.pw_load.specs.Seen.{Seen}
+use Rattle.pw_load.specs.Ends.{Does}
+use Rattle.pw_load.specs.Ends.Does.{stopped as stops}
 use Rattle.pw_runs.specs.Runs.{PrintsRun}
 use Rattle.pw_runs.specs.Runs.DrivesSerially.{stopped, drove}
 use Rattle.pw_runs.specs.Runs.PrintsRun.{whole, unwritten, failed, failed_unwritten, without_memory}
 use Rattle.pw_runs.specs.Workers.Drives.{stopped as work_stopped, opened as work_opened, drove as workers_drove}
 use Rattle.pw_generate.specs.Loads.{machine_load}
-use Rattle.pw_trial.specs.Trials.{Generates, PrintsSummary}
-use Rattle.pw_trial.specs.Trials.Generates.{undone, opened}
-use Rattle.pw_trial.specs.Trials.Generates.{drove as tried}
-use Rattle.pw_trial.specs.Trials.PrintsSummary.{whole as all_summed, unwritten as part_summed, failed as never_summed, without_memory as unsummed}
-use Rattle.pw_cppc_runs.proofs.Spared.{steers_counts, steers_not_5, works_counts, works_not_5}
+use Rattle.pw_runs.specs.Trials.{Generates, PrintsSummary}
+use Rattle.pw_runs.specs.Trials.Generates.{undone, opened}
+use Rattle.pw_runs.specs.Trials.Generates.{drove as tried}
+use Rattle.pw_runs.specs.Trials.PrintsSummary.{whole as all_summed, unwritten as part_summed, failed as never_summed, without_memory as unsummed}
+use Rattle.pw_runs.proofs.CppcSpared.{steers_counts, steers_not_5, works_counts, works_not_5}
 use Rattle.pw_cli.specs.Runs.{DrivesBy, EndsBy, IsSpared, Obeys, Ran, SteersBy, driving_by}
 use Rattle.pw_cli.specs.Runs.EndsBy.{misworded, commanded}
 use Rattle.pw_cli.specs.Runs.EndsBy.{without_memory as without_memory_of}

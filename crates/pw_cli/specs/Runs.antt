@@ -7,16 +7,16 @@ use Rattle.pw_words.specs.declared.command.WordsFault.{WordsFault}
 use Rattle.pw_words.specs.declared.command.WordsFault.TheVariants.{Refused, Memory}
 use Rattle.pw_words.specs.Words.{AskFor, Asked, IsCommand}
 use Rattle.pw_words.specs.Words.Asked.{on_blocks, drive, audit, cppc, generate}
-use Rattle.pw_ends.specs.Seen.{Seen, NoneFailed}
-use Rattle.pw_ends.specs.Ends.{Does, Ended, EndedSo, EndedWell, Work}
+use Rattle.pw_load.specs.Seen.{Seen, NoneFailed}
+use Rattle.pw_load.specs.Ends.{Does, Ended, EndedSo, EndedWell, Work}
 use Rattle.pw_tasks.specs.Tasks.{work_on}
 use Rattle.pw_turns.specs.declared.close.Sealed.{Sealed}
 use Rattle.pw_runs.specs.Runs.{DrivesSerially, driving}
 use Rattle.pw_runs.specs.Workers.{Drives, working}
-use Rattle.pw_trial.specs.Trials.{Generates, trying}
-use Rattle.pw_review.specs.Reviews.{reviewing}
-use Rattle.pw_cppc_runs.specs.Runs.{SteersSerially, steering}
-use Rattle.pw_cppc_runs.specs.Workers.{Steers, steering_together}
+use Rattle.pw_runs.specs.Trials.{Generates, trying}
+use Rattle.pw_runs.specs.Reviews.{reviewing}
+use Rattle.pw_runs.specs.CppcRuns.{SteersSerially, steering}
+use Rattle.pw_runs.specs.CppcWorkers.{Steers, steering_together}
 
 -- # What is asked for
 
@@ -65,7 +65,8 @@ OnlyDoes work sealed before after status text line =
     Does work before.outputs after.outputs status text line × (after.regs ≡ before.regs) × (sealed ≡ None)
 
 -- A machine was driven, on one thread or by workers. These alone hand on what a closed coordinator gave.
-abbrev pub DrivesBy : (serial : Bool) → (step : Bool) → (script : List ℕ) → (names : List (List ℕ)) → Option Sealed → Seen → Seen → ℕ → List ℕ → List ℕ → Type 0
+abbrev pub DrivesBy : (serial : Bool) → (step : Bool) → (script : List ℕ) → (names : List (List ℕ)) → Option Sealed → Seen → Seen → ℕ
+    → List ℕ → List ℕ → Type 0
 DrivesBy true step script names sealed before after status text line =
     DrivesSerially step script names before after status text line × (sealed ≡ None)
 DrivesBy false step script names sealed before after status text line = Drives step script names sealed before after status text line
@@ -100,7 +101,8 @@ words_line Memory = codes "no memory\n"
 -- What a run does with words.
 pub data EndsBy (words : List (List ℕ)) (sealed : Option Sealed) (before after : Seen) : ℕ → List ℕ → List ℕ → Type 0 where
   -- they are no command
-  misworded : (IsCommand words → ⊥) → after.regs ≡ before.regs → sealed ≡ None → EndsBy words sealed before after 2 [] (codes "words: refused\n")
+  misworded : (IsCommand words → ⊥) → after.regs ≡ before.regs → sealed ≡ None
+      → EndsBy words sealed before after 2 [] (codes "words: refused\n")
   -- memory ran out before they were read
   without_memory : after.regs ≡ before.regs → sealed ≡ None → EndsBy words sealed before after 6 [] (codes "no memory\n")
   -- they ask for something, and this is done
@@ -136,7 +138,8 @@ pub record IsCompleteFor (asked : Asked) (before after : Seen) (status : ℕ) : 
   pub prints : (text : List ℕ) → (work_of asked before.files after.files).text text → RegistersHeld asked before after
       → (Rose before.outputs.out.faults after.outputs.out.faults → ⊥)
       → EndedWell (work_of asked before.files after.files) before.outputs after.outputs status ⊎ (status ≡ 6)
-  pub one : IsSettled asked → (a b : List ℕ) → (work_of asked before.files after.files).text a → (work_of asked before.files after.files).text b → a ≡ b
+  pub one : IsSettled asked → (a b : List ℕ) → (work_of asked before.files after.files).text a
+      → (work_of asked before.files after.files).text b → a ≡ b
   -- what it refuses is refused, by its status and its line
   pub refuses : (so : ℕ) (line : List ℕ) → (work_of asked before.files after.files).refusal so line → EndsSo before after status so [] line
   -- it refuses exactly what it doesn't print

@@ -4,6 +4,5 @@
 mod program;
 
 pub use program::run;
-pub use pw_generate::{generate_block, generate_script};
+pub use pw_generate::{generate_block, generate_script, print_summary};
 pub use pw_runs::Outcome;
-pub use pw_summary::print_summary;

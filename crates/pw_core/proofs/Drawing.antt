@@ -39,13 +39,15 @@ module _ (t : ℕ → Bool) (ms : List ℕ) (i : ℕ) (lt : i < length ms) where
   failing : t (get_or ms i 0) ≡ false → filter t (drop i ms) ≡ filter t (drop (i + 1) ms)
   failing e = rw add-one (ap (filter t) (drop-cons ms i 0 lt) ∙ ap (λ b. cond b (get_or ms i 0 ∷ filter t (drop (suc i) ms)) (filter t (drop (suc i) ms))) e)
 
-  pub pushed : (f : ℕ → Op) (acc whole : List Op) (op : Op) → op ≡ f (get_or ms i 0) → t (get_or ms i 0) ≡ true → acc ++ map f (filter t (drop i ms)) ≡ whole → (acc ++ op ∷ []) ++ map f (filter t (drop (i + 1) ms)) ≡ whole
+  pub pushed : (f : ℕ → Op) (acc whole : List Op) (op : Op) → op ≡ f (get_or ms i 0) → t (get_or ms i 0) ≡ true → acc ++ map f (filter t (drop i ms)) ≡ whole
+      → (acc ++ op ∷ []) ++ map f (filter t (drop (i + 1) ms)) ≡ whole
   pushed f acc whole op is e h = rw (is, append_assoc) (ap (λ qs. acc ++ map f qs) (sym (passing e)) ∙ h)
 
   pub passed : (f : ℕ → Op) (acc whole : List Op) → t (get_or ms i 0) ≡ false → acc ++ map f (filter t (drop i ms)) ≡ whole → acc ++ map f (filter t (drop (i + 1) ms)) ≡ whole
   passed f acc whole e h = ap (λ qs. acc ++ map f qs) (sym (failing e)) ∙ h
 
-  pub room_pushed : (acc : List Op) (op : Op) (capacity : ℕ) → t (get_or ms i 0) ≡ true → length acc + length (filter t (drop i ms)) ≤ capacity → length (acc ++ op ∷ []) + length (filter t (drop (i + 1) ms)) ≤ capacity
+  pub room_pushed : (acc : List Op) (op : Op) (capacity : ℕ) → t (get_or ms i 0) ≡ true → length acc + length (filter t (drop i ms)) ≤ capacity
+      → length (acc ++ op ∷ []) + length (filter t (drop (i + 1) ms)) ≤ capacity
   room_pushed acc op capacity e h =
       let more = length-append acc (op ∷ []) in
       let count : length (filter t (drop i ms)) ≡ suc (length (filter t (drop (i + 1) ms))) = ap length (passing e) in
@@ -157,7 +159,8 @@ both_more ops mid new xs ys e f = f ∙ ap (λ m. with_more m ys) e ∙ ap (λ z
 pub nothing_more : (ops : Bounded Op) → ops ≡ with_more ops []
 nothing_more ops = ap (λ xs. record { elements = xs; capacity = ops.capacity }) (sym (append-nil ops.elements))
 
-module _ (P : Plan) (T : State) (p : ℕ) (c : Chain) (lt : p < length P.cpus) (fits : IsState P T) (e : c ≡ chain_of (states_of P T p)) (table : (cpu_at P p).idle.kind ≢ Absent) (ops new : Bounded Op) where
+module _ (P : Plan) (T : State) (p : ℕ) (c : Chain) (lt : p < length P.cpus) (fits : IsState P T) (e : c ≡ chain_of (states_of P T p)) (table : (cpu_at P p).idle.kind ≢ Absent)
+    (ops new : Bounded Op) where
   pub own_pushed : (o : Op) → 0 < get_or c.states 0 0 → o ≡ op.Enter p (composite_of P p (states_in c)) → new ≡ with_more ops (o ∷ []) → new ≡ with_more ops (own_ops P T p)
   own_pushed o above is h =
       let told = (chain_fits P T p c lt fits e above).told in
@@ -172,7 +175,8 @@ module _ (P : Plan) (S T : State) (p : ℕ) (ops : Bounded Op) (room : length op
   room_own = let few = drawn-few P S T p in omega (arith, few, room)
 
   -- the members of the group of p are drawn along within the bound
-  pub room_drawn : (mid : Bounded Op) (ms : List ℕ) → mid ≡ with_more ops (own_ops P T p) → ms ≡ (group_at P (group_of P p)).members → length mid.elements + length (drawn_among P S T p ms) ≤ mid.capacity
+  pub room_drawn : (mid : Bounded Op) (ms : List ℕ) → mid ≡ with_more ops (own_ops P T p) → ms ≡ (group_at P (group_of P p)).members
+      → length mid.elements + length (drawn_among P S T p ms) ≤ mid.capacity
   room_drawn mid ms e is =
       let few = drawn-few P S T p in
       let own = own_entry-le (cpu_at P p).idle.kind (c_state P T p) (enter P T p) in

@@ -31,7 +31,8 @@ idle_covers P p i d lt =
     let places = places_from (covers Idle p) 0 P.domains in
     let count = length-map places (membership_in P.domains p) in
     let short : i < length places = omega (arith, count) in
-    let each = All-from_recursion (λ k. covers Idle p (domain_at P k) ≡ true) places (places-each (λ k. covers Idle p (domain_at P k) ≡ true) (covers Idle p) 0 P.domains no_domain (λ k at e. rw zero-add e)) in
+    let each = All-from_recursion (λ k. covers Idle p (domain_at P k) ≡ true) places (places-each (λ k. covers Idle p (domain_at P k) ≡ true) (covers Idle p) 0 P.domains no_domain
+    (λ k at e. rw zero-add e)) in
     rw (get_or-map (membership_in P.domains p) places i 0 d short) (each i 0 short)
 
 -- one that governs it does where an own one does

@@ -13,5 +13,6 @@ pub software_stands : (P : Plan) (S : State) (place cpu : ℕ) (d : Domain) → 
 software_stands P S place cpu d e soft =
     let together = stands_at (map (ask_of d.kind S) d.members) (map (limit_of d.kind S) d.members) in
     let alone = max (limit_of d.kind S cpu) (ask_of d.kind S cpu) in
-    subst (λ (x : Domain). together ≡ cond (is_software x.coord) (stands_at (map (ask_of x.kind S) x.members) (map (limit_of x.kind S) x.members)) (max (limit_of x.kind S cpu) (ask_of x.kind S cpu))) e
+    subst (λ (x : Domain). together ≡ cond (is_software x.coord) (stands_at (map (ask_of x.kind S) x.members) (map (limit_of x.kind S) x.members)) (max (limit_of x.kind S cpu) (ask_of x.kind S cpu)))
+    e
     (ap (λ (b : Bool). cond b together alone) (sym soft))

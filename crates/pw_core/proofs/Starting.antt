@@ -42,9 +42,12 @@ module _ (P : Plan) (d : ℕ) where
       → standing P (opening P) d p ≡ slowest P (domain_at P d).kind members
   at_start members p is soft exist some =
       let kind = (domain_at P d).kind in
-      let asks : map (ask_of kind (opening P)) members ≡ map (own_limit P kind) members = map_agree (λ q. q < length P.cpus) (ask_of kind (opening P)) (own_limit P kind) (opening_ask P kind) members exist in
-      let limits : map (limit_of kind (opening P)) members ≡ map (own_limit P kind) members = map_agree (λ q. q < length P.cpus) (limit_of kind (opening P)) (own_limit P kind) (opening_own P kind) members exist in
-      ap (λ b. cond b (stands_at (map (ask_of kind (opening P)) (domain_at P d).members) (map (limit_of kind (opening P)) (domain_at P d).members)) (max (limit_of kind (opening P) p) (ask_of kind (opening P) p))) soft
+      let asks : map (ask_of kind (opening P)) members ≡ map (own_limit P kind) members = map_agree (λ q. q < length P.cpus) (ask_of kind (opening P)) (own_limit P kind) (opening_ask P kind) members
+      exist in
+      let limits : map (limit_of kind (opening P)) members ≡ map (own_limit P kind) members = map_agree (λ q. q < length P.cpus) (limit_of kind (opening P)) (own_limit P kind)
+      (opening_own P kind) members exist in
+      ap (λ b. cond b (stands_at (map (ask_of kind (opening P)) (domain_at P d).members) (map (limit_of kind (opening P)) (domain_at P d).members))
+      (max (limit_of kind (opening P) p) (ask_of kind (opening P) p))) soft
       ∙ ap (λ ms. stands_at (map (ask_of kind (opening P)) ms) (map (limit_of kind (opening P)) ms)) is
       ∙ ap (λ xs. stands_at xs (map (limit_of kind (opening P)) members)) asks
       ∙ ap (λ xs. stands_at (map (own_limit P kind) members) xs) limits
@@ -60,13 +63,15 @@ module _ (P : Plan) (d : ℕ) where
       let kind = (domain_at P d).kind in
       let ask = opening_ask P kind p lt in
       let limit = opening_own P kind p lt in
-      ap (λ c. cond (is_software c) (stands_at (map (ask_of kind (opening P)) (domain_at P d).members) (map (limit_of kind (opening P)) (domain_at P d).members)) (max (limit_of kind (opening P) p) (ask_of kind (opening P) p))) hard
+      ap (λ c. cond (is_software c) (stands_at (map (ask_of kind (opening P)) (domain_at P d).members) (map (limit_of kind (opening P)) (domain_at P d).members))
+      (max (limit_of kind (opening P) p) (ask_of kind (opening P) p))) hard
       ∙ omega (arith, ask, limit)
 
   module _ (kind : is_idle (domain_at P d).kind ≡ false) (fit : nat_lt 0 (domain_at P d).unfit ≡ false) (exist : AllByRecursion (λ q. q < length P.cpus) (domain_at P d).members) where
     opened : opening_ops_of P d ≡ map (λ p. set_on P (domain_at P d).kind (standing P (opening P) d p) p) (opening_at (domain_at P d).coord (domain_at P d).members)
     opened =
-        ap (λ b. cond b [] (cond (nat_lt 0 (domain_at P d).unfit) [] (map (λ p. set_on P (domain_at P d).kind (standing P (opening P) d p) p) (opening_at (domain_at P d).coord (domain_at P d).members)))) kind
+        ap (λ b. cond b [] (cond (nat_lt 0 (domain_at P d).unfit) [] (map (λ p. set_on P (domain_at P d).kind (standing P (opening P) d p) p)
+        (opening_at (domain_at P d).coord (domain_at P d).members)))) kind
         ∙ ap (λ b. cond b [] (map (λ p. set_on P (domain_at P d).kind (standing P (opening P) d p) p) (opening_at (domain_at P d).coord (domain_at P d).members))) fit
 
     together : (some : 0 < length (domain_at P d).members) (soft : is_software (domain_at P d).coord ≡ true) (ms : List ℕ)
@@ -85,7 +90,8 @@ module _ (P : Plan) (d : ℕ) where
         ∙ ap (λ c. map (λ p. set_on P (domain_at P d).kind (standing P (opening P) d p) p) (opening_at c (domain_at P d).members)) all
         ∙ by (domain_at P d).members refl
       where
-        by : (ms : List ℕ) → (domain_at P d).members ≡ ms → map (λ p. set_on P (domain_at P d).kind (standing P (opening P) d p) p) ms ≡ map (set_on P (domain_at P d).kind (slowest P (domain_at P d).kind (domain_at P d).members)) ms
+        by : (ms : List ℕ) → (domain_at P d).members ≡ ms → map (λ p. set_on P (domain_at P d).kind (standing P (opening P) d p) p) ms
+            ≡ map (set_on P (domain_at P d).kind (slowest P (domain_at P d).kind (domain_at P d).members)) ms
         by [] e = refl
         by (m ∷ ms) e = together (rw e (omega arith)) (ap is_software all) (m ∷ ms)
 
@@ -113,7 +119,8 @@ module _ (P : Plan) (d : ℕ) where
 -- an idle or an unfit domain opens nothing
 pub opens_nothing : (P : Plan) (d : ℕ) → is_idle (domain_at P d).kind ≡ true → opening_ops_of P d ≡ []
 opens_nothing P d kind =
-    ap (λ b. cond b [] (cond (nat_lt 0 (domain_at P d).unfit) [] (map (λ p. set_on P (domain_at P d).kind (standing P (opening P) d p) p) (opening_at (domain_at P d).coord (domain_at P d).members)))) kind
+    ap (λ b. cond b [] (cond (nat_lt 0 (domain_at P d).unfit) [] (map (λ p. set_on P (domain_at P d).kind (standing P (opening P) d p) p) (opening_at (domain_at P d).coord (domain_at P d).members))))
+    kind
 
 not_idle : (kind : DomainKind) → (kind ≡ kinds.Idle → ⊥) → is_idle kind ≡ false
 not_idle kinds.Perf free = refl

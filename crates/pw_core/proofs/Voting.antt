@@ -54,12 +54,14 @@ module _ (P : Plan) (S : State) (n : ℕ) where
 
   -- the vote of a container with children
   pub container_vote-by_least : length (rows_of (container_at P n).idle) ≤ 255 → 0 < length (children_at P n) → (child_vote P S (get_or (children_at P n) 0 (Cpu 0))).tolerance < 2 ^ 32
-      → (state : ℕ) → state ≡ greatest (λ i. (row_at (container_at P n).idle i).enabled && (nat_le i (least_reach P S n) && nat_le (row_at (container_at P n).idle i).latency (least_bearing P S n))) (length (rows_of (container_at P n).idle))
+      → (state : ℕ) → state ≡ greatest (λ i. (row_at (container_at P n).idle i).enabled && (nat_le i (least_reach P S n) && nat_le (row_at (container_at P n).idle i).latency (least_bearing P S n)))
+      (length (rows_of (container_at P n).idle))
       → container_vote P S n ≡ cond (state == 0) running (idling state (least_bearing P S n))
   container_vote-by_least small some fits state is =
       let rows = length (rows_of (container_at P n).idle) in
       let same : greatest (may_idle P n (child_votes P S n)) rows ≡ state =
-      greatest-agree (may_idle P n (child_votes P S n)) (λ i. (row_at (container_at P n).idle i).enabled && (nat_le i (least_reach P S n) && nat_le (row_at (container_at P n).idle i).latency (least_bearing P S n))) rows
+      greatest-agree (may_idle P n (child_votes P S n))
+      (λ i. (row_at (container_at P n).idle i).enabled && (nat_le i (least_reach P S n) && nat_le (row_at (container_at P n).idle i).latency (least_bearing P S n))) rows
       (λ i le. may_idle-least i (omega arith) some fits) ∙ sym is in
       container_vote-some P S n some
       ∙ ap (λ s. vote_over s (child_votes P S n)) same

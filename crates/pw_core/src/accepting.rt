@@ -10,7 +10,7 @@ ghost use Rattle.pw_model.specs.Operations.{accepted_ops, enter, idle_ops};
 ghost use Rattle.pw_model.specs.Operations.{is_drawn};
 ghost use Rattle.pw_core.specs.Chains.{AreStatesOf, IsChain, states_in};
 ghost use Rattle.pw_core.specs.inner.Drawn.{drawn_among};
-ghost use Rattle.pw_ops.specs.Rooms.{HasRoom};
+ghost use Rattle.pw_regs.specs.Rooms.{HasRoom};
 
 use crate::c_states::is_drawn;
 use crate::chain::chain_under;
@@ -18,8 +18,8 @@ use crate::composite::chain_composite;
 use crate::setting::{set_domain, stands_under};
 use acpi_values::{Chain, IdleKind, Op};
 use pw_model::{Change, Reply, State};
-use pw_ops::Ops;
 use pw_plan::{DomainKind, Plan, Request};
+use pw_regs::Ops;
 
 /// What an accepted request is answered, from the state that it leaves.
 #[tactic(auto, unfolding(pw_model::specs::Answers::accepted))]

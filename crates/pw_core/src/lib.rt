@@ -23,7 +23,7 @@ pub use composite::{chain_composite, own_register};
 pub use domains::standing_now;
 pub use opening::{open_all, opening_limit};
 pub use pw_model::{HistoryEntry, Reply, Vote};
-pub use pw_ops::Ops;
+pub use pw_regs::Ops;
 pub use refusal::fixed_answer;
 pub use replaying::{replay, replay_on};
 pub use setting::{set_each, set_on};

@@ -5,7 +5,7 @@ ghost use Rattle.pw_plan.specs.Opening.{opening_count};
 ghost use Rattle.pw_plan.specs.Requests.{opening_bound};
 ghost use Rattle.pw_model.specs.States.{opening, opening_limit, running};
 ghost use Rattle.pw_model.specs.Operations.{opening_ops, opening_ops_of, set_on};
-ghost use Rattle.pw_ops.specs.Rooms.{HasRoom};
+ghost use Rattle.pw_regs.specs.Rooms.{HasRoom};
 
 use crate::changing::capped;
 use crate::setting::{set_each, set_on};
@@ -13,8 +13,8 @@ use crate::tree::RUNNING;
 use acpi_values::Coord;
 use pw_base::{List, Memory};
 use pw_model::{State, Vote};
-use pw_ops::Ops;
 use pw_plan::{DomainKind, Plan};
+use pw_regs::Ops;
 use std::alloc::Global;
 
 /// The limit that a processor opens with, 0 where it has no states of this kind.
@@ -85,7 +85,8 @@ fn open_each(plan: &Plan, kind: DomainKind, members: &[u32], ops: &mut Ops)
     requires room { HasRoom ops.old (length members.now) }
     ensures { ops.new ≡ record ops.old {
       elements = ops.old.elements
-          ++ map (λ p. set_on plan.now kind (opening_limit (scale_of kind (cpu_at plan.now p))) p) members.now;
+          ++ map (λ p. set_on plan.now kind (opening_limit (scale_of kind (cpu_at plan.now p))) p)
+          members.now;
     } }
 {
     for member in members {

@@ -6,14 +6,14 @@ ghost use Rattle.pw_model.specs.States.{IsState, with_change};
 ghost use Rattle.pw_model.specs.Answers.{stands};
 ghost use Rattle.pw_model.specs.Operations.{control_of, domain_ops};
 ghost use Rattle.pw_model.specs.Operations.{register_of, set_at, set_on};
-ghost use Rattle.pw_ops.specs.Rooms.{HasRoom};
+ghost use Rattle.pw_regs.specs.Rooms.{HasRoom};
 
 use crate::composite::own_register;
 use crate::domains::standing;
 use acpi_values::{Coord, EntryMethod, Op, Register};
 use pw_model::{Change, Reply, State};
-use pw_ops::Ops;
 use pw_plan::{CpuParts, DomainKind, Plan};
+use pw_regs::Ops;
 
 /// The control register of a processor's states of this kind.
 fn register_of(kind: DomainKind, cpu: &CpuParts) -> Register

@@ -6,8 +6,8 @@ use crate::stepping::{step_ask, step_idle, step_limit};
 use crate::tree::RUNNING;
 use pw_base::Memory;
 use pw_model::{Change, Reply, ScaleKind, State as Lists};
-use pw_ops::Ops;
 use pw_plan::{Plan, Request};
+use pw_regs::Ops;
 use std::alloc::Global;
 use std::marker::Model;
 
@@ -31,7 +31,7 @@ impl State {
     ghost use Rattle.pw_model.specs.States.{IsState, opening};
     ghost use Rattle.pw_model.specs.Answers.{after, answer};
     ghost use Rattle.pw_model.specs.Operations.{opening_ops, ops_of};
-    ghost use Rattle.pw_ops.specs.Rooms.{HasRoom};
+    ghost use Rattle.pw_regs.specs.Rooms.{HasRoom};
 
     /// The state at the start: everyone runs, the limits are those of the tables, and each processor
     /// asks for the fastest state that its limit allows.

@@ -7,7 +7,7 @@ ghost use Rattle.pw_model.specs.Answers.{after, answer, stands};
 ghost use Rattle.pw_model.specs.Operations.{domain_ops, ops_of};
 ghost use Rattle.pw_core.specs.inner.Changes.{CanChange};
 ghost use Rattle.pw_core.specs.inner.Kinds.{asking, domain_kind, limiting};
-ghost use Rattle.pw_ops.specs.Rooms.{HasRoom};
+ghost use Rattle.pw_regs.specs.Rooms.{HasRoom};
 
 use crate::accepting::idle;
 use crate::changing::{capped, make};
@@ -15,8 +15,8 @@ use crate::domains::standing_now;
 use crate::refusal::{above_limit, ask_refusal, domain_refusal, idle_refusal};
 use crate::setting::set_between;
 use pw_model::{Change, Reply, ScaleKind, State, Vote};
-use pw_ops::Ops;
 use pw_plan::{DomainKind, Plan, Request};
+use pw_regs::Ops;
 
 /// The kind of the domains whose members share such states.
 #[inline]

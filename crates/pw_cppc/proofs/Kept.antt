@@ -118,5 +118,8 @@ made_sorted R f t k zero h = tt
 made_sorted R f t k (suc n) h = step (t k) refl (made_sorted R f t (k + 1) n (λ p q a b. h p q a (omega arith)))
   where
     step : (b : Bool) → t k ≡ b → Sorted R (map f (filter t (range_with_len (k + 1) n))) → Sorted R (map f (cond b (k ∷ filter t (range_with_len (k + 1) n)) (filter t (range_with_len (k + 1) n))))
-    step true e r = (each_made (λ y. R (f k) y ≡ true) f (filter t (range_with_len (k + 1) n)) (kept_each (λ q. R (f k) (f q) ≡ true) t (k + 1) n (λ q a b c. h k q (omega arith) (omega arith) e c)), r)
+    step true e r = (
+      each_made (λ y. R (f k) y ≡ true) f (filter t (range_with_len (k + 1) n)) (kept_each (λ q. R (f k) (f q) ≡ true) t (k + 1) n (λ q a b c. h k q (omega arith) (omega arith) e c)),
+      r,
+    )
     step false e r = r

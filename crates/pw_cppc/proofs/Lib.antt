@@ -5,3 +5,14 @@ pub mod Together
 pub mod Listing
 pub mod Soundness
 pub mod OneList
+pub mod Read
+pub mod Accepting
+pub mod Appending
+pub mod MembersAsked
+pub mod Counting
+pub mod Software
+pub mod Starting
+pub mod Gathering
+pub mod Staying
+pub mod Joining
+pub mod NumberBounds

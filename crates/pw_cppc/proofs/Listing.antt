@@ -99,7 +99,8 @@ module _ (ps : List CppcParts) where
     unfit = ap (λ k. why_unfit ps k (members_of ps p)) (sym (leader_first p lt l));
   }
 
-  each_led : (Q : CppcDomain → Type 0) → ((p : ℕ) → p < length ps → leads ps p ≡ true → Q (domain_led_by ps p)) → AllByRecursion Q (map (domain_led_by ps) (filter (leads ps) (range_with_len 0 (length ps))))
+  each_led : (Q : CppcDomain → Type 0) → ((p : ℕ) → p < length ps → leads ps p ≡ true → Q (domain_led_by ps p))
+      → AllByRecursion Q (map (domain_led_by ps) (filter (leads ps) (range_with_len 0 (length ps))))
   each_led Q h = each_made Q (domain_led_by ps) (filter (leads ps) (range_with_len 0 (length ps)))
       (kept_each (λ p. Q (domain_led_by ps p)) (leads ps) 0 (length ps) (λ p a b e. h p (omega arith) e))
 

@@ -125,12 +125,14 @@ module _ (ps : List CppcParts) (few : length ps ≤ 256) where
   is_sound = record {
     count = count;
     members = each (λ (d : CppcDomain). All (λ p. p < length ps) d.members) (λ d is. All-from_recursion (λ p. p < length ps) d.members
-        (each_weaker (λ q. (q < length ps) × (has_cpc ps q ≡ true)) (λ p. p < length ps) d.members (λ p a. a.0) (recursion_from_All (λ q. (q < length ps) × (has_cpc ps q ≡ true)) d.members is.exist)));
+        (each_weaker (λ q. (q < length ps) × (has_cpc ps q ≡ true)) (λ p. p < length ps) d.members (λ p a. a.0) (recursion_from_All (λ q. (q < length ps)
+        × (has_cpc ps q ≡ true)) d.members is.exist)));
     sizes = All-from_recursion (λ (d : CppcDomain). length d.members ≤ 256) (domains_of ps) (each_domain ps (λ (d : CppcDomain). length d.members ≤ 256) (λ p lt l. size p));
     placed = λ p lt has. found (covers p) (domains_of ps) (any_passes p (domains_of ps) (placed ps p lt has));
     only = λ d p lt e. only_place (covers p) (domains_of ps) d no_domain (only_one ps p (domains_of ps) (all_are ps) (in_order ps)) lt e;
     ranged = each (λ (d : CppcDomain). (p : ℕ) → d.unfit ≡ 0 → has_member d.members p ≡ true → is_ranged (parts_in ps p) ≡ true) (λ d is p zero e. is_in_range ps d is zero p e);
     one_range = each (λ (d : CppcDomain). (p q : ℕ) → d.unfit ≡ 0 → has_member d.members p ≡ true → has_member d.members q ≡ true → same_range (parts_in ps p) (parts_in ps q) ≡ true)
         (λ d is p q zero e f. has_range ps d is zero p q e f);
-    registered = each (λ (d : CppcDomain). (p : ℕ) → d.unfit ≡ 0 → has_member d.members p ≡ true → is_some (register_of controls.Desired (parts_in ps p)) ≡ true) (λ d is p zero e. has_register ps d is zero p e);
+    registered = each (λ (d : CppcDomain). (p : ℕ) → d.unfit ≡ 0 → has_member d.members p ≡ true → is_some (register_of controls.Desired (parts_in ps p)) ≡ true)
+        (λ d is p zero e. has_register ps d is zero p e);
   }

@@ -84,8 +84,8 @@ pub record IsDomain (ps : List CppcParts) (d : CppcDomain) : Type 0 where
   pub coord : d.coord ≡ (shown ps (first_of d.members)).coord
   pub unfit : d.unfit ≡ why_unfit ps (first_of d.members) d.members
 
--- The domains of these processors: each processor with `_CPC` is in one, and they stand in the order of their first members, so that none is
--- there twice.
+-- The domains of these processors: each processor with `_CPC` is in one, and they stand in the order of their first members, so
+-- that none is there twice.
 pub record AreDomains (ps : List CppcParts) (ds : List CppcDomain) : Type 0 where
   pub each : All (IsDomain ps) ds
   pub placed : (p : ℕ) → p < length ps → has_cpc ps p ≡ true → Any (λ (d : CppcDomain). has_member d.members p ≡ true) ds

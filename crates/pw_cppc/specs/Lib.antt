@@ -3,3 +3,11 @@ pub mod Domains
 pub mod Sound
 pub mod Planning
 pub mod Requests
+pub mod Machine
+pub mod SpacePlan
+pub mod inner
+pub mod States
+pub mod Answers
+pub mod Operations
+pub mod History
+pub mod Laws

@@ -140,7 +140,8 @@ fn share_range(cpus: &[CppcParts], leader: &CppcParts, members: &[u32]) -> bool
 /// Whether each member has a register for desired performance.
 fn have_registers(cpus: &[CppcParts], members: &[u32]) -> bool
     requires { All (λ p. p < length cpus.now) members.now }
-    ensures { result ≡ list_all (λ p. is_some (register_of controls.Desired (parts_in cpus.now p))) members.now }
+    ensures { result ≡ list_all
+        (λ p. is_some (register_of controls.Desired (parts_in cpus.now p))) members.now }
 {
     for member in members {
         if parts_in(cpus, *member).register(Control::Desired).is_none() {

@@ -3,13 +3,41 @@
 #![tactic(auto)]
 
 mod bounds;
+mod changing;
 mod domains;
+mod entry;
+mod history;
 mod laws;
+mod numbers;
+mod opening;
 mod parts;
 mod plan;
+mod planning;
+mod reading;
+mod refusal;
+mod reply;
 mod request;
+mod setting;
+mod standings;
+mod state;
+mod state_laws;
 
+pub use entry::CppcEntry;
+pub use history::{
+    entries_state_requests, histories_join, histories_stay_numbers, histories_stop_at_faults,
+    legal_histories_grow,
+};
 pub use laws::domains_hold_those_together;
+pub use numbers::CppcNumbers;
+pub use opening::open_all;
 pub use parts::{Control, CppcParts};
 pub use plan::{CppcDomain, CppcPlan};
+pub use planning::cppc_plan;
+pub use reading::cppc_parts;
+pub use reply::CppcReply;
 pub use request::CppcRequest;
+pub use standings::{standing, stands};
+pub use state::CppcState;
+pub use state_laws::{
+    bounds_hold, domains_stand_within_maxima, minima_stay_below_maxima, refusals_change_nothing,
+};

@@ -1,10 +1,10 @@
 -- The steps that a call takes, one list after the other.
 use Rattle.std.proofs.Common.{◌≡◌, ◌+◌, ℕ, zero, suc, [], ◌∷◌, ◌++◌, replicate, sym, refl, ap, ◌∙◌, subst, append_assoc, append-nil, arith}
 use Rattle.pw_cppc.specs.declared.request.CppcRequest.{CppcRequest}
-use Rattle.pw_cppc_state.specs.declared.entry.CppcEntry.{CppcEntry}
-use Rattle.pw_desk.specs.Steps.{Kind}
+use Rattle.pw_cppc.specs.declared.entry.CppcEntry.{CppcEntry}
+use Rattle.pw_books.specs.Steps.{Kind}
 use Rattle.pw_cppc_desk.specs.Trying.{try_of}
-use Rattle.pw_cppc_rule.specs.Tracks.{Keeping, more}
+use Rattle.pw_cppc_desk.specs.Tracks.{Keeping, more}
 use Rattle.pw_cppc_desk.specs.Went.{InTurn, OneMore, WentOnce}
 use Rattle.pw_cppc_desk.specs.declared.serving.CppcDone.{CppcDone}
 use Rattle.pw_cppc_desk.specs.declared.serving.CppcDone.TheVariants.{Answer, Full, RegisterFault, Stopped}

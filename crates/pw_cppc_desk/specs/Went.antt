@@ -1,13 +1,13 @@
 -- The steps of the desk's machine that a seat takes in a call, as its own list of them grows and those of joined seats stay.
 use Rattle.std.specs.Prelude.{◌≡◌, ℕ, ◌+◌, List, [], ◌∷◌, ◌++◌, replicate, Result, Ok, Err}
 use Rattle.pw_cppc.specs.declared.request.CppcRequest.{CppcRequest}
-use Rattle.pw_cppc_state.specs.declared.entry.CppcEntry.{CppcEntry}
-use Rattle.pw_cppc_work.specs.Entries.{entry_as}
-use Rattle.pw_desk.specs.declared.view.View.{View}
-use Rattle.pw_desk.specs.Steps.{Kind, take_turn, find_held, slot_out, slot_back, release_with_entry, release_without_entry}
-use Rattle.pw_desk.specs.Steps.{draw_number, miss_draw, split_seat, join_seats, read_made}
-use Rattle.pw_cppc_rule.specs.declared.track.Track.{Track}
-use Rattle.pw_cppc_rule.specs.Tracks.{Keeping, keeping, more}
+use Rattle.pw_cppc.specs.declared.entry.CppcEntry.{CppcEntry}
+use Rattle.pw_cppc_desk.specs.Entries.{entry_as}
+use Rattle.pw_books.specs.declared.view.View.{View}
+use Rattle.pw_books.specs.Steps.{Kind, take_turn, find_held, slot_out, slot_back, release_with_entry, release_without_entry}
+use Rattle.pw_books.specs.Steps.{draw_number, miss_draw, split_seat, join_seats, read_made}
+use Rattle.pw_cppc_desk.specs.declared.track.Track.{Track}
+use Rattle.pw_cppc_desk.specs.Tracks.{Keeping, keeping, more}
 use Rattle.pw_cppc_desk.specs.declared.desk.CppcSeat.{CppcSeat}
 use Rattle.pw_cppc_desk.specs.declared.requests.CppcTry.{CppcTry}
 use Rattle.pw_cppc_desk.specs.declared.requests.CppcTry.TheVariants as tried

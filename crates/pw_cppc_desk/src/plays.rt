@@ -1,14 +1,13 @@
 ghost use Rattle.std.specs.Prelude.{ℕ, None, Option};
-ghost use Rattle.pw_cppc_state.specs.declared.entry.CppcEntry.{CppcEntry as entry};
-ghost use Rattle.pw_cppc_rule.specs.Tracks.{joined_track, left_track, right_track, spent_track};
-ghost use Rattle.pw_cppc_rule.specs.Slots.{Given};
-ghost use Rattle.pw_cppc_rule.specs.Plays.{claimed_step, drew_step, gone_step};
-ghost use Rattle.pw_cppc_rule.specs.Plays.{opened_step, put_step};
+ghost use Rattle.pw_cppc.specs.declared.entry.CppcEntry.{CppcEntry as entry};
+ghost use Rattle.pw_cppc_desk.specs.Tracks.{joined_track, left_track, right_track, spent_track};
+ghost use Rattle.pw_cppc_desk.specs.Slots.{Given};
+ghost use Rattle.pw_cppc_desk.specs.Plays.{claimed_step, drew_step, gone_step};
+ghost use Rattle.pw_cppc_desk.specs.Plays.{opened_step, put_step};
 ghost use Rattle.pw_cppc_desk.specs.Asked.{led_in, looked_in, no_entry};
 
+use crate::{Track, Work};
 use atomic_table::{Join, Play, Split};
-use pw_cppc_rule::Track;
-use pw_cppc_work::Work;
 use pw_regs::Registers;
 use std::marker::{Brand, PhantomData};
 

@@ -1,14 +1,13 @@
 ghost use Rattle.std.specs.Prelude.{◌≡◌, ◌<◌, length, true};
 ghost use Rattle.pw_cppc.specs.Requests.{Has};
-ghost use Rattle.pw_desk.specs.Steps.{IsIdle};
-ghost use Rattle.pw_cppc_rule.specs.Tracks.{keeping};
+ghost use Rattle.pw_books.specs.Steps.{IsIdle};
+ghost use Rattle.pw_cppc_desk.specs.Tracks.{keeping};
 ghost use Rattle.pw_cppc_desk.specs.Views.{IsAtRest, is_met, view_in};
 ghost use Rattle.pw_cppc_desk.specs.Went.{WentOnce, keeping_in};
 
 use crate::desk::{CppcDesk, CppcSeat, Raw, out};
 use crate::serving::CppcDone;
-use pw_cppc::CppcRequest;
-use pw_cppc_state::CppcReply;
+use pw_cppc::{CppcReply, CppcRequest};
 use pw_regs::Registers;
 
 /// What a request was told that doesn't wait.

@@ -1,16 +1,15 @@
 ghost use Rattle.std.specs.Prelude.{◌≡◌, ◌<◌, Some, length};
 ghost use Rattle.atomic_table.specs.Table.{rest};
 ghost use Rattle.pw_cppc.specs.Requests.{Has};
-ghost use Rattle.pw_cppc_rule.specs.Plays.{IsFound, mine};
-ghost use Rattle.pw_cppc_rule.specs.Rule.{given_of};
-ghost use Rattle.pw_cppc_rule.specs.Tracks.{keeping};
+ghost use Rattle.pw_cppc_desk.specs.Plays.{IsFound, mine};
+ghost use Rattle.pw_cppc_desk.specs.Rule.{given_of};
+ghost use Rattle.pw_cppc_desk.specs.Tracks.{keeping};
 ghost use Rattle.pw_cppc_desk.specs.Steps.{IsOut};
 ghost use Rattle.pw_cppc_desk.specs.Went.{Served};
 
+use crate::Work;
 use crate::desk::{CppcDesk, Raw};
-use pw_cppc::CppcRequest;
-use pw_cppc_state::CppcReply;
-use pw_cppc_work::Work;
+use pw_cppc::{CppcReply, CppcRequest};
 use pw_regs::Registers;
 
 /// What a request was told that waited where it had to.

@@ -1,19 +1,19 @@
 ghost use Rattle.std.specs.Prelude.{◌≡◌, ◌<◌, Some, MatchResult};
 ghost use Rattle.atomic_table.specs.Table.{rest};
-ghost use Rattle.pw_cppc_work.specs.Entries.{entry_as};
-ghost use Rattle.pw_desk.specs.Steps.{IsIdle, entered, find_held, let_go};
-ghost use Rattle.pw_desk.specs.Steps.{release_with_entry, release_without_entry};
-ghost use Rattle.pw_cppc_rule.specs.Plays.{IsFound, IsGrown, Met, mine};
-ghost use Rattle.pw_cppc_rule.specs.Rule.{given_of};
-ghost use Rattle.pw_cppc_rule.specs.Slots.{seat_of};
-ghost use Rattle.pw_cppc_rule.specs.Tracks.{keeping};
+ghost use Rattle.pw_cppc_desk.specs.Entries.{entry_as};
+ghost use Rattle.pw_books.specs.Steps.{IsIdle, entered, find_held, let_go};
+ghost use Rattle.pw_books.specs.Steps.{release_with_entry, release_without_entry};
+ghost use Rattle.pw_cppc_desk.specs.Plays.{IsFound, IsGrown, Met, mine};
+ghost use Rattle.pw_cppc_desk.specs.Rule.{given_of};
+ghost use Rattle.pw_cppc_desk.specs.Slots.{seat_of};
+ghost use Rattle.pw_cppc_desk.specs.Tracks.{keeping};
 ghost use Rattle.pw_cppc_desk.specs.Steps.{IsOut, LedOut};
 ghost use Rattle.pw_cppc_desk.specs.Went.{OneMore, TookTurn};
 
+use crate::Work;
 use crate::desk::{CppcDesk, Raw, SLOT, TURN};
 use crate::plays::{Asked, Leave, Put, Take};
 use pw_cppc::CppcRequest;
-use pw_cppc_work::Work;
 use pw_regs::Registers;
 use std::marker::Brand;
 

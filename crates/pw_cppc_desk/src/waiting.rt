@@ -1,18 +1,18 @@
 //! A request that sleeps while another seat has the turn.
 ghost use Rattle.std.specs.Prelude.{◌≡◌, ◌<◌, length, true};
 ghost use Rattle.pw_cppc.specs.Requests.{Has};
-ghost use Rattle.pw_desk.specs.Steps.{IsIdle};
-ghost use Rattle.pw_cppc_rule.specs.Rule.{given_of};
-ghost use Rattle.pw_cppc_rule.specs.Plays.{mine};
-ghost use Rattle.pw_cppc_rule.specs.Tracks.{keeping};
+ghost use Rattle.pw_books.specs.Steps.{IsIdle};
+ghost use Rattle.pw_cppc_desk.specs.Rule.{given_of};
+ghost use Rattle.pw_cppc_desk.specs.Plays.{mine};
+ghost use Rattle.pw_cppc_desk.specs.Tracks.{keeping};
 ghost use Rattle.pw_cppc_desk.specs.Steps.{LedOn};
 ghost use Rattle.pw_cppc_desk.specs.Views.{is_met, view_in};
 ghost use Rattle.pw_cppc_desk.specs.Went.{TookLater, WentOn, keeping_in};
 
+use crate::Work;
 use crate::desk::{CppcDesk, CppcSeat, Raw, out};
 use crate::serving::CppcDone;
 use pw_cppc::CppcRequest;
-use pw_cppc_work::Work;
 use pw_regs::Registers;
 use std::marker::Brand;
 use std::sync::Wait;

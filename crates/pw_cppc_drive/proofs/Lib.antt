@@ -1,2 +1,11 @@
 pub mod Requesting
 pub mod Lining
+pub mod Making
+pub mod Pathed
+pub mod Printed
+pub mod Refusing
+pub mod WorkersMaking
+pub mod Joining
+pub mod Ending
+pub mod Drawn
+pub mod Serial

@@ -6,16 +6,16 @@ use Rattle.std.proofs.lemmas.List.{map-append, take_more}
 use Rattle.std.proofs.lemmas.List.Sums.{sum_by-take-le, sum_by_push}
 use Rattle.pw_plan.proofs.Lists.{each_append}
 use Rattle.pw_regs.specs.Seen.{RegistersSeen}
-use Rattle.pw_doing.specs.Doing.{Did}
-use Rattle.pw_doing.proofs.Operating.{did_as, did_more, did_nothing, did_within}
+use Rattle.pw_regs.specs.Doing.{Did}
+use Rattle.pw_regs.proofs.Operating.{did_as, did_more, did_nothing, did_within}
 use Rattle.pw_cppc.specs.declared.plan.CppcPlan.{CppcPlan}
 use Rattle.pw_cppc.specs.Requests.{ops_bound}
-use Rattle.pw_cppc_state.specs.declared.entry.CppcEntry.{CppcEntry}
-use Rattle.pw_cppc_state.specs.History.{Faultless, Legal, entry_ops, fault_at, history_ops, replay, requests}
-use Rattle.pw_cppc_state.proofs.Joining.{faultless_none, legal-empty, requests-append}
-use Rattle.pw_cppc_script.specs.declared.script.CppcLine.{CppcLine as line}
-use Rattle.pw_cppc_script.specs.Reading.{requests_of}
-use Rattle.pw_cppc_work.proofs.Entering.{ops_more}
+use Rattle.pw_cppc.specs.declared.entry.CppcEntry.{CppcEntry}
+use Rattle.pw_cppc.specs.History.{Faultless, Legal, entry_ops, fault_at, history_ops, replay, requests}
+use Rattle.pw_cppc.proofs.Joining.{faultless_none, legal-empty, requests-append}
+use Rattle.pw_cppc_drive.specs.declared.script.CppcLine.{CppcLine as line}
+use Rattle.pw_cppc_drive.specs.Reading.{requests_of}
+use Rattle.pw_cppc_desk.proofs.Entering.{ops_more}
 use Rattle.pw_cppc_drive.specs.inner.Running.{Ran, Turned, lines_bound}
 
 -- The requests of these lines were made, and no register failed.

@@ -5,20 +5,20 @@ use Rattle.std.specs.Result.{result_err}
 use Rattle.acpi_values.specs.declared.operation.Op.{Op}
 use Rattle.pw_base.specs.Outside.{Rose}
 use Rattle.pw_regs.specs.Seen.{RegistersSeen}
-use Rattle.pw_doing.specs.Doing.{Did}
-use Rattle.pw_doing.proofs.Operating.{did_as, did_more, did_within}
+use Rattle.pw_regs.specs.Doing.{Did}
+use Rattle.pw_regs.proofs.Operating.{did_as, did_more, did_within}
 use Rattle.pw_cppc.specs.declared.plan.CppcPlan.{CppcPlan}
 use Rattle.pw_cppc.specs.declared.request.CppcRequest.{CppcRequest}
 use Rattle.pw_cppc.specs.Requests.{opening_bound, ops_bound}
-use Rattle.pw_cppc_state.specs.declared.entry.CppcEntry.{CppcEntry}
-use Rattle.pw_cppc_state.specs.declared.reply.CppcReply.{CppcReply}
-use Rattle.pw_cppc_state.specs.History.{Faultless, Legal, entry_ops, fault_at, history_ops, replay, run_ops, stopped_at}
-use Rattle.pw_cppc_state.specs.Operations.{opening_ops, ops_of}
-use Rattle.pw_cppc_state.proofs.Joining.{faultless_none, request_of-entry}
-use Rattle.pw_cppc_work.specs.Entries.{done_of, entry_as}
-use Rattle.pw_cppc_work.proofs.Entering.{fault_of_stopped, faultless_done, ops_done, ops_stopped, seat_of-entry}
-use Rattle.pw_cppc_script.specs.declared.script.CppcLine.{CppcLine as line}
-use Rattle.pw_cppc_script.specs.Reading.{operations}
+use Rattle.pw_cppc.specs.declared.entry.CppcEntry.{CppcEntry}
+use Rattle.pw_cppc.specs.declared.reply.CppcReply.{CppcReply}
+use Rattle.pw_cppc.specs.History.{Faultless, Legal, entry_ops, fault_at, history_ops, replay, run_ops, stopped_at}
+use Rattle.pw_cppc.specs.Operations.{opening_ops, ops_of}
+use Rattle.pw_cppc.proofs.Joining.{faultless_none, request_of-entry}
+use Rattle.pw_cppc_desk.specs.Entries.{done_of, entry_as}
+use Rattle.pw_cppc_desk.proofs.Entering.{fault_of_stopped, faultless_done, ops_done, ops_stopped, seat_of-entry}
+use Rattle.pw_cppc_drive.specs.declared.script.CppcLine.{CppcLine as line}
+use Rattle.pw_cppc_drive.specs.Reading.{operations}
 use Rattle.pw_cppc_drive.specs.inner.Running.{Ran, Turned}
 use Rattle.pw_cppc_drive.specs.Driven.{OperatesFor}
 

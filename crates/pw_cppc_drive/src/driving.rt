@@ -2,19 +2,18 @@ ghost use Rattle.std.specs.Prelude.{◌≡◌, ◌≤◌, [], length, IfErr, IfO
 ghost use Rattle.std.specs.List.{AllByRecursion};
 ghost use Rattle.pw_regs.specs.Seen.{registers_seen};
 ghost use Rattle.pw_cppc.specs.Requests.{Has};
-ghost use Rattle.pw_cppc_state.specs.declared.entry.CppcEntry.{CppcEntry as entry};
-ghost use Rattle.pw_cppc_state.specs.History.{LawfulSerial};
-ghost use Rattle.pw_cppc_script.specs.declared.script.CppcLine.{CppcLine as line};
-ghost use Rattle.pw_cppc_script.specs.Reading.{operations, requests_of};
-ghost use Rattle.pw_cppc_work.specs.Worked.{IsWorkOf};
+ghost use Rattle.pw_cppc.specs.declared.entry.CppcEntry.{CppcEntry as entry};
+ghost use Rattle.pw_cppc.specs.History.{LawfulSerial};
+ghost use Rattle.pw_cppc_drive.specs.declared.script.CppcLine.{CppcLine as line};
+ghost use Rattle.pw_cppc_drive.specs.Reading.{operations, requests_of};
+ghost use Rattle.pw_cppc_desk.specs.Worked.{IsWorkOf};
 ghost use Rattle.pw_cppc_drive.specs.Driven.{OperatesFor};
 
 use crate::running::make_all;
+use crate::{CppcLine, CppcScript};
 use pw_base::List;
-use pw_cppc::CppcPlan;
-use pw_cppc_script::{CppcLine, CppcScript};
-use pw_cppc_state::CppcEntry;
-use pw_cppc_work::Work;
+use pw_cppc::{CppcEntry, CppcPlan};
+use pw_cppc_desk::Work;
 use pw_regs::Registers;
 use std::alloc::Global;
 

@@ -2,6 +2,24 @@
 #![tactic(auto)]
 
 mod driving;
+mod gathering;
+mod index;
+mod laws;
+mod line;
+mod lists;
+mod named;
+mod parsing;
+mod printing;
 mod running;
+mod script;
+mod seating;
+mod words;
+mod workers;
+mod working;
 
 pub use driving::{CppcDriven, cppc_serial};
+pub use laws::serial_is_lawful;
+pub use parsing::cppc_parse;
+pub use printing::cppc_print;
+pub use script::{CppcLine, CppcScript};
+pub use workers::cppc_drive;

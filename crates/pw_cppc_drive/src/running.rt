@@ -2,13 +2,13 @@ ghost use Rattle.std.specs.Prelude.{◌≡◌, ◌≤◌, [], length};
 ghost use Rattle.std.specs.List.{AllByRecursion};
 ghost use Rattle.pw_regs.specs.Seen.{registers_seen};
 ghost use Rattle.pw_cppc.specs.Requests.{Has};
-ghost use Rattle.pw_cppc_script.specs.declared.script.CppcLine.{CppcLine as line};
-ghost use Rattle.pw_cppc_work.specs.Worked.{IsWorkOf};
+ghost use Rattle.pw_cppc_drive.specs.declared.script.CppcLine.{CppcLine as line};
+ghost use Rattle.pw_cppc_desk.specs.Worked.{IsWorkOf};
 ghost use Rattle.pw_cppc_drive.specs.inner.Running.{Ran};
 
+use crate::CppcLine;
 use pw_cppc::CppcPlan;
-use pw_cppc_script::CppcLine;
-use pw_cppc_work::Work;
+use pw_cppc_desk::Work;
 use pw_regs::Registers;
 
 /// Makes the requests of the lines in their order, up to the first fault.

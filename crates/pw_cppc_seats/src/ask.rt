@@ -10,7 +10,7 @@ use std::sync::Wait;
 
 /// The request of a line: `desired CPU VALUE`, `minimum CPU VALUE` or `maximum CPU VALUE` behind its first
 /// two words.
-pub fn request_of(line: &str) -> Option<CppcRequest> {
+pub(crate) fn request_of(line: &str) -> Option<CppcRequest> {
     let (cpu, value) = (u32_at(line, 3)?, u32_at(line, 4)?);
     match word_at(line, 2)? {
         "desired" => Some(CppcRequest::Desired { cpu, value }),
@@ -30,7 +30,7 @@ fn try_of(done: CppcDone) -> CppcTry {
 }
 
 /// Makes a request, which waits or gives up; None where there is no such processor.
-pub fn ask<W: Wait>(
+pub(crate) fn ask<W: Wait>(
     rt: &W,
     desk: &Desk,
     seat: &mut CppcSeat,
@@ -51,7 +51,7 @@ pub fn ask<W: Wait>(
 }
 
 /// Splits a part off and joins it back, so often. It ends earlier where no seat is made, and tells why.
-pub fn rounds(
+pub(crate) fn rounds(
     text: &mut String,
     desk: &Desk,
     mut seat: CppcSeat,

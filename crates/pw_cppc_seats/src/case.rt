@@ -135,7 +135,7 @@ fn opened<R: Threads + Wait + Sync>(
 }
 
 /// What the calls of a case tell.
-pub fn told<R: Threads + Wait + Sync>(rt: &R, alloc: Global, lines: &str) -> Option<String> {
+pub(crate) fn told<R: Threads + Wait + Sync>(rt: &R, alloc: Global, lines: &str) -> Option<String> {
     let (machine, calls) = lines.split_once("\nopen ")?;
     let plan = plan_of(alloc, machine)?;
     let mut text = String::new(alloc);

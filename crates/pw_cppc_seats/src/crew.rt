@@ -11,7 +11,7 @@ use std::sync::Wait;
 use std::thread::{Threads, join};
 
 /// What a processor asks for in this round, of performances from 10 to 100.
-pub fn request_at(cpu: u32, round: usize) -> CppcRequest {
+pub(crate) fn request_at(cpu: u32, round: usize) -> CppcRequest {
     let step = 10 * (round % 5) as u32;
     match round % 3 {
         0 => CppcRequest::Desired {
@@ -53,7 +53,7 @@ fn ask_alone<W: Wait>(
 
 /// Makes the requests of so many rounds for each of these processors, each in a thread of its own and by
 /// a seat of its own, joins the seats, and tells how many were answered.
-pub fn ask_in_threads<R: Threads + Wait + Sync>(
+pub(crate) fn ask_in_threads<R: Threads + Wait + Sync>(
     rt: &R,
     desk: &Desk,
     mut seat: CppcSeat,

@@ -63,7 +63,7 @@ fn parts_of(alloc: Global, line: &str) -> Option<CppcParts> {
 }
 
 /// The plan of the processors that lines give, each without a name.
-pub fn plan_of(alloc: Global, lines: &str) -> Option<CppcPlan> {
+pub(crate) fn plan_of(alloc: Global, lines: &str) -> Option<CppcPlan> {
     let mut paths = Vec::new(alloc);
     let mut cpus = Vec::new(alloc);
     for line in lines.lines() {

@@ -101,7 +101,7 @@ fn join(text: &mut String, desk: &Desk, seats: &mut Vec<CppcSeat>, line: &str) -
 }
 
 /// Makes the call of a line, and tells what it is told.
-pub fn play<R: Threads + Wait + Sync>(
+pub(crate) fn play<R: Threads + Wait + Sync>(
     rt: &R,
     text: &mut String,
     desk: &Desk,

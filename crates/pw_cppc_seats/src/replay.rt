@@ -1,11 +1,10 @@
-ghost use Rattle.pw_cppc_state.specs.States.{AreNumbers};
+ghost use Rattle.pw_cppc.specs.States.{AreNumbers};
 
 use crate::crew::request_at;
 use acpi_values::Op;
-use pw_cppc::CppcPlan;
-use pw_cppc_state::{CppcEntry, CppcState, open_all};
+use pw_cppc::{CppcEntry, CppcPlan, CppcState, open_all};
 use pw_machines::put_ops;
-use pw_ops::Ops;
+use pw_regs::Ops;
 use std::alloc::Global;
 
 /// As many operations as the start or a request of these machines has at most.
@@ -55,7 +54,12 @@ fn operations_of(alloc: Global, plan: &CppcPlan, entries: &[CppcEntry]) -> Optio
 }
 
 /// Whether these operations are those of one caller alone who makes the requests of the entries.
-pub fn are_of(alloc: Global, ops: &[Op], plan: &CppcPlan, entries: &[CppcEntry]) -> Option<bool> {
+pub(crate) fn are_of(
+    alloc: Global,
+    ops: &[Op],
+    plan: &CppcPlan,
+    entries: &[CppcEntry],
+) -> Option<bool> {
     let again = operations_of(alloc, plan, entries)?;
     let mut text = String::new(alloc);
     put_ops(&mut text, ops)?;
@@ -66,7 +70,7 @@ pub fn are_of(alloc: Global, ops: &[Op], plan: &CppcPlan, entries: &[CppcEntry])
 
 /// Whether each seat asked for a processor of its own, and its entries are the requests of that one's
 /// rounds, in order.
-pub fn are_in_order(entries: &[CppcEntry]) -> bool {
+pub(crate) fn are_in_order(entries: &[CppcEntry]) -> bool {
     for place in 0..entries.len() {
         let entry = entries[place];
         let earlier = &entries[..place];

@@ -9,7 +9,7 @@ use pw_regs::FailingRegisters;
 pub type Desk = CppcDesk<FailingRegisters>;
 
 /// Takes out the seat with this number, if it is among these.
-pub fn taken(_desk: &Desk, seats: &mut Vec<CppcSeat>, number: u32) -> Option<CppcSeat>
+pub(crate) fn taken(_desk: &Desk, seats: &mut Vec<CppcSeat>, number: u32) -> Option<CppcSeat>
     requires all { All (Owns _desk.now.table.shared.table_id) seats.old.items }
     ensures all { All (Owns _desk.now.table.shared.table_id) seats.new.items }
     ensures seat { IfSome result (Owns _desk.now.table.shared.table_id) }
@@ -24,7 +24,7 @@ pub fn taken(_desk: &Desk, seats: &mut Vec<CppcSeat>, number: u32) -> Option<Cpp
 }
 
 /// Puts a seat among the others.
-pub fn put(_desk: &Desk, seats: &mut Vec<CppcSeat>, seat: CppcSeat)
+pub(crate) fn put(_desk: &Desk, seats: &mut Vec<CppcSeat>, seat: CppcSeat)
     requires all { All (Owns _desk.now.table.shared.table_id) seats.old.items }
     requires seat { Owns _desk.now.table.shared.table_id seat }
     requires room { vec_len seats.old < vec_capacity seats.old }
@@ -37,7 +37,7 @@ pub fn put(_desk: &Desk, seats: &mut Vec<CppcSeat>, seat: CppcSeat)
 }
 
 /// All seats joined into one.
-pub fn gathered(desk: &Desk, mut seats: Vec<CppcSeat>) -> CppcSeat
+pub(crate) fn gathered(desk: &Desk, mut seats: Vec<CppcSeat>) -> CppcSeat
     requires { AreSeats desk.now.table.shared.table_id seats.items 65536 }
     ensures owns { Owns desk.now.table.shared.table_id result }
     ensures alone { parts_of result ≡ 65536 }

@@ -1,5 +1,5 @@
+use pw_cppc::{CppcEntry, CppcReply};
 use pw_cppc_desk::{CppcSeat, CppcTry};
-use pw_cppc_state::{CppcEntry, CppcReply};
 
 /// A reply: `stands 40`, or `refused` and why.
 fn put_reply(text: &mut String, reply: &CppcReply) -> Option<()> {
@@ -15,7 +15,7 @@ fn put_reply(text: &mut String, reply: &CppcReply) -> Option<()> {
 }
 
 /// What a request was told.
-pub fn put_told(text: &mut String, told: &CppcTry) -> Option<()> {
+pub(crate) fn put_told(text: &mut String, told: &CppcTry) -> Option<()> {
     match told {
         CppcTry::Answer(reply) => put_reply(text, reply),
         CppcTry::Busy { holder } => write!(text, "busy seat {holder}").ok(),
@@ -26,13 +26,13 @@ pub fn put_told(text: &mut String, told: &CppcTry) -> Option<()> {
 }
 
 /// A seat's number and parts.
-pub fn put_seat(text: &mut String, seat: &CppcSeat) -> Option<()> {
+pub(crate) fn put_seat(text: &mut String, seat: &CppcSeat) -> Option<()> {
     let (number, parts) = (seat.number(), seat.parts());
     write!(text, "seat {number} has {parts}").ok()
 }
 
 /// An entry: the seat, the request, and where a register failed.
-pub fn put_entry(text: &mut String, entry: &CppcEntry) -> Option<()> {
+pub(crate) fn put_entry(text: &mut String, entry: &CppcEntry) -> Option<()> {
     let CppcEntry {
         seat,
         cpu,

@@ -13,9 +13,9 @@ use Rattle.pw_base.specs.Room.{Bounded}
 use Rattle.pw_model.specs.Operations.{own_entry}
 use Rattle.pw_model.proofs.Bounds.{own_entry-le}
 use Rattle.pw_model.proofs.Greatest.{greatest-le}
-use Rattle.pw_parts.specs.Effects.{c_state_by, drawn_by, enters_by, member_place, state_by}
-use Rattle.pw_parts.specs.Holding.{HoldsStates, member_in}
-use Rattle.pw_parts.proofs.Calls.{calls_serve}
+use Rattle.pw_model.specs.Effects.{c_state_by, drawn_by, enters_by, member_place, state_by}
+use Rattle.pw_model.specs.Holding.{HoldsStates, member_in}
+use Rattle.pw_model.proofs.Calls.{calls_serve}
 
 -- a member's C state is one of its table
 pub c_state_le : (P : Plan) (g : ℕ) (ss : List ℕ) (i : ℕ) → HoldsStates P g ss → i < length (group_at P g).members

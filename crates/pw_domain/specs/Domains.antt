@@ -3,8 +3,8 @@ use Rattle.std.specs.Prelude.{◌≡◌, ◌<◌, length, false}
 use Rattle.pw_plan.specs.declared.plan.Plan.{Plan}
 use Rattle.pw_plan.specs.Groups.{is_idle}
 use Rattle.pw_plan.specs.Places.{domain_at}
-use Rattle.pw_parts.specs.Records.{Part, levels}
-use Rattle.pw_parts.specs.Holding.{HoldsLevels}
+use Rattle.pw_model.specs.Records.{Part, levels}
+use Rattle.pw_model.specs.Holding.{HoldsLevels}
 use Rattle.pw_domain.specs.declared.domain.DomainRec.{DomainRec}
 
 -- the part of a state that it holds

@@ -1,8 +1,8 @@
 -- The record of a group: what it holds, and of which plan it is.
 use Rattle.std.specs.Prelude.{◌<◌, length}
 use Rattle.pw_plan.specs.declared.plan.Plan.{Plan}
-use Rattle.pw_parts.specs.Records.{Part, states}
-use Rattle.pw_parts.specs.Holding.{HoldsStates}
+use Rattle.pw_model.specs.Records.{Part, states}
+use Rattle.pw_model.specs.Holding.{HoldsStates}
 use Rattle.pw_domain.specs.declared.group.GroupRec.{GroupRec}
 
 -- the part of a state that it holds

@@ -4,22 +4,22 @@ ghost use Rattle.pw_plan.specs.Groups.{is_idle};
 ghost use Rattle.pw_plan.specs.Parts.{scale_of};
 ghost use Rattle.pw_plan.specs.Places.{cpu_at, domain_at};
 ghost use Rattle.pw_plan.specs.Requests.{set_by};
-ghost use Rattle.pw_ops.specs.Rooms.{HasRoom};
+ghost use Rattle.pw_regs.specs.Rooms.{HasRoom};
 ghost use Rattle.pw_model.specs.States.{IsIndex, opening_limit};
 ghost use Rattle.pw_model.specs.Domains.{stands_at};
-ghost use Rattle.pw_parts.specs.Calls.{level_ops, level_standing, opening_part};
-ghost use Rattle.pw_parts.specs.Calls.{own_ask, own_limit};
-ghost use Rattle.pw_parts.specs.Effects.{standing_by, with_ask, with_limit};
-ghost use Rattle.pw_parts.specs.Holding.{member_in};
-ghost use Rattle.pw_parts.specs.Records.{domain as scaled};
+ghost use Rattle.pw_model.specs.Calls.{level_ops, level_standing, opening_part};
+ghost use Rattle.pw_model.specs.Calls.{own_ask, own_limit};
+ghost use Rattle.pw_model.specs.Effects.{standing_by, with_ask, with_limit};
+ghost use Rattle.pw_model.specs.Holding.{member_in};
+ghost use Rattle.pw_model.specs.Records.{domain as scaled};
 ghost use Rattle.pw_domain.specs.Domains.{IsDomainOf, domain_part};
 
 use crate::setting::set_at;
 use acpi_values::Coord;
 use pw_base::{List, Memory};
 use pw_core::opening_limit;
-use pw_ops::Ops;
 use pw_plan::{DomainKind, Plan};
+use pw_regs::Ops;
 use std::alloc::Global;
 
 /// Where members with these asks and limits stand together.
@@ -58,7 +58,8 @@ fn opening_limits(
     members: &[u32],
 ) -> Result<List<u8>, Memory>
     requires { All (λ p. p < length plan.now.cpus) members.now }
-    ensures { IfOk result (λ limits. limits ≡ map (λ p. opening_limit (scale_of kind (cpu_at plan.now p))) members.now) }
+    ensures { IfOk result
+        (λ limits. limits ≡ map (λ p. opening_limit (scale_of kind (cpu_at plan.now p))) members.now) }
 {
     let mut limits = Vec::new(alloc);
     for member in members {
@@ -101,7 +102,8 @@ impl DomainRec {
     pub fn standing(&self, member: u32) -> u8
         requires asked { member < length self.now.asks }
         requires limited { member < length self.now.limits }
-        ensures { (P : Plan) → IsDomainOf P self.now → result ≡ level_standing P self.now.domain (domain_part self.now) member }
+        ensures { (P : Plan) → IsDomainOf P self.now
+            → result ≡ level_standing P self.now.domain (domain_part self.now) member }
     {
         standing_by(
             self.coord,
@@ -174,13 +176,15 @@ impl DomainRec {
         requires index { IsIndex (scale_of (domain_at plan.now self.old.domain).kind
             (cpu_at plan.now (member_in (domain_at plan.now self.old.domain).members member))) index }
         requires room { HasRoom ops.old
-            (set_by (domain_at plan.now self.old.domain).coord (length (domain_at plan.now self.old.domain).members)) }
+            (set_by (domain_at plan.now self.old.domain).coord
+            (length (domain_at plan.now self.old.domain).members)) }
         ensures of { IsDomainOf plan.now self.new }
         ensures domain { self.new.domain ≡ self.old.domain }
         ensures part { domain_part self.new ≡ with_ask member index (domain_part self.old) }
         ensures standing { result ≡ level_standing plan.now self.new.domain (domain_part self.new) member }
         ensures list { ops.new ≡ record ops.old {
-          elements = ops.old.elements ++ level_ops plan.now self.old.domain member (domain_part self.old) (domain_part self.new);
+          elements = ops.old.elements ++ level_ops plan.now self.old.domain member (domain_part self.old)
+              (domain_part self.new);
         } }
     {
         let before = standing_by(
@@ -203,13 +207,15 @@ impl DomainRec {
         requires limit { IsIndex (scale_of (domain_at plan.now self.old.domain).kind
             (cpu_at plan.now (member_in (domain_at plan.now self.old.domain).members member))) limit }
         requires room { HasRoom ops.old
-            (set_by (domain_at plan.now self.old.domain).coord (length (domain_at plan.now self.old.domain).members)) }
+            (set_by (domain_at plan.now self.old.domain).coord
+            (length (domain_at plan.now self.old.domain).members)) }
         ensures of { IsDomainOf plan.now self.new }
         ensures domain { self.new.domain ≡ self.old.domain }
         ensures part { domain_part self.new ≡ with_limit member limit (domain_part self.old) }
         ensures standing { result ≡ level_standing plan.now self.new.domain (domain_part self.new) member }
         ensures list { ops.new ≡ record ops.old {
-          elements = ops.old.elements ++ level_ops plan.now self.old.domain member (domain_part self.old) (domain_part self.new);
+          elements = ops.old.elements ++ level_ops plan.now self.old.domain member (domain_part self.old)
+              (domain_part self.new);
         } }
     {
         let before = standing_by(

@@ -6,20 +6,20 @@ ghost use Rattle.pw_plan.specs.Covering.{covers};
 ghost use Rattle.pw_plan.specs.Places.{cpu_at, group_at};
 ghost use Rattle.pw_model.specs.Operations.{own_entry};
 ghost use Rattle.pw_model.specs.Domains.{governs, is_sw_all};
-ghost use Rattle.pw_parts.specs.Calls.{group_c_state, group_ops, opening_part, own_vote};
-ghost use Rattle.pw_parts.specs.Calls.{with_state};
-ghost use Rattle.pw_parts.specs.Effects.{c_state_by, drawn_by, drawn_ops, enter_c, enters_by};
-ghost use Rattle.pw_parts.specs.Effects.{gathered_by, member_place, state_by};
-ghost use Rattle.pw_parts.specs.Holding.{HoldsStates, member_in};
-ghost use Rattle.pw_parts.specs.Records.{group as joined};
-ghost use Rattle.pw_ops.specs.Rooms.{HasRoom};
+ghost use Rattle.pw_model.specs.Calls.{group_c_state, group_ops, opening_part, own_vote};
+ghost use Rattle.pw_model.specs.Calls.{with_state};
+ghost use Rattle.pw_model.specs.Effects.{c_state_by, drawn_by, drawn_ops, enter_c, enters_by};
+ghost use Rattle.pw_model.specs.Effects.{gathered_by, member_place, state_by};
+ghost use Rattle.pw_model.specs.Holding.{HoldsStates, member_in};
+ghost use Rattle.pw_model.specs.Records.{group as joined};
+ghost use Rattle.pw_regs.specs.Rooms.{HasRoom};
 ghost use Rattle.pw_domain.specs.Groups.{IsGroupOf, group_part};
 
 use crate::setting::enter_c;
 use acpi_values::{Coord, IdleKind, Op};
 use pw_base::{List, Memory};
-use pw_ops::Ops;
 use pw_plan::{Domain, Plan};
+use pw_regs::Ops;
 use std::alloc::Global;
 
 /// The place of a processor among these, or how many there are.
@@ -128,7 +128,8 @@ fn is_set_on_all(plan: &Plan, cpu: u32, level: u8) -> bool
     false
 }
 
-/// Whether the vote at this place raises the C state of another processor to one that a SW_ALL domain of it is about.
+/// Whether the vote at this place raises the C state of another processor to one that a SW_ALL domain of
+/// it is about.
 fn joins(
     plan: &Plan,
     members: &[u32],
@@ -139,7 +140,9 @@ fn joins(
     other: u32,
 ) -> bool
     requires { place < length states.now }
-    ensures { result ≡ (not (other == cpu) && drawn_by plan.now members.now states.now (slice_set states.now place own) other) }
+    ensures { result
+        ≡ (not (other == cpu) && drawn_by plan.now members.now states.now (slice_set states.now place own)
+        other) }
 {
     if other == cpu {
         return false;
@@ -180,11 +183,13 @@ fn draw_along(
     requires place { place < length states.now }
     requires after { HoldsStates plan.now group (slice_set states.now place own) }
     requires room { HasRoom ops.old (length (filter
-        (λ q. not (q == cpu) && drawn_by plan.now (group_at plan.now group).members states.now (slice_set states.now place own) q)
+        (λ q. not (q == cpu) && drawn_by plan.now (group_at plan.now group).members states.now
+        (slice_set states.now place own) q)
         (group_at plan.now group).members)) }
     ensures { ops.new ≡ record ops.old {
       elements = ops.old.elements
-          ++ drawn_ops plan.now (group_at plan.now group).members states.now (slice_set states.now place own) cpu;
+          ++ drawn_ops plan.now (group_at plan.now group).members states.now (slice_set states.now place own)
+          cpu;
     } }
 {
     let members = plan.group(group as usize).members.as_slice();
@@ -250,7 +255,8 @@ impl GroupRec {
     pub fn vote(&mut self, plan: &Plan, member: u32, state: u8) -> u8
         requires of { IsGroupOf plan.now self.old }
         requires place { member < length (group_at plan.now self.old.group).members }
-        requires state { state ≤ length (rows_of (cpu_at plan.now (member_in (group_at plan.now self.old.group).members member)).idle) }
+        requires state { state ≤ length
+            (rows_of (cpu_at plan.now (member_in (group_at plan.now self.old.group).members member)).idle) }
         ensures of { IsGroupOf plan.now self.new }
         ensures group { self.new.group ≡ self.old.group }
         ensures part { group_part self.new ≡ with_state member state (group_part self.old) }
@@ -264,14 +270,16 @@ impl GroupRec {
     pub fn vote_ops(&mut self, plan: &Plan, member: u32, state: u8, ops: &mut Ops) -> u8
         requires of { IsGroupOf plan.now self.old }
         requires place { member < length (group_at plan.now self.old.group).members }
-        requires state { state ≤ length (rows_of (cpu_at plan.now (member_in (group_at plan.now self.old.group).members member)).idle) }
+        requires state { state ≤ length
+            (rows_of (cpu_at plan.now (member_in (group_at plan.now self.old.group).members member)).idle) }
         requires room { HasRoom ops.old (length (group_at plan.now self.old.group).members) }
         ensures of { IsGroupOf plan.now self.new }
         ensures group { self.new.group ≡ self.old.group }
         ensures part { group_part self.new ≡ with_state member state (group_part self.old) }
         ensures c_state { result ≡ group_c_state plan.now self.new.group (group_part self.new) member }
         ensures list { ops.new ≡ record ops.old {
-          elements = ops.old.elements ++ group_ops plan.now self.old.group member (group_part self.old) (group_part self.new);
+          elements = ops.old.elements ++ group_ops plan.now self.old.group member (group_part self.old)
+              (group_part self.new);
         } }
     {
         let members = plan.group(self.group as usize).members.as_slice();

@@ -5,13 +5,13 @@ ghost use Rattle.pw_plan.specs.Places.{cpu_at, domain_at};
 ghost use Rattle.pw_plan.specs.Requests.{set_by};
 ghost use Rattle.pw_model.specs.Answers.{chain_of};
 ghost use Rattle.pw_model.specs.Operations.{set_at, set_on};
-ghost use Rattle.pw_parts.specs.Effects.{enter_c};
-ghost use Rattle.pw_ops.specs.Rooms.{HasRoom};
+ghost use Rattle.pw_model.specs.Effects.{enter_c};
+ghost use Rattle.pw_regs.specs.Rooms.{HasRoom};
 
 use acpi_values::{Chain, Composite, Coord, Op};
 use pw_core::{own_register, row, set_each, set_on};
-use pw_ops::Ops;
 use pw_plan::Plan;
+use pw_regs::Ops;
 
 /// Sets the new state of a domain, which this member asked for.
 pub fn set_at(plan: &Plan, place: u32, member: u32, state: u8, ops: &mut Ops)
@@ -21,7 +21,8 @@ pub fn set_at(plan: &Plan, place: u32, member: u32, state: u8, ops: &mut Ops)
         (set_by (domain_at plan.now place).coord (length (domain_at plan.now place).members)) }
     ensures { ops.new ≡ record ops.old {
       elements = ops.old.elements ++ map (set_on plan.now (domain_at plan.now place).kind state)
-          (set_at (domain_at plan.now place).coord (domain_at plan.now place).members (slice_index_or (domain_at plan.now place).members member 0));
+          (set_at (domain_at plan.now place).coord (domain_at plan.now place).members
+          (slice_index_or (domain_at plan.now place).members member 0));
     } }
 {
     let domain = plan.domain(place as usize);

@@ -12,8 +12,8 @@ use Rattle.pw_model.specs.Answers.{chain_of}
 use Rattle.pw_model.specs.Containers.{ancestors, node_vote}
 use Rattle.pw_core.specs.Chains.{AreStates, AreStatesOf, IsChain, states_in}
 use Rattle.pw_core.proofs.Climbing.{is_chain, states_in-chain_of}
-use Rattle.pw_parts.specs.Effects.{Rung, both_run, climb, rungs, states_up, votes_in, votes_with}
-use Rattle.pw_parts.specs.Records.{Part, Record, container}
+use Rattle.pw_model.specs.Effects.{Rung, both_run, climb, rungs, states_up, votes_in, votes_with}
+use Rattle.pw_model.specs.Records.{Part, Record, container}
 use Rattle.pw_idle.proofs.Nodes.{vote_fits}
 
 module _ (P : Plan) where
@@ -25,7 +25,8 @@ module _ (P : Plan) where
   up_fit F c v (n ∷ ns) =
       let old = votes_in (F (container n)) in
       let new = votes_with P n c v old in
-      step (node_vote P n new).state (both_run (node_vote P n old) (node_vote P n new)) (climb P F (Container n) (node_vote P n new) ns) (vote_fits P n new) (up_fit F (Container n) (node_vote P n new) ns)
+      step (node_vote P n new).state (both_run (node_vote P n old) (node_vote P n new)) (climb P F (Container n) (node_vote P n new) ns) (vote_fits P n new)
+      (up_fit F (Container n) (node_vote P n new) ns)
     where
       rest : (b : Bool) (ts : List Rung) → AreStates P ns (states_up P ts) → AreStates P ns (states_up P (cond b [] ts))
       rest true ts a = tt

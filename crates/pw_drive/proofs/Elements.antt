@@ -17,13 +17,13 @@ use Rattle.pw_plan.specs.Places.{IsChildPlace, children_at, cpu_at, domain_at, d
 use Rattle.pw_plan.specs.Requests.{Has}
 use Rattle.pw_model.specs.declared.state.Vote.{Vote}
 use Rattle.pw_model.specs.States.{running}
-use Rattle.pw_parts.specs.Calls.{child_state, child_tolerance, own_ask, own_limit}
-use Rattle.pw_parts.specs.Effects.{child_place, member_place, votes_in}
-use Rattle.pw_parts.specs.Holding.{HoldsLevels, HoldsStates, HoldsVotes}
-use Rattle.pw_parts.specs.Records.{domain, scaled_count}
-use Rattle.pw_parts.proofs.Calls.{calls_serve}
-use Rattle.pw_parts.proofs.Gathered.{group_member}
-use Rattle.pw_parts.proofs.Plans.{wired}
+use Rattle.pw_model.specs.Calls.{child_state, child_tolerance, own_ask, own_limit}
+use Rattle.pw_model.specs.Effects.{child_place, member_place, votes_in}
+use Rattle.pw_model.specs.Holding.{HoldsLevels, HoldsStates, HoldsVotes}
+use Rattle.pw_model.specs.Records.{domain, scaled_count}
+use Rattle.pw_model.proofs.Calls.{calls_serve}
+use Rattle.pw_model.proofs.Gathered.{group_member}
+use Rattle.pw_model.proofs.Plans.{wired}
 use Rattle.pw_domain.specs.declared.domain.DomainRec.{DomainRec}
 use Rattle.pw_domain.specs.Domains.{domain_part}
 use Rattle.pw_idle.specs.declared.node.NodeRec.{NodeRec}

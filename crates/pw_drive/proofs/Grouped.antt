@@ -15,15 +15,15 @@ use Rattle.pw_model.specs.declared.reply.Reply.{Reply}
 use Rattle.pw_model.specs.declared.reply.Reply.TheVariants.{Entered}
 use Rattle.pw_model.specs.declared.state.Vote.{Vote}
 use Rattle.pw_model.specs.Answers.{chain_of}
-use Rattle.pw_parts.specs.Calls.{group_c_state, group_ops, with_state}
-use Rattle.pw_parts.specs.Effects.{Effect, Taken, c_state_by, c_state_with, group_takes}
-use Rattle.pw_parts.specs.Effects.{idle_effect, member_place, ops_after, rung_taken, rungs, states_after, states_in, states_with, takes_by, vote_takes}
-use Rattle.pw_parts.specs.Holding.{member_in}
-use Rattle.pw_parts.specs.Locality.{put}
-use Rattle.pw_parts.specs.Records.{Part, Record, container, domain, group}
-use Rattle.pw_parts.proofs.Calls.{calls_serve}
-use Rattle.pw_parts.proofs.Gathered.{group_member}
-use Rattle.pw_parts.proofs.Plans.{wired}
+use Rattle.pw_model.specs.Calls.{group_c_state, group_ops, with_state}
+use Rattle.pw_model.specs.Effects.{Effect, Taken, c_state_by, c_state_with, group_takes}
+use Rattle.pw_model.specs.Effects.{idle_effect, member_place, ops_after, rung_taken, rungs, states_after, states_in, states_with, takes_by, vote_takes}
+use Rattle.pw_model.specs.Holding.{member_in}
+use Rattle.pw_model.specs.Locality.{put}
+use Rattle.pw_model.specs.Records.{Part, Record, container, domain, group}
+use Rattle.pw_model.proofs.Calls.{calls_serve}
+use Rattle.pw_model.proofs.Gathered.{group_member}
+use Rattle.pw_model.proofs.Plans.{wired}
 use Rattle.pw_domain.specs.declared.group.GroupRec.{GroupRec}
 use Rattle.pw_domain.specs.Groups.{group_part}
 use Rattle.pw_drive.specs.declared.records.Records.{Records}

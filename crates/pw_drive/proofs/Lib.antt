@@ -12,3 +12,8 @@ pub mod Undoing
 pub mod Reclimbing
 pub mod Undone
 pub mod Elements
+pub mod Making
+pub mod Joining
+pub mod Ending
+pub mod Bounds
+pub mod Drawn

@@ -14,10 +14,10 @@ use Rattle.pw_regs.specs.Seen.{RegistersSeen}
 use Rattle.pw_script.specs.declared.script.Line.{Line as line}
 use Rattle.pw_script.specs.Reading.{requests_of}
 use Rattle.pw_drive.specs.declared.records.Records.{Records}
-use Rattle.pw_doing.specs.Doing.{Did}
+use Rattle.pw_regs.specs.Doing.{Did}
 use Rattle.pw_drive.specs.inner.Running.{Ran, Stands, Turned, lines_bound}
 use Rattle.pw_drive.proofs.Entering.{ops_more}
-use Rattle.pw_doing.proofs.Operating.{did_as, did_more, did_nothing, did_within}
+use Rattle.pw_regs.proofs.Operating.{did_as, did_more, did_nothing, did_within}
 
 -- The requests of these lines were made, and no register failed.
 pub record Runs (P : Plan) (lines : List line) (es : List HistoryEntry) (R : Records) (old new : RegistersSeen) : Type 0 where

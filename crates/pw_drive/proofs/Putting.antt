@@ -11,9 +11,9 @@ use Rattle.pw_plan.specs.Parts.{scale_of}
 use Rattle.pw_plan.specs.Places.{cpu_at, domain_of}
 use Rattle.pw_model.specs.declared.reply.Reply.{Reply}
 use Rattle.pw_walker.proofs.Members.{scaled_exists}
-use Rattle.pw_parts.specs.Effects.{Effect, Taken}
-use Rattle.pw_parts.specs.Locality.{put}
-use Rattle.pw_parts.specs.Records.{Record, container, domain, group, scaled_count}
+use Rattle.pw_model.specs.Effects.{Effect, Taken}
+use Rattle.pw_model.specs.Locality.{put}
+use Rattle.pw_model.specs.Records.{Record, container, domain, group, scaled_count}
 use Rattle.pw_domain.specs.declared.domain.DomainRec.{DomainRec}
 use Rattle.pw_domain.specs.Domains.{domain_part}
 use Rattle.pw_drive.specs.declared.records.Records.{Records}
@@ -25,7 +25,8 @@ pub domains_set : (P : Plan) (rs : List DomainRec) (d : ℕ) (r : DomainRec) →
 domains_set P rs d r are lt is = record {
   count = length-set rs d r ∙ are.count;
   each = λ e le. elim (eqb_tells e d) [
-    | inl same ↦ subst (λ k. IsDomain P k (domain_in (set rs d r) k)) (sym same.1) (subst (λ x. IsDomain P d x) (sym (get_or-set_same rs d r no_domain_record (subst (λ k. d < k) (sym are.count) lt))) is)
+    | inl same ↦ subst (λ k. IsDomain P k (domain_in (set rs d r) k)) (sym same.1) (subst (λ x. IsDomain P d x) (sym (get_or-set_same rs d r no_domain_record (subst (λ k. d < k) (sym are.count) lt)))
+        is)
     | inr other ↦ subst (λ x. IsDomain P e x) (sym (get_or-set_other rs d e r no_domain_record other.1)) (are.each e le)
   ];
 }
@@ -37,7 +38,8 @@ domains_put old new d r ts lt n g e is (container m) = rw (is, n) refl
 domains_put old new d r ts lt n g e is (group m) = rw (is, g) refl
 domains_put old new d r ts lt n g e is (domain m) = rw (is, e) (elim (eqb_tells m d) [
   | inl same ↦ subst (λ k. domain_part (domain_in (set old.domains.items d r) k) ≡ cond (k == d) (domain_part r) (domain_part (domain_in old.domains.items k))) (sym same.1)
-      (ap domain_part (get_or-set_same old.domains.items d r no_domain_record lt) ∙ sym (ap (λ b. cond b (domain_part r) (domain_part (domain_in old.domains.items d))) (subst (λ k. (k == d) ≡ true) same.1 same.0)))
+      (ap domain_part (get_or-set_same old.domains.items d r no_domain_record lt) ∙ sym (ap (λ b. cond b (domain_part r) (domain_part (domain_in old.domains.items d))) (subst
+      (λ k. (k == d) ≡ true) same.1 same.0)))
   | inr other ↦ ap domain_part (get_or-set_other old.domains.items d m r no_domain_record other.1) ∙ sym (ap (λ b. cond b (domain_part r) (domain_part (domain_in old.domains.items m))) other.0)
 ])
 
@@ -53,10 +55,12 @@ serves_level P was now d r did reply before after are lt is n g e takes answers 
 }
 
 -- a domain's record stands among the records
-pub record_within : (P : Plan) (R : Records) (kind : DomainKind) (p : ℕ) → AreRecordsOf P R → p < length P.cpus → is_some (scale_of kind (cpu_at P p)) ≡ true → (d : ℕ) → d ≡ domain_of P kind p → d < length R.domains.items
+pub record_within : (P : Plan) (R : Records) (kind : DomainKind) (p : ℕ) → AreRecordsOf P R → p < length P.cpus → is_some (scale_of kind (cpu_at P p)) ≡ true → (d : ℕ) → d ≡ domain_of P kind p
+    → d < length R.domains.items
 record_within P R kind p are exists some d at = rw (at, are.domains.count) (scaled_exists P kind p exists some)
 
-pub record_there : (P : Plan) (R : Records) (kind : DomainKind) (p : ℕ) (are : AreRecordsOf P R) (exists : p < length P.cpus) (some : is_some (scale_of kind (cpu_at P p)) ≡ true) (d : ℕ) → d ≡ domain_of P kind p
+pub record_there : (P : Plan) (R : Records) (kind : DomainKind) (p : ℕ) (are : AreRecordsOf P R) (exists : p < length P.cpus) (some : is_some (scale_of kind (cpu_at P p)) ≡ true) (d : ℕ)
+    → d ≡ domain_of P kind p
     → (held : DomainRec) → held ≡ get_or R.domains.items d held → held ≡ domain_in R.domains.items (domain_of P kind p)
 record_there P R kind p are exists some d at held e =
     e ∙ get_or_default R.domains.items d held no_domain_record (record_within P R kind p are exists some d at) ∙ ap (domain_in R.domains.items) at

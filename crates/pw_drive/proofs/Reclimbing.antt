@@ -17,16 +17,16 @@ use Rattle.pw_model.specs.declared.state.Vote.{Vote}
 use Rattle.pw_model.specs.Answers.{if_accepted}
 use Rattle.pw_model.specs.Containers.{ancestors, child_vote, seen_by_kind}
 use Rattle.pw_model.specs.States.{running, vote_of, with_change}
-use Rattle.pw_parts.specs.Effects.{Taken, child_place, group_takes, rung_taken, rungs, takes_by, takes_in, vote_takes, votes_in}
-use Rattle.pw_parts.specs.Locality.{AllTold, put}
-use Rattle.pw_parts.specs.Numbers.{IsIn}
-use Rattle.pw_parts.specs.Records.{Part, Record, container, is_record, part_of}
-use Rattle.pw_parts.proofs.Calls.{calls_serve}
-use Rattle.pw_parts.proofs.Lines.{Among, ancestors_line, below, starts}
-use Rattle.pw_parts.proofs.Loops.{climb_agrees}
-use Rattle.pw_parts.proofs.Plans.{wired}
-use Rattle.pw_parts.proofs.Voting.{vote_moves}
-use Rattle.pw_parts.proofs.Steps.{its_record, same_record}
+use Rattle.pw_model.specs.Effects.{Taken, child_place, group_takes, rung_taken, rungs, takes_by, takes_in, vote_takes, votes_in}
+use Rattle.pw_model.specs.Locality.{AllTold, put}
+use Rattle.pw_model.specs.Numbers.{IsIn}
+use Rattle.pw_model.specs.Records.{Part, Record, container, is_record, part_of}
+use Rattle.pw_model.proofs.Calls.{calls_serve}
+use Rattle.pw_model.proofs.Lines.{Among, ancestors_line, below, starts}
+use Rattle.pw_model.proofs.Loops.{climb_agrees}
+use Rattle.pw_model.proofs.Plans.{wired}
+use Rattle.pw_model.proofs.Voting.{vote_moves}
+use Rattle.pw_model.proofs.Steps.{its_record, same_record}
 
 -- # The states
 

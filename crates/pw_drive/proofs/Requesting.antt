@@ -16,23 +16,23 @@ use Rattle.pw_model.specs.Operations.{opening_ops, ops_of}
 use Rattle.pw_model.proofs.Bounds.{opening_ops-length, ops_of-le}
 use Rattle.pw_model.proofs.Joining.{faultless_none, legal-empty, request_of-entry}
 use Rattle.pw_model.proofs.Staying.{replay_fits}
-use Rattle.pw_parts.specs.Effects.{effect}
-use Rattle.pw_parts.specs.Locality.{AllTold, IsDone, put}
-use Rattle.pw_parts.specs.Records.{IsRecord, Record, part_of}
-use Rattle.pw_parts.specs.Calls.{opening_part}
-use Rattle.pw_parts.proofs.Calls.{opens_right}
-use Rattle.pw_parts.proofs.Plans.{wired}
-use Rattle.pw_parts.proofs.Steps.{keeps_records}
+use Rattle.pw_model.specs.Effects.{effect}
+use Rattle.pw_model.specs.Locality.{AllTold, IsDone, put}
+use Rattle.pw_model.specs.Records.{IsRecord, Record, part_of}
+use Rattle.pw_model.specs.Calls.{opening_part}
+use Rattle.pw_model.proofs.Calls.{opens_right}
+use Rattle.pw_model.proofs.Plans.{wired}
+use Rattle.pw_model.proofs.Steps.{keeps_records}
 use Rattle.pw_journal.specs.Entries.{fault_entry}
 use Rattle.pw_regs.specs.Seen.{RegistersSeen}
 use Rattle.pw_drive.specs.declared.records.Records.{Records}
 use Rattle.pw_drive.specs.declared.restoring.Old.{Old}
-use Rattle.pw_doing.specs.Doing.{Did}
+use Rattle.pw_regs.specs.Doing.{Did}
 use Rattle.pw_drive.specs.Keeping.{AreRecordsOf, Serves, part_in}
 use Rattle.pw_drive.specs.inner.Restoring.{old_of, old_takes}
 use Rattle.pw_drive.specs.inner.Running.{Keeps, Stands, Turned, opening_done}
 use Rattle.pw_drive.proofs.Entering.{each_states, faultless_done, legal_done, legal_stopped, ops_done, ops_stopped, replay_done, replay_stopped, seat_of-entry, stopped_last}
-use Rattle.pw_doing.proofs.Operating.{did_as, did_within, ops_by}
+use Rattle.pw_regs.proofs.Operating.{did_as, did_within, ops_by}
 use Rattle.pw_drive.proofs.Undone.{restored}
 
 module _ (P : Plan) (q : Request) (es : List HistoryEntry) (was : Records) (has : Has P q) (h : Stands P es was) where

@@ -7,7 +7,7 @@ use Rattle.acpi_values.specs.declared.idle.IdleKind.{IdleKind}
 use Rattle.acpi_values.specs.declared.idle.IdleKind.TheVariants.{Lpi, Cst}
 use Rattle.acpi_values.specs.declared.operation.Op.{Op}
 use Rattle.pw_base.specs.Room.{Bounded}
-use Rattle.pw_ops.specs.Rooms.{HasRoom}
+use Rattle.pw_regs.specs.Rooms.{HasRoom}
 use Rattle.pw_plan.specs.declared.plan.Plan.{Plan}
 use Rattle.pw_plan.specs.declared.request.Request.{Request}
 use Rattle.pw_plan.specs.Places.{cpu_at, group_at, group_of}
@@ -15,10 +15,10 @@ use Rattle.pw_plan.specs.Requests.{group_bound}
 use Rattle.pw_model.specs.declared.reply.Reply.{Reply}
 use Rattle.pw_model.specs.Answers.{if_accepted}
 use Rattle.pw_model.specs.Refusals.{fixed_refusal}
-use Rattle.pw_parts.specs.Effects.{effect, effect_within, refused_effect}
-use Rattle.pw_parts.specs.Records.{Part, Record}
-use Rattle.pw_parts.proofs.Gathered.{ungrouped}
-use Rattle.pw_parts.proofs.Plans.{wired}
+use Rattle.pw_model.specs.Effects.{effect, effect_within, refused_effect}
+use Rattle.pw_model.specs.Records.{Part, Record}
+use Rattle.pw_model.proofs.Gathered.{ungrouped}
+use Rattle.pw_model.proofs.Plans.{wired}
 use Rattle.pw_drive.specs.declared.records.Records.{Records}
 use Rattle.pw_drive.specs.Keeping.{AreRecordsOf, Serves, part_in}
 use Rattle.pw_drive.proofs.Grouped.{serves_alone}

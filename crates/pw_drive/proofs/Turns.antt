@@ -16,12 +16,12 @@ use Rattle.pw_model.specs.Answers.{chain_of}
 use Rattle.pw_model.specs.Containers.{ancestors, node_vote}
 use Rattle.pw_core.specs.Chains.{IsChain, states_in}
 use Rattle.pw_core.proofs.Climbing.{is_chain, line-None, line-Some, states_in-chain_of}
-use Rattle.pw_parts.specs.Effects.{Rung, both_run, climb, rung_taken, rungs, states_up, votes_in, votes_with}
-use Rattle.pw_parts.specs.Locality.{put}
-use Rattle.pw_parts.specs.Loops.{put_votes}
-use Rattle.pw_parts.specs.Records.{Part, Record, container, votes}
-use Rattle.pw_parts.proofs.Lines.{Among, Below, IsLine, below, line_is}
-use Rattle.pw_parts.proofs.Loops.{climb_agrees, climb_step}
+use Rattle.pw_model.specs.Effects.{Rung, both_run, climb, rung_taken, rungs, states_up, votes_in, votes_with}
+use Rattle.pw_model.specs.Locality.{put}
+use Rattle.pw_model.specs.Loops.{put_votes}
+use Rattle.pw_model.specs.Records.{Part, Record, container, votes}
+use Rattle.pw_model.proofs.Lines.{Among, Below, IsLine, below, line_is}
+use Rattle.pw_model.proofs.Loops.{climb_agrees, climb_step}
 use Rattle.pw_idle.specs.declared.node.NodeRec.{NodeRec}
 use Rattle.pw_idle.specs.Nodes.{node_part}
 use Rattle.pw_idle.proofs.Nodes.{vote_fits, vote_proper}
@@ -159,7 +159,8 @@ record Risen (chain : Chain) (rising : Bool) (xs all : List ℕ) (k : ℕ) : Typ
   pub room : length (states_in chain) + k ≤ 9
   pub told : states_in chain ++ cond rising xs [] ≡ all
 
-more_is : (chain ch : Chain) (s : ℕ) (xs all : List ℕ) (k : ℕ) → length (states_in chain) + suc k ≤ 9 → states_in chain ++ s ∷ xs ≡ all → ch ≡ chain_of (states_in chain ++ s ∷ []) → Risen ch true xs all k
+more_is : (chain ch : Chain) (s : ℕ) (xs all : List ℕ) (k : ℕ) → length (states_in chain) + suc k ≤ 9 → states_in chain ++ s ∷ xs ≡ all → ch ≡ chain_of (states_in chain ++ s ∷ [])
+    → Risen ch true xs all k
 more_is chain ch s xs all k room told e =
     let more : length (states_in chain ++ s ∷ []) ≡ length (states_in chain) + 1 = length-append (states_in chain) (s ∷ []) in
     let few : length (states_in chain ++ s ∷ []) ≤ 9 = omega (arith, more, room) in
@@ -293,7 +294,8 @@ module _ (P : Plan) (was : Record → Part) (p : ℕ) (own : Vote) (rs : List No
     turns on =
         let runs : go ≡ false = subst (λ w. both_run (node_vote P n (votes_in (node_parts rs (container n)))) w ≡ false) same on in
         let told = subst (λ g. states_in ch ++ cond b (states_up P (cond g [] rest)) [] ≡ all) runs goes.told in
-        let parts = λ (m : ℕ). subst (λ g. put (node_parts (set rs n r)) (map rung_taken (cond g [] rest)) (container m) ≡ put was (map rung_taken (rungs P was p own)) (container m)) runs (put_all m) in
+        let parts = λ (m : ℕ). subst (λ g. put (node_parts (set rs n r)) (map rung_taken (cond g [] rest)) (container m) ≡ put was (map rung_taken (rungs P was p own)) (container m)) runs (put_all m)
+        in
         record {
           nodes = turned_are P rs h.nodes n exists c v r t.is t.holds;
           inside = exists;
@@ -304,7 +306,8 @@ module _ (P : Plan) (was : Record → Part) (p : ℕ) (own : Vote) (rs : List No
           chain_is = goes.chain_is;
           room = goes.room;
           told = subst (λ w. states_in ch ++ cond b (states_up P (climb P (node_parts (set rs n r)) (Container n) w (line_from P.containers (container_at P n).parent))) [] ≡ all) (sym same) told;
-          parts = λ m. subst (λ w. put (node_parts (set rs n r)) (map rung_taken (climb P (node_parts (set rs n r)) (Container n) w (line_from P.containers (container_at P n).parent))) (container m) ≡ put was (map rung_taken (rungs P was p own)) (container m)) (sym same) (parts m);
+          parts = λ m. subst (λ w. put (node_parts (set rs n r)) (map rung_taken (climb P (node_parts (set rs n r)) (Container n) w (line_from P.containers (container_at P n).parent))) (container m)
+              ≡ put was (map rung_taken (rungs P was p own)) (container m)) (sym same) (parts m);
         }
 
 -- what a turn made, of the record that stood there

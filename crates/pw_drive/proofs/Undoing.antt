@@ -13,12 +13,12 @@ use Rattle.pw_plan.proofs.Found.{passes}
 use Rattle.pw_plan.proofs.Lists.{and_first, and_second}
 use Rattle.pw_model.specs.declared.reply.Reply.{Reply}
 use Rattle.pw_model.specs.Answers.{if_accepted}
-use Rattle.pw_parts.specs.Calls.{own_ask, own_limit, own_vote, with_state}
-use Rattle.pw_parts.specs.Effects.{Effect, Taken, group_takes, member_place, refused_effect, states_in, states_with, with_ask, with_limit}
-use Rattle.pw_parts.specs.Locality.{put}
-use Rattle.pw_parts.specs.Records.{IsRecord, Part, Record, domain, group, is_record, levels, states}
-use Rattle.pw_parts.proofs.Levels.{has_domain, same_from}
-use Rattle.pw_parts.proofs.Steps.{its_record, same_record}
+use Rattle.pw_model.specs.Calls.{own_ask, own_limit, own_vote, with_state}
+use Rattle.pw_model.specs.Effects.{Effect, Taken, group_takes, member_place, refused_effect, states_in, states_with, with_ask, with_limit}
+use Rattle.pw_model.specs.Locality.{put}
+use Rattle.pw_model.specs.Records.{IsRecord, Part, Record, domain, group, is_record, levels, states}
+use Rattle.pw_model.proofs.Levels.{has_domain, same_from}
+use Rattle.pw_model.proofs.Steps.{its_record, same_record}
 use Rattle.pw_drive.specs.declared.restoring.Old.{Old}
 use Rattle.pw_drive.specs.declared.restoring.Old.TheVariants as olds
 use Rattle.pw_drive.specs.declared.records.Records.{Records}

@@ -23,14 +23,14 @@ use Rattle.pw_model.specs.Refusals.{fixed_refusal, refusal}
 use Rattle.pw_model.specs.States.{IsState, capped, idling, running, vote_of, with_change}
 use Rattle.pw_model.proofs.Staying.{after_fits}
 use Rattle.pw_core.proofs.Climbing.{line-None}
-use Rattle.pw_parts.specs.Calls.{own_ask, own_limit}
-use Rattle.pw_parts.specs.Effects.{Effect, Taken, ask_effect, child_place, effect, effect_within, group_takes, level_effect, limit_effect, limits_in, member_place}
-use Rattle.pw_parts.specs.Effects.{refused_above, refused_effect, rung_taken, rungs, takes_by, vote_takes, votes_in, with_ask, with_limit}
-use Rattle.pw_parts.specs.Locality.{AllTold, put}
-use Rattle.pw_parts.specs.Records.{Part, Record, container, domain}
-use Rattle.pw_parts.proofs.Central.{some_scale, some_scale_alone}
-use Rattle.pw_parts.proofs.Plans.{wired}
-use Rattle.pw_parts.proofs.Steps.{keeps_records}
+use Rattle.pw_model.specs.Calls.{own_ask, own_limit}
+use Rattle.pw_model.specs.Effects.{Effect, Taken, ask_effect, child_place, effect, effect_within, group_takes, level_effect, limit_effect, limits_in, member_place}
+use Rattle.pw_model.specs.Effects.{refused_above, refused_effect, rung_taken, rungs, takes_by, vote_takes, votes_in, with_ask, with_limit}
+use Rattle.pw_model.specs.Locality.{AllTold, put}
+use Rattle.pw_model.specs.Records.{Part, Record, container, domain}
+use Rattle.pw_model.proofs.Central.{some_scale, some_scale_alone}
+use Rattle.pw_model.proofs.Plans.{wired}
+use Rattle.pw_model.proofs.Steps.{keeps_records}
 use Rattle.pw_drive.specs.declared.records.Records.{Records}
 use Rattle.pw_drive.specs.declared.restoring.Old.TheVariants as olds
 use Rattle.pw_drive.specs.Keeping.{part_in}

@@ -4,10 +4,10 @@ use Rattle.pw_plan.specs.declared.domain.Child.TheVariants.{Cpu}
 use Rattle.pw_plan.specs.declared.plan.Plan.{Plan}
 use Rattle.pw_model.specs.declared.state.Vote.{Vote}
 use Rattle.pw_model.specs.Containers.{ancestors}
-use Rattle.pw_parts.specs.Effects.{Rung, rung_taken, rungs}
-use Rattle.pw_parts.specs.Locality.{put}
-use Rattle.pw_parts.specs.Records.{Part, Record, container, domain, group, votes}
-use Rattle.pw_parts.proofs.Loops.{climb_agrees}
+use Rattle.pw_model.specs.Effects.{Rung, rung_taken, rungs}
+use Rattle.pw_model.specs.Locality.{put}
+use Rattle.pw_model.specs.Records.{Part, Record, container, domain, group, votes}
+use Rattle.pw_model.proofs.Loops.{climb_agrees}
 use Rattle.pw_drive.specs.declared.records.Records.{Records}
 use Rattle.pw_drive.specs.Keeping.{node_parts, part_in}
 

@@ -3,12 +3,12 @@ use Rattle.std.specs.Prelude.{◌≡◌, ◌<◌, ◌++◌, [], ℕ, List, lengt
 use Rattle.acpi_values.specs.declared.operation.Op.{Op}
 use Rattle.pw_base.specs.Room.{Bounded}
 use Rattle.pw_model.specs.declared.reply.Reply.{Reply}
-use Rattle.pw_parts.specs.Effects.{Effect}
-use Rattle.pw_parts.specs.Locality.{put}
+use Rattle.pw_model.specs.Effects.{Effect}
+use Rattle.pw_model.specs.Locality.{put}
 use Rattle.acpi_values.specs.declared.dependency.Coord.TheVariants.{SwAll}
 use Rattle.pw_plan.specs.declared.plan.Plan.{Plan}
-use Rattle.pw_parts.specs.Calls.{opening_part}
-use Rattle.pw_parts.specs.Records.{IsRecord, Part, Record, container, domain, group, scaled_count, votes}
+use Rattle.pw_model.specs.Calls.{opening_part}
+use Rattle.pw_model.specs.Records.{IsRecord, Part, Record, container, domain, group, scaled_count, votes}
 use Rattle.pw_idle.specs.declared.node.NodeRec.{NodeRec}
 use Rattle.pw_idle.specs.Nodes.{node_part}
 use Rattle.pw_domain.specs.declared.domain.DomainRec.{DomainRec}

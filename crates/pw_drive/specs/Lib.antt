@@ -1,3 +1,4 @@
 pub mod Driven
 pub mod Keeping
 pub mod inner
+pub mod Drives

@@ -3,9 +3,9 @@ ghost use Rattle.acpi_values.specs.Idle.{rows_of};
 ghost use Rattle.pw_plan.specs.Places.{cpu_at};
 ghost use Rattle.pw_model.specs.States.{IsProper};
 ghost use Rattle.pw_model.specs.Answers.{chain_of};
-ghost use Rattle.pw_parts.specs.Effects.{rung_taken, rungs, states_up};
-ghost use Rattle.pw_parts.specs.Locality.{put};
-ghost use Rattle.pw_parts.specs.Records.{container};
+ghost use Rattle.pw_model.specs.Effects.{rung_taken, rungs, states_up};
+ghost use Rattle.pw_model.specs.Locality.{put};
+ghost use Rattle.pw_model.specs.Records.{container};
 ghost use Rattle.pw_drive.specs.Keeping.{AreNodes, node_parts};
 
 use acpi_values::Chain;
@@ -25,7 +25,8 @@ pub fn climb(nodes: &mut Vec<NodeRec>, plan: &Plan, cpu: u32, own: Vote) -> Chai
     requires proper { IsProper own }
     ensures of { AreNodes plan.now nodes.new.items }
     ensures parts { (n : ℕ) → node_parts nodes.new.items (container n)
-        ≡ put (node_parts nodes.old.items) (map rung_taken (rungs plan.now (node_parts nodes.old.items) cpu own)) (container n) }
+        ≡ put (node_parts nodes.old.items)
+        (map rung_taken (rungs plan.now (node_parts nodes.old.items) cpu own)) (container n) }
     ensures chain { result ≡ chain_of (own.state
         ∷ states_up plan.now (rungs plan.now (node_parts nodes.old.items) cpu own)) }
 {

@@ -8,7 +8,7 @@ ghost use Rattle.pw_regs.specs.Seen.{registers_seen};
 ghost use Rattle.pw_script.specs.declared.script.Line.{Line as asked};
 ghost use Rattle.pw_script.specs.Lawful.{LawfulSerial};
 ghost use Rattle.pw_script.specs.Reading.{operations, requests_of};
-ghost use Rattle.pw_doing.specs.Doing.{Did};
+ghost use Rattle.pw_regs.specs.Doing.{Did};
 ghost use Rattle.pw_drive.specs.Driven.{OperatesFor};
 ghost use Rattle.pw_drive.specs.inner.Running.{Keeps, Stands, opening_done};
 

@@ -6,8 +6,8 @@ ghost use Rattle.pw_base.specs.Room.{Bounded as bounded};
 ghost use Rattle.pw_plan.specs.Places.{cpu_at};
 ghost use Rattle.pw_plan.specs.Requests.{group_bound};
 ghost use Rattle.pw_model.specs.Answers.{chain_of};
-ghost use Rattle.pw_parts.specs.Effects.{enter_c, idle_effect, wake_effect};
-ghost use Rattle.pw_ops.specs.Rooms.{HasRoom};
+ghost use Rattle.pw_model.specs.Effects.{enter_c, idle_effect, wake_effect};
+ghost use Rattle.pw_regs.specs.Rooms.{HasRoom};
 ghost use Rattle.pw_drive.specs.Keeping.{AreRecordsOf, Serves, part_in};
 
 use crate::records::Records;
@@ -23,7 +23,10 @@ fn enter_alone(plan: &Plan, cpu: u32, state: u8, ops: &mut Ops) -> Reply
     requires state { state ≤ length (rows_of (cpu_at plan.now cpu).idle) }
     requires room { length ops.old.elements < ops.old.capacity }
     ensures reply { result ≡ Reply.Entered (chain_of (state ∷ [])) }
-    ensures list { ops.new ≡ record ops.old { elements = ops.old.elements ++ enter_c plan.now cpu state ∷ [] } }
+    ensures list { ops.new ≡ record ops.old {
+      elements = ops.old.elements ++ enter_c plan.now cpu state
+          ∷ [];
+    } }
 {
     let chain = chain_of_one(state);
     ops.push(Op::Enter {
@@ -42,7 +45,8 @@ impl Records {
         requires idles { 0 < own.state }
         requires state { own.state ≤ length (rows_of (cpu_at plan.now cpu).idle) }
         requires room { HasRoom ops.old (group_bound plan.now cpu) }
-        ensures { Serves plan.now self.old self.new (idle_effect plan.now (part_in self.old) cpu own) result ops.old ops.new }
+        ensures { Serves plan.now self.old self.new (idle_effect plan.now (part_in self.old) cpu own) result
+            ops.old ops.new }
     {
         let Some(at) = plan.group_of(cpu) else {
             return enter_alone(plan, cpu, own.state, ops);
@@ -59,7 +63,8 @@ impl Records {
         requires cpu { cpu < length plan.now.cpus }
         requires kind { (cpu_at plan.now cpu).idle.kind ≡ Cst }
         requires of { AreRecordsOf plan.now self.old }
-        ensures { (ops : bounded operation) → Serves plan.now self.old self.new (wake_effect plan.now (part_in self.old) cpu) result ops ops }
+        ensures { (ops : bounded operation)
+            → Serves plan.now self.old self.new (wake_effect plan.now (part_in self.old) cpu) result ops ops }
     {
         let Some(at) = plan.group_of(cpu) else {
             return Reply::Running;

@@ -3,7 +3,7 @@ ghost use Rattle.acpi_values.specs.Idle.{rows_of};
 ghost use Rattle.acpi_values.specs.declared.idle.IdleKind.TheVariants.{Lpi};
 ghost use Rattle.pw_plan.specs.Places.{cpu_at};
 ghost use Rattle.pw_model.specs.States.{IsProper};
-ghost use Rattle.pw_parts.specs.Effects.{idle_effect, wake_effect};
+ghost use Rattle.pw_model.specs.Effects.{idle_effect, wake_effect};
 ghost use Rattle.acpi_values.specs.declared.operation.Op.{Op as operation};
 ghost use Rattle.pw_base.specs.Room.{Bounded as bounded};
 ghost use Rattle.pw_drive.specs.Keeping.{AreRecordsOf, Serves, part_in};
@@ -24,7 +24,8 @@ impl Records {
         requires state { own.state ≤ length (rows_of (cpu_at plan.now cpu).idle) }
         requires proper { IsProper own }
         requires room { length ops.old.elements < ops.old.capacity }
-        ensures { Serves plan.now self.old self.new (idle_effect plan.now (part_in self.old) cpu own) result ops.old ops.new }
+        ensures { Serves plan.now self.old self.new (idle_effect plan.now (part_in self.old) cpu own) result
+            ops.old ops.new }
     {
         let chain = self.vote_up(plan, cpu, own);
         ops.push(Op::Enter {
@@ -40,7 +41,8 @@ impl Records {
         requires cpu { cpu < length plan.now.cpus }
         requires kind { (cpu_at plan.now cpu).idle.kind ≡ Lpi }
         requires of { AreRecordsOf plan.now self.old }
-        ensures { (ops : bounded operation) → Serves plan.now self.old self.new (wake_effect plan.now (part_in self.old) cpu) result ops ops }
+        ensures { (ops : bounded operation)
+            → Serves plan.now self.old self.new (wake_effect plan.now (part_in self.old) cpu) result ops ops }
     {
         let own = Vote {
             state: 0,

@@ -3,14 +3,20 @@
 
 mod climbing;
 mod driving;
+mod gathering;
 mod grouping;
 mod idling;
+mod lists;
 mod records;
 mod restoring;
 mod running;
 mod scaling;
+mod seating;
 mod serving;
 mod voting;
+mod workers;
+mod working;
 
 pub use driving::{Driven, serial};
 pub use records::Records;
+pub use workers::{Drove, drive};

@@ -1,6 +1,6 @@
 ghost use Rattle.std.specs.Prelude.{◌≡◌, ◌<◌, ℕ, length, IfOk};
-ghost use Rattle.pw_parts.specs.Calls.{opening_part};
-ghost use Rattle.pw_parts.specs.Records.{IsRecord, Record as place, scaled_count};
+ghost use Rattle.pw_model.specs.Calls.{opening_part};
+ghost use Rattle.pw_model.specs.Records.{IsRecord, Record as place, scaled_count};
 ghost use Rattle.pw_drive.specs.Keeping.{AreRecordsOf, OpensDomain, OpensGroup, OpensNode};
 ghost use Rattle.pw_drive.specs.Keeping.{domain_in, group_in, node_in, part_in};
 

@@ -2,8 +2,8 @@ ghost use Rattle.std.specs.Prelude.{◌≡◌, ◌<◌, false, length};
 ghost use Rattle.pw_plan.specs.Groups.{is_idle};
 ghost use Rattle.pw_plan.specs.Places.{cpu_at};
 ghost use Rattle.pw_plan.specs.Requests.{Has};
-ghost use Rattle.pw_parts.specs.Locality.{put};
-ghost use Rattle.pw_parts.specs.Records.{Record as place};
+ghost use Rattle.pw_model.specs.Locality.{put};
+ghost use Rattle.pw_model.specs.Records.{Record as place};
 ghost use Rattle.pw_drive.specs.Keeping.{AreRecordsOf, part_in};
 ghost use Rattle.pw_drive.specs.inner.Restoring.{Fits, old_ask, old_idle, old_limit};
 ghost use Rattle.pw_drive.specs.inner.Restoring.{old_of, old_state, old_takes, old_vote};
@@ -159,7 +159,8 @@ impl Records {
         requires of { AreRecordsOf plan.now self.old }
         requires fits { Fits plan.now was }
         ensures of { AreRecordsOf plan.now self.new }
-        ensures parts { (r : place) → part_in self.new r ≡ put (part_in self.old) (old_takes plan.now (part_in self.old) was) r }
+        ensures parts { (r : place)
+            → part_in self.new r ≡ put (part_in self.old) (old_takes plan.now (part_in self.old) was) r }
     {
         match was {
             Old::Nothing => {}

@@ -2,9 +2,9 @@ ghost use Rattle.std.specs.Prelude.{◌≡◌, ◌<◌, true, length, is_some};
 ghost use Rattle.pw_plan.specs.Parts.{count_of, scale_of};
 ghost use Rattle.pw_plan.specs.Places.{cpu_at, domain_of};
 ghost use Rattle.pw_plan.specs.Requests.{domain_bound};
-ghost use Rattle.pw_parts.specs.Effects.{ask_effect, limit_effect};
-ghost use Rattle.pw_parts.specs.Records.{domain as scaled};
-ghost use Rattle.pw_ops.specs.Rooms.{HasRoom};
+ghost use Rattle.pw_model.specs.Effects.{ask_effect, limit_effect};
+ghost use Rattle.pw_model.specs.Records.{domain as scaled};
+ghost use Rattle.pw_regs.specs.Rooms.{HasRoom};
 ghost use Rattle.pw_drive.specs.Keeping.{AreRecordsOf, Serves, part_in};
 
 use crate::records::Records;
@@ -29,7 +29,8 @@ impl Records {
         requires of { AreRecordsOf plan.now self.old }
         requires room { HasRoom ops.old (domain_bound plan.now kind cpu) }
         ensures { let d = domain_of plan.now kind cpu in
-            Serves plan.now self.old self.new (ask_effect plan.now kind cpu index d (part_in self.old (scaled d))) result ops.old ops.new }
+            Serves plan.now self.old self.new
+            (ask_effect plan.now kind cpu index d (part_in self.old (scaled d))) result ops.old ops.new }
     {
         let Some(membership) = plan.domain_of(kind, cpu) else {
             unreachable!()
@@ -60,7 +61,8 @@ impl Records {
         requires of { AreRecordsOf plan.now self.old }
         requires room { HasRoom ops.old (domain_bound plan.now kind cpu) }
         ensures { let d = domain_of plan.now kind cpu in
-            Serves plan.now self.old self.new (limit_effect plan.now kind cpu n d (part_in self.old (scaled d))) result ops.old ops.new }
+            Serves plan.now self.old self.new
+            (limit_effect plan.now kind cpu n d (part_in self.old (scaled d))) result ops.old ops.new }
     {
         let Some(membership) = plan.domain_of(kind, cpu) else {
             unreachable!()

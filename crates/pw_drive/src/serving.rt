@@ -4,8 +4,8 @@ ghost use Rattle.acpi_values.specs.declared.operation.Op.{Op as operation};
 ghost use Rattle.pw_base.specs.Room.{Bounded as bounded};
 ghost use Rattle.pw_plan.specs.Places.{cpu_at};
 ghost use Rattle.pw_plan.specs.Requests.{Has, group_bound, ops_bound};
-ghost use Rattle.pw_parts.specs.Effects.{effect, idle_effect, wake_effect};
-ghost use Rattle.pw_ops.specs.Rooms.{HasRoom};
+ghost use Rattle.pw_model.specs.Effects.{effect, idle_effect, wake_effect};
+ghost use Rattle.pw_regs.specs.Rooms.{HasRoom};
 ghost use Rattle.pw_drive.specs.Keeping.{AreRecordsOf, Serves, part_in};
 
 use crate::records::Records;
@@ -23,7 +23,8 @@ impl Records {
         requires idles { 0 < own.state }
         requires state { own.state ≤ length (rows_of (cpu_at plan.now cpu).idle) }
         requires room { HasRoom ops.old (group_bound plan.now cpu) }
-        ensures { Serves plan.now self.old self.new (idle_effect plan.now (part_in self.old) cpu own) result ops.old ops.new }
+        ensures { Serves plan.now self.old self.new (idle_effect plan.now (part_in self.old) cpu own) result
+            ops.old ops.new }
     {
         match plan.cpu(cpu).idle.kind {
             IdleKind::Lpi => self.idle_up(plan, cpu, own, ops),
@@ -36,7 +37,8 @@ impl Records {
     fn wake(&mut self, plan: &Plan, cpu: u32) -> Reply
         requires cpu { cpu < length plan.now.cpus }
         requires of { AreRecordsOf plan.now self.old }
-        ensures { (ops : bounded operation) → Serves plan.now self.old self.new (wake_effect plan.now (part_in self.old) cpu) result ops ops }
+        ensures { (ops : bounded operation)
+            → Serves plan.now self.old self.new (wake_effect plan.now (part_in self.old) cpu) result ops ops }
     {
         match plan.cpu(cpu).idle.kind {
             IdleKind::Lpi => self.wake_up(plan, cpu),
@@ -50,7 +52,8 @@ impl Records {
         requires request { Has plan.now request }
         requires of { AreRecordsOf plan.now self.old }
         requires room { HasRoom ops.old (ops_bound plan.now request) }
-        ensures { Serves plan.now self.old self.new (effect plan.now (part_in self.old) request) result ops.old ops.new }
+        ensures { Serves plan.now self.old self.new (effect plan.now (part_in self.old) request) result
+            ops.old ops.new }
     {
         if let Some(reply) = fixed_answer(plan, &request) {
             return reply;

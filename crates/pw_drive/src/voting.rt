@@ -3,9 +3,9 @@ ghost use Rattle.acpi_values.specs.Idle.{rows_of};
 ghost use Rattle.pw_plan.specs.Places.{cpu_at};
 ghost use Rattle.pw_model.specs.Answers.{chain_of};
 ghost use Rattle.pw_model.specs.States.{IsProper};
-ghost use Rattle.pw_parts.specs.Effects.{rung_taken, rungs, states_up};
-ghost use Rattle.pw_parts.specs.Locality.{put};
-ghost use Rattle.pw_parts.specs.Records.{Record as place};
+ghost use Rattle.pw_model.specs.Effects.{rung_taken, rungs, states_up};
+ghost use Rattle.pw_model.specs.Locality.{put};
+ghost use Rattle.pw_model.specs.Records.{Record as place};
 ghost use Rattle.pw_drive.specs.Keeping.{AreRecordsOf, part_in};
 
 use crate::climbing::climb;

@@ -4,10 +4,10 @@ use Rattle.aml_block.specs.declared.block.Block.{Block}
 use Rattle.acpi_space.specs.Namespace.{entries_in}
 use Rattle.pw_cppc.specs.declared.request.CppcRequest.{CppcRequest}
 use Rattle.pw_cppc.specs.Requests.{Has}
-use Rattle.pw_cppc_parts.specs.Planning.{IsPlanOver}
-use Rattle.pw_cppc_state.specs.Answers.{after, answer}
-use Rattle.pw_cppc_state.specs.Operations.{opening_ops, ops_of}
-use Rattle.pw_cppc_state.specs.States.{opening}
+use Rattle.pw_cppc.specs.SpacePlan.{IsPlanOver}
+use Rattle.pw_cppc.specs.Answers.{after, answer}
+use Rattle.pw_cppc.specs.Operations.{opening_ops, ops_of}
+use Rattle.pw_cppc.specs.States.{opening}
 use Rattle.pw_embed.specs.declared.cppc.Cppc.{Cppc}
 use Rattle.pw_embed.specs.declared.cppc_numbers.CppcReplyNumbers.{CppcReplyNumbers}
 use Rattle.pw_embed.specs.declared.cppc_numbers.CppcRequestNumbers.{CppcRequestNumbers}

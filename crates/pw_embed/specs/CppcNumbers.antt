@@ -2,8 +2,8 @@
 use Rattle.std.specs.Prelude.{◌==◌, ℕ, Option, Some, None, if◌then◌else◌}
 use Rattle.pw_cppc.specs.declared.request.CppcRequest.{CppcRequest}
 use Rattle.pw_cppc.specs.declared.request.CppcRequest.TheVariants.{Desired, Minimum, Maximum}
-use Rattle.pw_cppc_state.specs.declared.reply.CppcReply.{CppcReply}
-use Rattle.pw_cppc_state.specs.declared.reply.CppcReply.TheVariants.{Stands, NoTable, Unfit, OutOfRange, Crossed}
+use Rattle.pw_cppc.specs.declared.reply.CppcReply.{CppcReply}
+use Rattle.pw_cppc.specs.declared.reply.CppcReply.TheVariants.{Stands, NoTable, Unfit, OutOfRange, Crossed}
 use Rattle.pw_embed.specs.declared.cppc_numbers.CppcReplyNumbers.{CppcReplyNumbers}
 use Rattle.pw_embed.specs.declared.cppc_numbers.CppcRequestNumbers.{CppcRequestNumbers}
 

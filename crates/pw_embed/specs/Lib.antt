@@ -11,3 +11,8 @@ pub mod CppcNumbers
 pub mod Cppc
 pub mod Machines
 pub mod inner
+pub mod Entries
+pub mod Registers
+pub mod Told
+pub mod Shared
+pub mod Seats

@@ -34,6 +34,7 @@ op_numbers (Enter cpu composite) = on 2 cpu composite.register 0 composite.state
 
 -- The operations are written at the front of the room, and their count; or the room is too small, and stays as it was.
 unfoldable pub Listed : List Op → List OpNumbers → List OpNumbers → ℕ → Status → Type 0
-Listed list out out' count Done = (length list ≤ length out) × (out' ≡ map op_numbers list ++ drop (length list) out) × (count ≡ in_32_bits (length list))
+Listed list out out' count Done = (length list ≤ length out) × (out' ≡ map op_numbers list ++ drop (length list) out)
+    × (count ≡ in_32_bits (length list))
 Listed list out out' count Room = (length out < length list) × (out' ≡ out) × (count ≡ in_32_bits (length list))
 Listed list out out' count _ = ⊥

@@ -5,7 +5,7 @@ ghost use Rattle.acpi_space.specs.Namespace.{entries_in};
 ghost use Rattle.acpi_build.specs.declared.note.Note.{Note as note};
 ghost use Rattle.acpi_build.specs.Planning.{IsPlanFrom};
 ghost use Rattle.acpi_build.specs.Tables.{AreCountable};
-ghost use Rattle.pw_cppc_parts.specs.Planning.{IsPlanOver};
+ghost use Rattle.pw_cppc.specs.SpacePlan.{IsPlanOver};
 ghost use Rattle.pw_plan.specs.Limits.{in_32_bits};
 ghost use Rattle.pw_embed.specs.Blocks.{Added, AreSpelled, IsPlanned, Refused, RefusedBy, Unplanned, UnplannedBy};
 ghost use Rattle.pw_embed.specs.Cppc.{IsOpening, IsSteered};
@@ -18,7 +18,7 @@ use acpi_build::{BuildFault, blocks_are_countable, plan};
 use acpi_space::{Space, SpaceFault};
 use aml_block::{Block, BlockFault, parse};
 use pw_base::{List, Memory};
-use pw_cppc_parts::cppc_plan;
+use pw_cppc::cppc_plan;
 use pw_plan::{Plan, in_32_bits};
 use std::alloc::{AllocError, Global};
 use std::marker::Model;
@@ -92,7 +92,8 @@ pub fn planned(
     path: &mut [u8],
 ) -> Result<(Plan, u32), Status>
     requires { AreCountable space.now }
-    ensures made { IfOk result (λ r. (notes : list note) × IsPlanFrom space.now r.0 notes × (r.1 ≡ in_32_bits (length notes))) }
+    ensures made { IfOk result (λ r. (notes : list note) × IsPlanFrom space.now r.0 notes
+        × (r.1 ≡ in_32_bits (length notes))) }
     ensures same { OnOk result ((fault.new ≡ fault.old) × (path.new ≡ path.old)) }
     ensures refused { (blocks : list block) → space.now ≡ entries_in blocks →
         IfErr result (λ s. RefusedBy blocks fault.old path.old fault.new path.new s) }

@@ -1,23 +1,22 @@
 ghost use Rattle.std.specs.Prelude.{◌≡◌, ◌≤◌, IfOk};
 ghost use Rattle.pw_cppc.specs.Requests.{Has};
-ghost use Rattle.pw_cppc_state.specs.States.{AreNumbers, opening};
-ghost use Rattle.pw_cppc_state.specs.Operations.{opening_ops};
+ghost use Rattle.pw_cppc.specs.States.{AreNumbers, opening};
+ghost use Rattle.pw_cppc.specs.Operations.{opening_ops};
 ghost use Rattle.pw_embed.specs.inner.Propositions.{number_props};
 
 use crate::cppc_numbers::{CppcReplyNumbers, CppcRequestNumbers};
 use crate::operations::{OpNumbers, tell_ops};
 use crate::status::Status;
 use pw_base::Memory;
-use pw_cppc::{CppcPlan, CppcRequest};
-use pw_cppc_state::{CppcReply, CppcState, open_all};
-use pw_ops::Ops;
+use pw_cppc::{CppcPlan, CppcReply, CppcRequest, CppcState, open_all};
+use pw_regs::Ops;
 use std::alloc::Global;
 
 /// The most operations of one request: its own register, and one of each member of a domain.
 const MOST_OF_A_REQUEST: u32 = 257;
 
-/// The coordinator of one caller for desired performance: a plan, what its processors ask for and allow, and the
-/// operations of the last request.
+/// The coordinator of one caller for desired performance: a plan, what its processors ask for and allow,
+/// and the operations of the last request.
 #[derive(Drop)]
 pub struct Cppc {
     pub plan: CppcPlan,
@@ -28,7 +27,7 @@ pub struct Cppc {
 }
 
 impl Cppc {
-    ghost use Rattle.pw_cppc_state.specs.Answers.{answer};
+    ghost use Rattle.pw_cppc.specs.Answers.{answer};
     ghost use Rattle.pw_embed.specs.Cppc.{Asked, IsOpening, Stepped};
     ghost use Rattle.pw_embed.specs.Operations.{Listed};
 
@@ -44,7 +43,7 @@ impl Cppc {
     }
 
     /// Makes a request: the list has its operations then.
-    #[tactic(auto, using(pw_cppc_work::proofs::Bounds::bound_small))]
+    #[tactic(auto, using(pw_cppc_desk::proofs::Bounds::bound_small))]
     fn step(&mut self, request: CppcRequest) -> CppcReply
         requires { Has self.old.plan request }
         ensures stepped { Stepped self.old request self.new }

@@ -1,11 +1,10 @@
 ghost use Rattle.std.specs.Prelude.{◌≡◌};
 ghost use Rattle.pw_embed.specs.CppcNumbers.{numbers_of, plain, request_in};
 
-use pw_cppc::CppcRequest;
-use pw_cppc_state::CppcReply;
+use pw_cppc::{CppcReply, CppcRequest};
 
-/// What a processor asks of its performance, on the scale of its `_CPC`: 1 a desired performance, 2 a minimum, 3 a
-/// maximum.
+/// What a processor asks of its performance, on the scale of its `_CPC`: 1 a desired performance, 2 a
+/// minimum, 3 a maximum.
 #[repr(C)]
 #[derive(Clone, Copy)]
 pub struct CppcRequestNumbers {

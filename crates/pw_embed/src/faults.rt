@@ -61,7 +61,15 @@ impl FaultNumbers {
     };
 
     fn at(why: u32, found: u32, at: usize) -> FaultNumbers
-        ensures { result ≡ record { why = why; outer = 0; inner = 0; found = found; at = at; path_length = 0 } }
+        ensures { result ≡ record {
+          why = why;
+          outer = 0;
+          inner = 0;
+          found = found;
+          at = at;
+          path_length =
+              0;
+        } }
     {
         FaultNumbers {
             why,

@@ -111,7 +111,11 @@ impl Machine {
         path: &mut [u8],
         length: &mut usize,
     ) -> Status
-        ensures { TellsCpu self.now cpu (told.old, path.old, length.old) (told.new, path.new, length.new) result }
+        ensures { TellsCpu self.now cpu (told.old, path.old, length.old) (
+          told.new,
+          path.new,
+          length.new,
+        ) result }
     {
         match self.planned() {
             None => Status::Kind,

@@ -5,7 +5,8 @@ use crate::status::Status;
 use acpi_values::{Chain, Op, Register};
 use pw_plan::in_32_bits;
 
-/// An operation on a register of a processor: 1 a value is written to it, 2 the processor enters an idle state by it.
+/// An operation on a register of a processor: 1 a value is written to it, 2 the processor enters an idle
+/// state by it.
 #[repr(C)]
 #[derive(Clone, Copy)]
 pub struct OpNumbers {
@@ -74,7 +75,8 @@ fn put_ops(list: &[Op], out: &mut [OpNumbers])
     }
 }
 
-/// Writes operations at the front of the caller's room, where there is room for all of them, and how many they are.
+/// Writes operations at the front of the caller's room, where there is room for all of them, and how
+/// many they are.
 #[tactic(auto, unfolding(crate::specs::Operations::Listed))]
 pub fn tell_ops(list: &[Op], out: &mut [OpNumbers], count: &mut u32) -> Status
     ensures { Listed list.now out.old out.new count.new result }

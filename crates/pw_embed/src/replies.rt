@@ -3,8 +3,8 @@ ghost use Rattle.pw_embed.specs.Replies.{numbers_of, plain};
 
 use pw_model::Reply;
 
-/// What a request is answered: 1 entered, 2 running, 3 stands, 4 no such state, 5 disabled, 6 above the limit, 7 no
-/// table, 8 unfit, 9 too slow.
+/// What a request is answered: 1 entered, 2 running, 3 stands, 4 no such state, 5 disabled, 6 above the
+/// limit, 7 no table, 8 unfit, 9 too slow.
 #[repr(C)]
 #[derive(Clone, Copy)]
 pub struct ReplyNumbers {

@@ -3,8 +3,8 @@ ghost use Rattle.pw_embed.specs.Requests.{request_in};
 
 use pw_plan::Request;
 
-/// What a processor asks for: 1 to go idle, 2 to run again, 3 a performance state, 4 a throttling state, 5 a limit of
-/// performance states, 6 a limit of throttling states.
+/// What a processor asks for: 1 to go idle, 2 to run again, 3 a performance state, 4 a throttling state,
+/// 5 a limit of performance states, 6 a limit of throttling states.
 #[repr(C)]
 #[derive(Clone, Copy)]
 pub struct RequestNumbers {

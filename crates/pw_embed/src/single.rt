@@ -17,7 +17,8 @@ use std::alloc::Global;
 /// The most operations of one request.
 const MOST_OF_A_REQUEST: u32 = 256;
 
-/// The coordinator of one caller: a plan, what its processors last asked for, and the operations of the last request.
+/// The coordinator of one caller: a plan, what its processors last asked for, and the operations of the
+/// last request.
 #[derive(Drop)]
 pub struct Single {
     pub plan: Plan,

@@ -7,7 +7,7 @@ use Rattle.pw_script.specs.Reading.{requests_of}
 use Rattle.pw_generate.specs.Loads.{load_lines, load_request}
 use Rattle.pw_generate.specs.Machines.{container_term, cpus_of, from_root, machine_block}
 use Rattle.pw_generate.specs.Names.{container_name, cpu_name}
-use Rattle.aml_terms.specs.declared.term.Term.TheVariants.{Scope}
+use Rattle.aml_block.specs.declared.term.Term.TheVariants.{Scope}
 
 first_round : take 8 (requests_of (load_lines 8))
     ≡ Idle 0 1 any_latency ∷ Perf 1 3 ∷ Perf 2 2 ∷ Idle 3 4 any_latency ∷ Idle 4 3 any_latency ∷ Wake 5 ∷ PerfLimit 6 0 ∷ PerfLimit 7 3 ∷ []

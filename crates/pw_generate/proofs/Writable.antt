@@ -24,12 +24,12 @@ use Rattle.acpi_fields.proofs.Writable.{IsBounded, all_mapped, bounded_32, bound
 use Rattle.acpi_fields.proofs.Writable.{bounded_small, bounded_text, bounded_width, bounded_writable, length-length, wider}
 use Rattle.acpi_idle.specs.Written.{IsEntryMethod, IsLpiState, entry_object, lpi_object, lpi_row_object}
 use Rattle.acpi_perf.specs.Written.{IsDependency, IsPState, control_object, domain_object, pss_object, pss_row_object}
-use Rattle.aml_terms.specs.declared.term.Term.{Term}
-use Rattle.aml_terms.specs.declared.term.Term.TheVariants.{Device, Scope}
-use Rattle.aml_terms.specs.declared.term.Term.TheViews.{outs-Device, outs-Name, outs-Scope}
-use Rattle.aml_terms.specs.Written.{IsWritableTerm, written_term, written_terms}
-use Rattle.aml_terms.proofs.TermLengths.{length-Device, length-Name, length-Scope}
-use Rattle.aml_terms.proofs.WrittenTerms.{each_are}
+use Rattle.aml_block.specs.declared.term.Term.{Term}
+use Rattle.aml_block.specs.declared.term.Term.TheVariants.{Device, Scope}
+use Rattle.aml_block.specs.declared.term.Term.TheViews.{outs-Device, outs-Name, outs-Scope}
+use Rattle.aml_block.specs.WrittenTerms.{IsWritableTerm, written_term, written_terms}
+use Rattle.aml_block.proofs.TermLengths.{length-Device, length-Name, length-Scope}
+use Rattle.aml_block.proofs.WrittenTerms.{each_are}
 use Rattle.aml_block.specs.Written.{IsInRange, IsWritableBlock}
 use Rattle.pw_generate.specs.Machines.{container_objects, container_term, cpu_objects, cpu_term, cpus_of, from_here, from_root, machine_block, named}
 use Rattle.pw_generate.specs.Names.{container_name, cpu_name}
@@ -153,7 +153,8 @@ named_fit depth height most seg v s low few h = record {
 }
 
 -- a device of a name
-device_fit : (depth most few : ℕ) (seg : List ℕ) (ts : List Term) → IsSegment seg → length ts * most ≤ few → AllByRecursion (IsFit depth most) ts → IsFit (depth + 1) (10 + few) (Device (from_here seg) ts)
+device_fit : (depth most few : ℕ) (seg : List ℕ) (ts : List Term) → IsSegment seg → length ts * most ≤ few → AllByRecursion (IsFit depth most) ts
+    → IsFit (depth + 1) (10 + few) (Device (from_here seg) ts)
 device_fit depth most few seg ts s le all = record {
   within =
       let down : depth + 1 - 1 ≡ depth = omega arith in
@@ -263,7 +264,10 @@ machine_writable n le =
     let inner = terms_short 31 101460 containers all in
     let whole = length (written_name path) + length (written_terms containers) in
     record {
-      terms = (rw (outs-Scope path containers) (record { few = omega arith; no_ups = λ e. refl; segments = (_SB, tt) }, each_are 32 containers (omega arith) (each_within 31 101460 containers all)), tt);
+      terms = (
+        rw (outs-Scope path containers) (record { few = omega arith; no_ups = λ e. refl; segments = (_SB, tt) }, each_are 32 containers (omega arith) (each_within 31 101460 containers all)),
+        tt,
+      );
       short = omega (arith, length-append (written_term (Scope path containers)) [], length-Scope path containers, length-length whole);
     }
 

@@ -4,8 +4,8 @@ use Rattle.std.specs.List.{range_with_len}
 use Rattle.aml_data.specs.declared.data.Data.{Data}
 use Rattle.aml_data.specs.declared.data.Data.TheVariants.{Text}
 use Rattle.aml_data.specs.declared.path.Path.{Path}
-use Rattle.aml_terms.specs.declared.term.Term.{Term}
-use Rattle.aml_terms.specs.declared.term.Term.TheVariants.{Name, Scope, Device}
+use Rattle.aml_block.specs.declared.term.Term.{Term}
+use Rattle.aml_block.specs.declared.term.Term.TheVariants.{Name, Scope, Device}
 use Rattle.aml_block.specs.declared.block.Block.{Block}
 use Rattle.acpi_idle.specs.Written.{lpi_object}
 use Rattle.acpi_perf.specs.Written.{control_object, domain_object, pss_object}

@@ -2,7 +2,7 @@ ghost use Rattle.std.specs.Prelude.{◌≡◌, ◌≤◌, ◌<◌, ◌∷◌, []
 ghost use Rattle.std.specs.List.{range_with_len};
 ghost use Rattle.aml_data.specs.declared.data.Data.TheVariants.{Text as string};
 ghost use Rattle.aml_data.specs.Segment.{IsSegment};
-ghost use Rattle.aml_terms.specs.declared.term.Term.TheVariants.{Device as device};
+ghost use Rattle.aml_block.specs.declared.term.Term.TheVariants.{Device as device};
 ghost use Rattle.aml_block.specs.Written.{IsWritableBlock};
 ghost use Rattle.pw_generate.specs.Machines.{container_objects, container_term, cpu_objects, cpu_term};
 ghost use Rattle.pw_generate.specs.Machines.{from_here, from_root, machine_block, named};
@@ -14,9 +14,8 @@ use crate::tables::{
 };
 use acpi_idle::write_lpi;
 use acpi_perf::{write_control, write_dependency, write_pss};
-use aml_block::Block;
+use aml_block::{Block, Term};
 use aml_data::{Data, Path, Seg};
-use aml_terms::Term;
 use pw_base::{CompactList, Memory};
 use std::alloc::Global;
 

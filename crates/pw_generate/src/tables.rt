@@ -113,7 +113,9 @@ fn cpu_lpi_state(
     address: u64,
     name: &[u8],
 ) -> Result<LpiState, Memory>
-    ensures { IfOk result (λ s. s ≡ idle_state min_residency wake_latency parent (by_register (hardware_register address)) name.now) }
+    ensures { IfOk result
+        (λ s. s ≡ idle_state min_residency wake_latency parent (by_register (hardware_register address))
+        name.now) }
 {
     let entry = EntryMethod::Register(own_register(address));
     lpi_state(alloc, min_residency, wake_latency, parent, entry, name)

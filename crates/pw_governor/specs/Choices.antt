@@ -32,7 +32,8 @@ IsLawful t tolerance residency s = (s ≡ 0) ⊎ Suits t tolerance residency s
 -- it answers may be chosen.
 pub record Chooses (pre : Bor IdleTable → ℕ → ℕ → Type 0) (post : Bor IdleTable → ℕ → ℕ → ℕ → Type 0) : Type 0 where
   pub callable : (t : Bor IdleTable) (tolerance residency : ℕ) → tolerance < 2 ^ 32 → residency < 2 ^ 32 → pre t tolerance residency
-  pub lawful : (t : Bor IdleTable) (tolerance residency s : ℕ) → tolerance < 2 ^ 32 → residency < 2 ^ 32 → post t tolerance residency s → IsLawful t.now tolerance residency s
+  pub lawful : (t : Bor IdleTable) (tolerance residency s : ℕ) → tolerance < 2 ^ 32 → residency < 2 ^ 32 → post t tolerance residency s
+      → IsLawful t.now tolerance residency s
 
 -- s is a state that such a function may answer for this table
 abbrev pub ChosenBy : (Bor IdleTable → ℕ → ℕ → ℕ → Type 0) → IdleTable → ℕ → ℕ → ℕ → Type 0
@@ -40,4 +41,5 @@ ChosenBy post t tolerance residency s = (shown : Bor IdleTable) × (shown.now �
 
 -- What it answers is the value of a function, as that of `choice` for one that answers as `deepest` does.
 abbrev pub ChoosesAs : (IdleTable → ℕ → ℕ → ℕ) → (Bor IdleTable → ℕ → ℕ → ℕ → Type 0) → Type 0
-ChoosesAs choose post = (t : Bor IdleTable) (tolerance residency s : ℕ) → tolerance < 2 ^ 32 → residency < 2 ^ 32 → post t tolerance residency s → s ≡ choose t.now tolerance residency
+ChoosesAs choose post = (t : Bor IdleTable) (tolerance residency s : ℕ) → tolerance < 2 ^ 32 → residency < 2 ^ 32
+    → post t tolerance residency s → s ≡ choose t.now tolerance residency

@@ -15,7 +15,7 @@ use Rattle.pw_plan.specs.Parts.{no_row}
 use Rattle.pw_plan.specs.Places.{children_at, container_at, row_at, table_of}
 use Rattle.pw_model.specs.Containers.{all_allow, allows, may_idle}
 use Rattle.pw_model.specs.States.{any_latency, running}
-use Rattle.pw_parts.specs.Holding.{HoldsVotes}
+use Rattle.pw_model.specs.Holding.{HoldsVotes}
 use Rattle.pw_idle.specs.Nodes.{Counts, allows_state, counted, one_if}
 
 module _ (t : Child → Vote → Bool) where

@@ -12,13 +12,13 @@ use Rattle.pw_model.specs.States.{IsProper, any_latency, running}
 use Rattle.pw_model.specs.Containers.{greatest, least_tolerance, may_idle, node_vote, vote_over, container_vote}
 use Rattle.pw_model.specs.declared.state.State.{State}
 use Rattle.pw_model.proofs.Votes.{container_vote-by_children}
-use Rattle.pw_parts.specs.Records.{container, part_of}
-use Rattle.pw_parts.specs.Effects.{votes_in}
+use Rattle.pw_model.specs.Records.{container, part_of}
+use Rattle.pw_model.specs.Effects.{votes_in}
 use Rattle.pw_idle.specs.declared.node.NodeRec.{NodeRec}
 use Rattle.pw_idle.specs.Nodes.{IsNodeOf, node_part}
 use Rattle.pw_model.proofs.Enabling.{vote_over-idles, vote_over-runs, vote_over-state}
 use Rattle.pw_model.proofs.Greatest.{greatest-here, greatest-le}
-use Rattle.pw_parts.specs.Holding.{HoldsVotes, table_at}
+use Rattle.pw_model.specs.Holding.{HoldsVotes, table_at}
 
 module _ (P : Plan) (n : ℕ) where
   pub state_none : (vs : List Vote) → length vs ≡ 0 → 0 ≡ (node_vote P n vs).state

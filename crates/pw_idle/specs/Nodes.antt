@@ -6,9 +6,9 @@ use Rattle.pw_plan.specs.declared.plan.Plan.{Plan}
 use Rattle.pw_plan.specs.Places.{children_at, container_at, row_at, table_of}
 use Rattle.pw_model.specs.declared.state.Vote.{Vote}
 use Rattle.pw_model.specs.Containers.{allows}
-use Rattle.pw_parts.specs.Records.{Part, votes}
-use Rattle.pw_parts.specs.Calls.{node_state}
-use Rattle.pw_parts.specs.Holding.{HoldsVotes}
+use Rattle.pw_model.specs.Records.{Part, votes}
+use Rattle.pw_model.specs.Calls.{node_state}
+use Rattle.pw_model.specs.Holding.{HoldsVotes}
 use Rattle.pw_idle.specs.declared.node.NodeRec.{NodeRec}
 
 -- the part of a state that it holds
@@ -32,7 +32,8 @@ counted test (c ∷ cs) (v ∷ vs) = one_if (test c v) + counted test cs vs
 -- For each state of container n, that of state 1 first: how many of its children, which vote so, allow it.
 pub record Counts (P : Plan) (n : ℕ) (vs : List Vote) (ks : List ℕ) : Type 0 where
   pub rows : length ks ≡ length (rows_of (container_at P n).idle)
-  pub each : (j : ℕ) → j < length (rows_of (container_at P n).idle) → slice_index_or ks j 0 ≡ counted (allows_state P n (j + 1)) (children_at P n) vs
+  pub each : (j : ℕ) → j < length (rows_of (container_at P n).idle)
+      → slice_index_or ks j 0 ≡ counted (allows_state P n (j + 1)) (children_at P n) vs
 
 -- It is the record of container `r.node` of the plan: it holds a vote for each child, how many of them allow each
 -- state, and the state that follows from them.

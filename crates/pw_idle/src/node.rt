@@ -5,10 +5,10 @@ ghost use Rattle.pw_plan.specs.Places.{children_at, container_at, row_at, table_
 ghost use Rattle.pw_model.specs.States.{any_latency, running};
 ghost use Rattle.pw_model.specs.Containers.{allows, greatest, least_tolerance};
 ghost use Rattle.pw_model.specs.Containers.{may_idle, node_vote};
-ghost use Rattle.pw_parts.specs.Calls.{child_state, child_tolerance};
-ghost use Rattle.pw_parts.specs.Calls.{node_state, node_tolerance, opening_part, with_vote};
-ghost use Rattle.pw_parts.specs.Holding.{HoldsVotes, table_at};
-ghost use Rattle.pw_parts.specs.Records.{container};
+ghost use Rattle.pw_model.specs.Calls.{child_state, child_tolerance};
+ghost use Rattle.pw_model.specs.Calls.{node_state, node_tolerance, opening_part, with_vote};
+ghost use Rattle.pw_model.specs.Holding.{HoldsVotes, table_at};
+ghost use Rattle.pw_model.specs.Records.{container};
 ghost use Rattle.pw_idle.specs.Nodes.{Counts, IsNodeOf, node_part, one_if};
 
 use acpi_values::{IdleRow, IdleTable};
@@ -46,7 +46,8 @@ fn allows(table: &IdleTable, vote: Vote, state: u8, latency: u32) -> bool
 fn table_of(plan: &Plan, node: u32, place: usize) -> &IdleTable
     requires node { node < length plan.now.containers }
     requires place { place < length (children_at plan.now node) }
-    ensures { result.now ≡ table_of plan.now (slice_index_or (children_at plan.now node) place (Child.Cpu 0)) }
+    ensures { result.now
+        ≡ table_of plan.now (slice_index_or (children_at plan.now node) place (Child.Cpu 0)) }
 {
     match plan.children_of(node)[place] {
         Child::Cpu(cpu) => &plan.cpu(cpu).idle,
@@ -190,14 +191,16 @@ impl NodeRec {
 
     /// The container's state.
     pub fn state(&self) -> u8
-        ensures { (P : Plan) → IsNodeOf P self.now → result ≡ node_state P self.now.node (node_part self.now) }
+        ensures { (P : Plan) → IsNodeOf P self.now
+            → result ≡ node_state P self.now.node (node_part self.now) }
     {
         self.state
     }
 
     /// The wake latency that the container bears.
     pub fn tolerance(&self) -> u32
-        ensures { (P : Plan) → IsNodeOf P self.now → result ≡ node_tolerance P self.now.node (node_part self.now) }
+        ensures { (P : Plan) → IsNodeOf P self.now
+            → result ≡ node_tolerance P self.now.node (node_part self.now) }
     {
         if self.state == 0 {
             return u32::MAX;
@@ -233,7 +236,8 @@ impl NodeRec {
         requires tolerance { state ≡ 0 → tolerance ≡ any_latency }
         ensures of { IsNodeOf plan.now self.new }
         ensures node { self.new.node ≡ self.old.node }
-        ensures part { node_part self.new ≡ with_vote child (record { state = state; tolerance = tolerance }) (node_part self.old) }
+        ensures part { node_part self.new ≡ with_vote child (record { state = state; tolerance = tolerance })
+            (node_part self.old) }
         ensures state { result ≡ node_state plan.now self.new.node (node_part self.new) }
     {
         let place = child as usize;

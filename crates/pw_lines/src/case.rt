@@ -3,7 +3,7 @@ use std::alloc::Global;
 
 /// What is told of how a script is read: nothing but a refusal, each line, or how many.
 #[derive(Clone, Copy)]
-pub enum Reading {
+pub(crate) enum Reading {
     Nothing,
     Lines,
     Count,
@@ -11,7 +11,7 @@ pub enum Reading {
 
 /// What is told of a history: nothing, its lines, or how many bytes they are.
 #[derive(Clone, Copy)]
-pub enum Printing {
+pub(crate) enum Printing {
     Nothing,
     Lines,
     Length,
@@ -19,7 +19,7 @@ pub enum Printing {
 
 /// A script, the functions that it is read with, and what must be told.
 #[derive(Drop)]
-pub struct Case {
+pub(crate) struct Case {
     pub script: Vec<u8>,
     pub functions: Functions,
     pub reading: Reading,
@@ -33,7 +33,7 @@ pub struct Case {
 }
 
 impl Case {
-    pub fn new(alloc: Global) -> Case {
+    pub(crate) fn new(alloc: Global) -> Case {
         Case {
             script: Vec::new(alloc),
             functions: Functions {
@@ -50,7 +50,7 @@ impl Case {
     }
 
     /// Reads a line of a case.
-    pub fn read(&mut self, alloc: Global, line: &str) -> Option<()> {
+    pub(crate) fn read(&mut self, alloc: Global, line: &str) -> Option<()> {
         let (key, rest) = line.split_once(" ").unwrap_or((line, ""));
         match key {
             "" | "#" => Some(()),

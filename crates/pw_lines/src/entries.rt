@@ -46,7 +46,7 @@ fn entry_of(plan: &Plan, request: Request, fault: u32) -> Option<HistoryEntry>
 
 #[tactic(auto, using(pw_plan::proofs::Lists::each_append))]
 /// The entries of lines that were made in their order, the last with this fault.
-pub fn entries_of(
+pub(crate) fn entries_of(
     alloc: Global,
     plan: &Plan,
     lines: &[Line],

@@ -113,7 +113,7 @@ fn whole_text(alloc: Global, printing: Printing, whole: &[u8]) -> Option<String>
 }
 
 /// What is told of the text of a history, or of an opening that a fault ended.
-pub fn history_text(
+pub(crate) fn history_text(
     alloc: Global,
     plan: &Plan,
     opening: Option<u32>,

@@ -110,8 +110,8 @@ fn are_known(parts: &str) -> bool {
     true
 }
 
-/// The path of the part `path`, as `\_SB_.CPUA`. Without one it is a path of one segment, which is another for
-/// each number below 676.
+/// The path of the part `path`, as `\_SB_.CPUA`. Without one it is a path of one segment, which is
+/// another for each number below 676.
 fn path_of(alloc: Global, number: u32, parts: &str) -> Option<FullPath> {
     for part in parts.split(BAR) {
         if let Some(name) = part.strip_prefix("path \\") {
@@ -318,7 +318,7 @@ fn dependency_at(words: &[&str], at: usize) -> Option<Option<Dependency>> {
 }
 
 /// The plan of the machine whose lines stand behind its name.
-pub fn plan_of(alloc: Global, lines: &str) -> Option<Plan> {
+pub(crate) fn plan_of(alloc: Global, lines: &str) -> Option<Plan> {
     let mut machine = Machine::new(alloc);
     for line in lines.lines().skip(1) {
         if !line.is_empty() && !line.starts_with("#") {

@@ -1,7 +1,7 @@
-//! Scripts, and the histories that come of them. `data/scripts.txt` lists them: for each machine its containers and
-//! processors, and cases. A case has lines of a script, the functions that it is read with, the requests that its
-//! lines must become or why it must be refused, and the text of the history that must come. One line a case says
-//! whether it came out so.
+//! Scripts, and the histories that come of them. `data/scripts.txt` lists them: for each machine its
+//! containers and processors, and cases. A case has lines of a script, the functions that it is read
+//! with, the requests that its lines must become or why it must be refused, and the text of the history
+//! that must come. One line a case says whether it came out so.
 #![tactic(auto)]
 
 mod case;

@@ -54,7 +54,7 @@ fn told(alloc: Global, plan: &Plan, case: &Case, lines: &str) -> Option<String> 
 }
 
 /// What comes of the lines of a case: `as it must be`, or what else.
-pub fn came(alloc: Global, plan: &Plan, lines: &str) -> Option<String> {
+pub(crate) fn came(alloc: Global, plan: &Plan, lines: &str) -> Option<String> {
     let mut case = Case::new(alloc);
     for line in lines.lines() {
         case.read(alloc, line)?;

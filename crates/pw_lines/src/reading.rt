@@ -9,27 +9,28 @@ use std::alloc::Global;
 
 /// A function that answers limits.
 #[derive(Clone, Copy)]
-pub enum Handler {
+pub(crate) enum Handler {
     Follow,
     Step,
 }
 
 /// A function that chooses idle states.
 #[derive(Clone, Copy)]
-pub enum Choice {
+pub(crate) enum Choice {
     Deepest,
     Nothing,
 }
 
 /// The functions that a script is read with.
 #[derive(Clone, Copy)]
-pub struct Functions {
+pub(crate) struct Functions {
     pub choice: Choice,
     pub perf: Handler,
     pub throttle: Handler,
 }
 
-// A function of another crate is passed in a closure, since its contract can't be seen where it is named alone.
+// A function of another crate is passed in a closure, since its contract can't be seen where it is named
+// alone.
 
 /// What the bytes are read as, with these handlers and what this choice answers.
 fn parse_by<P: Fn(u32, u32, u32) -> u32, T: Fn(u32, u32, u32) -> u32>(
@@ -84,7 +85,7 @@ fn parse_on<P: Fn(u32, u32, u32) -> u32>(
 }
 
 /// What the bytes are read as, with these functions.
-pub fn parse_with(
+pub(crate) fn parse_with(
     alloc: Global,
     bytes: &[u8],
     plan: &Plan,

@@ -3,7 +3,7 @@ use pw_script::{Line, LineWhy, ScriptFault};
 use std::alloc::Global;
 
 /// Lines that ask for something, as `asks 2 idle 0 3 60`.
-pub fn lines_text(alloc: Global, lines: &[Line]) -> Option<String> {
+pub(crate) fn lines_text(alloc: Global, lines: &[Line]) -> Option<String> {
     let mut text = String::new(alloc);
     for line in lines {
         text.push_str(line_text(alloc, line)?.as_str()).ok()?;
@@ -34,7 +34,7 @@ fn request_text(alloc: Global, request: Request) -> Option<String> {
 }
 
 /// Why bytes are no script.
-pub fn fault_text(alloc: Global, fault: ScriptFault) -> Option<String> {
+pub(crate) fn fault_text(alloc: Global, fault: ScriptFault) -> Option<String> {
     match fault {
         ScriptFault::TooLong { bound } => format!(in alloc; "script: longer than {bound}\n").ok(),
         ScriptFault::Line { number, why } => {
@@ -50,7 +50,7 @@ pub fn fault_text(alloc: Global, fault: ScriptFault) -> Option<String> {
 }
 
 /// Each line behind `out`.
-pub fn out_text(alloc: Global, printed: &[u8]) -> Option<String> {
+pub(crate) fn out_text(alloc: Global, printed: &[u8]) -> Option<String> {
     let printed = String::from_utf8_lossy(alloc, printed).ok()?;
     let mut text = String::new(alloc);
     for line in printed.as_str().split_inclusive("\n") {

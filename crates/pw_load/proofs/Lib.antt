@@ -1,2 +1,4 @@
 pub mod Sent
 pub mod Stopping
+pub mod Completeness
+pub mod Outcomes

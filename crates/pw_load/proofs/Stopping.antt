@@ -6,12 +6,12 @@ use Rattle.acpi_build.specs.declared.fault.BuildFault.{BuildFault}
 use Rattle.acpi_build.specs.declared.fault.BuildFault.TheVariants.{Object, Limit, Memory as no_memory}
 use Rattle.acpi_build.specs.Building.{IsFault}
 use Rattle.acpi_build.specs.Planning.{parts_within}
-use Rattle.pw_blocks.specs.declared.fault.BlocksFault.{BlocksFault}
-use Rattle.pw_blocks.specs.declared.fault.BlocksFault.TheVariants.{Block as in_block, Large, ReadFault, Memory}
-use Rattle.pw_blocks.specs.Held.{IsCauseOf, IsOwn, RoseIfUnread}
+use Rattle.aml_block.specs.declared.blocks_fault.BlocksFault.{BlocksFault}
+use Rattle.aml_block.specs.declared.blocks_fault.BlocksFault.TheVariants.{Block as in_block, Large, ReadFault, Memory}
+use Rattle.aml_block.specs.Held.{IsCauseOf, IsOwn, RoseIfUnread}
 use Rattle.pw_check.specs.Refusals.{refusal_line}
-use Rattle.pw_ends.specs.Ends.{Stops}
-use Rattle.pw_ends.specs.Ends.Stops.{refused, unread, without_memory}
+use Rattle.pw_load.specs.Ends.{Stops}
+use Rattle.pw_load.specs.Ends.Stops.{refused, unread, without_memory}
 use Rattle.pw_load.specs.Lines.{blocks_line}
 use Rattle.pw_load.specs.Steps.{fault_status, loading, plan_status, planning}
 

@@ -1,2 +1,4 @@
 pub mod Lines
 pub mod Steps
+pub mod Seen
+pub mod Ends

@@ -6,8 +6,8 @@ use Rattle.aml_block.specs.declared.fault.HeaderFault.{HeaderFault}
 use Rattle.aml_block.specs.declared.fault.HeaderFault.TheVariants as header_faults
 use Rattle.aml_block.specs.declared.fault.BlockFault.{BlockFault}
 use Rattle.aml_block.specs.declared.fault.BlockFault.TheVariants as block_faults
-use Rattle.pw_blocks.specs.declared.fault.BlocksFault.{BlocksFault}
-use Rattle.pw_blocks.specs.declared.fault.BlocksFault.TheVariants as blocks_faults
+use Rattle.aml_block.specs.declared.blocks_fault.BlocksFault.{BlocksFault}
+use Rattle.aml_block.specs.declared.blocks_fault.BlocksFault.TheVariants as blocks_faults
 use Rattle.pw_text.specs.Text.{hex_text, place_text}
 
 -- what is wrong with a header

@@ -10,10 +10,10 @@ use Rattle.acpi_build.specs.declared.fault.BuildFault.{BuildFault}
 use Rattle.acpi_build.specs.declared.fault.BuildFault.TheVariants.{Object, Limit, Memory as no_memory}
 use Rattle.acpi_build.specs.Planning.{parts_within}
 use Rattle.pw_check.specs.Refusals.{refusal_line}
-use Rattle.pw_blocks.specs.declared.fault.BlocksFault.{BlocksFault}
-use Rattle.pw_blocks.specs.declared.fault.BlocksFault.TheVariants.{ReadFault, Memory}
-use Rattle.pw_blocks.specs.Held.{FailFirst, HoldBefore, HoldBlocks, IsOwn, IsUnread}
-use Rattle.pw_ends.specs.Ends.{Work}
+use Rattle.aml_block.specs.declared.blocks_fault.BlocksFault.{BlocksFault}
+use Rattle.aml_block.specs.declared.blocks_fault.BlocksFault.TheVariants.{ReadFault, Memory}
+use Rattle.aml_block.specs.Held.{FailFirst, HoldBefore, HoldBlocks, IsOwn, IsUnread}
+use Rattle.pw_load.specs.Ends.{Work}
 use Rattle.pw_load.specs.Lines.{blocks_line, twice_line}
 
 -- # Files to blocks

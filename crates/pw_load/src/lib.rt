@@ -2,13 +2,15 @@
 //! Each step says why it fails, and the status.
 #![tactic(auto)]
 
+mod ending;
 mod lines;
 mod loading;
 mod placing;
 mod planning;
 mod refusal;
-mod say;
+mod saying;
 
+pub use ending::{printed, say, unread, unwritten, without_memory};
 pub use loading::load;
 pub use placing::place;
 pub use planning::make_plan;

@@ -2,14 +2,13 @@ ghost use Rattle.std.specs.Prelude.{◌≡◌, [], All, IfErr, IfOk, OnOk};
 ghost use Rattle.pw_base.specs.Outside.{KeepsFiles, KeepsSink};
 ghost use Rattle.pw_base.specs.Seen.{files_seen, sink_seen};
 ghost use Rattle.aml_block.specs.Written.{IsWritableBlock};
-ghost use Rattle.pw_blocks.specs.Held.{names_of};
-ghost use Rattle.pw_ends.specs.Ends.{Stopped};
+ghost use Rattle.aml_block.specs.Held.{names_of};
+ghost use Rattle.pw_load.specs.Ends.{Stopped};
 ghost use Rattle.pw_load.specs.Steps.{loading, AreHeldBy};
 
 use crate::refusal::refuse;
-use aml_block::Block;
+use aml_block::{Block, read_blocks};
 use pw_base::{Files, Sink};
-use pw_blocks::read_blocks;
 use pw_text::Page;
 use std::alloc::Global;
 

@@ -3,14 +3,14 @@ ghost use Rattle.pw_base.specs.Outside.{KeepsSink};
 ghost use Rattle.pw_base.specs.Seen.{sink_seen};
 ghost use Rattle.acpi_space.specs.Distinct.{IsDistinct};
 ghost use Rattle.acpi_space.specs.Namespace.{entries_in, places_of};
-ghost use Rattle.pw_ends.specs.Ends.{Stopped};
+ghost use Rattle.pw_load.specs.Ends.{Stopped};
 ghost use Rattle.pw_load.specs.Steps.{placing};
 
-use crate::say::say_twice;
+use crate::saying::say_twice;
+use crate::without_memory;
 use acpi_space::{Space, SpaceFault};
 use aml_block::Block;
 use pw_base::Sink;
-use pw_ends::without_memory;
 use pw_text::Page;
 use std::alloc::Global;
 

@@ -3,7 +3,7 @@ ghost use Rattle.pw_base.specs.Outside.{KeepsSink};
 ghost use Rattle.pw_base.specs.Seen.{sink_seen};
 ghost use Rattle.acpi_build.specs.Planning.{IsPlanFrom};
 ghost use Rattle.acpi_build.specs.Tables.{AreCountable};
-ghost use Rattle.pw_ends.specs.Ends.{Stopped};
+ghost use Rattle.pw_load.specs.Ends.{Stopped};
 ghost use Rattle.pw_load.specs.Steps.{planning};
 
 use crate::refusal::refuse_plan;

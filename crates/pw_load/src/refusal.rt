@@ -5,11 +5,11 @@ ghost use Rattle.pw_check.specs.Refusals.{refusal_line};
 ghost use Rattle.pw_load.specs.Lines.{blocks_line};
 ghost use Rattle.pw_load.specs.Steps.{fault_status, plan_status};
 
-use crate::say::{say_fault, say_refusal};
+use crate::saying::{say_fault, say_refusal};
+use crate::{say, unread, without_memory};
 use acpi_build::BuildFault;
+use aml_block::BlocksFault;
 use pw_base::Sink;
-use pw_blocks::BlocksFault;
-use pw_ends::{say, unread, without_memory};
 use pw_text::Page;
 
 /// Says why objects make no plan, by way of an empty page, and the status.

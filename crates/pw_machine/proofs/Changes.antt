@@ -3,7 +3,7 @@ use Rattle.std.proofs.Common.{◌≡◌, ◌≢◌, ⊎_elim, ℕ, ◌+◌, ◌<
 use mathlib.Core.Option.{some}
 use lib.ListN.{get_elem?}
 use Rattle.acpi_values.specs.declared.operation.Op.{Op}
-use Rattle.pw_parts.specs.Records.{Part}
+use Rattle.pw_model.specs.Records.{Part}
 use Rattle.pw_plan.specs.declared.plan.Plan.{Plan}
 use Rattle.pw_machine.specs.declared.view.View.{View}
 use Rattle.pw_books.specs.Books.{count_in}
@@ -19,7 +19,12 @@ at_most_more (Some k) a b le h = omega (arith, h)
 
 pub notes_more : (made made2 count count2 : ℕ) (first second read : Option ℕ) → made ≤ made2 → count ≤ count2
     → NotesWithin made count first second read → NotesWithin made2 count2 first second read
-notes_more made made2 count count2 first second read a b n = record { at_take = at_most_more first count count2 b n.at_take; at_release = at_most_more second count count2 b n.at_release; at_read = at_most_more read made made2 a n.at_read }
+notes_more made made2 count count2 first second read a b n = record {
+  at_take = at_most_more first count count2 b n.at_take;
+  at_release = at_most_more second count count2 b n.at_release;
+  at_read =
+      at_most_more read made made2 a n.at_read;
+}
 
 -- the turns stay with those who have them
 pub turns_stay : (P : Plan) (turns : List ℕ) (journal : ℕ) (views : List View) → HasTurns P turns journal views → (j : ℕ) (v w : View)

@@ -8,8 +8,8 @@ use Rattle.pw_model.specs.declared.entry.HistoryEntry.{HistoryEntry}
 use Rattle.pw_model.specs.History.{MayFollow, replay, request_of}
 use Rattle.pw_plan.specs.declared.plan.Plan.{Plan}
 use Rattle.pw_model.specs.declared.state.State.{State}
-use Rattle.pw_parts.specs.Records.{Part, record_count}
-use Rattle.pw_parts.specs.Routes.{route}
+use Rattle.pw_model.specs.Records.{Part, record_count}
+use Rattle.pw_model.specs.Routes.{route}
 use Rattle.pw_machine.specs.declared.view.Held.{Held}
 use Rattle.pw_machine.specs.declared.view.View.{View}
 use Rattle.pw_machine.specs.Turns.{StartsWith, count_turn, part_at, way}
@@ -67,7 +67,18 @@ gathers (t ∷ rest) m i j v at q a e clear =
     let apart = way_apart P (now m) q (turns_of v.held ++ t ∷ []) rest r a.of_plan begins.1 more in
     get_or-set_other m.turns t r (suc v.number) 0 (λ same. omega (arith, apart, count_turn-append r (turns_of v.held) (t ∷ []), one t r (sym same))) ∙ clear r (omega (arith, more)) in
     let g = gathers rest n (step_keeps m j v (take_record t q x) i at may) j w l.there q asks later still in
-    record { end = g.end; held = g.held; request = g.request; leads = leads_on m n g.end j w (record w { held = g.held; request = g.request }) l g.leads; history = g.history; asked = g.asked; whole = g.whole; journal = g.journal; few = omega (arith, g.few, length-append v.held (held_as t x ∷ [])) }
+    record {
+      end = g.end;
+      held = g.held;
+      request = g.request;
+      leads = leads_on m n g.end j w (record w { held = g.held; request = g.request }) l g.leads;
+      history = g.history;
+      asked = g.asked;
+      whole =
+          g.whole;
+      journal = g.journal;
+      few = omega (arith, g.few, length-append v.held (held_as t x ∷ []));
+    }
 
 -- # Its entry
 
@@ -116,7 +127,15 @@ enters m i j v at free q a whole out e asks seat follows room =
     let u = left_with (renoted P (replay P (m.history ++ e ∷ [])) v.held) (written m.history e m.count q v) in
     let seen : u ≡ entered P (replay P (m.history ++ e ∷ [])) e (m.count + 1) w = refl in
     let o = once n j w u k l.there (enter_asks m v q e out asks seat follows room n refl refl) refl refl in
-    record { end = after n j w k; held = renoted P (replay P (m.history ++ e ∷ [])) v.held; leads = leads_on m n (after n j w k) j w u l o; history = refl; few = refl; same = renoted_length P (replay P (m.history ++ e ∷ [])) v.held }
+    record {
+      end = after n j w k;
+      held = renoted P (replay P (m.history ++ e ∷ [])) v.held;
+      leads = leads_on m n (after n j w k) j w u l o;
+      history = refl;
+      few = refl;
+      same =
+          renoted_length P (replay P (m.history ++ e ∷ [])) v.held;
+    }
 
 -- # All turns back
 
@@ -173,7 +192,8 @@ turns_length (h ∷ hs) = omega (arith, turns_length hs)
 held_in_all : (end m : Machine) (held : List Held) (q : Request) → end.given ≡ m.given → end.history ≡ m.history
     → turns_of held ≡ way end.given.plan (now end) q → length held ≡ length (way m.given.plan (now m) q)
 held_in_all end m held q given history whole =
-    sym (turns_length held) ∙ (ap (length {A = ℕ}) whole ∙ (ap (λ (g : Given). length (way g.plan (replay g.plan end.history) q)) given ∙ ap (λ h. length (way m.given.plan (replay m.given.plan h) q)) history))
+    sym (turns_length held) ∙ (ap (length {A = ℕ}) whole ∙ (ap (λ (g : Given). length (way g.plan (replay g.plan end.history) q)) given ∙ ap
+    (λ h. length (way m.given.plan (replay m.given.plan h) q)) history))
 
 route_length : (P : Plan) (S : State) (q r : Request) → r ≡ q → length (route P S r) ≡ length (way P S q) + 1
 route_length P S q r e = ap (λ x. length (route P S x)) e ∙ (ap (length {A = ℕ}) (route_is P S q) ∙ length-append (way P S q) (record_count P ∷ []))
@@ -200,7 +220,15 @@ pub answers : (m : Machine) → Invariant m → (j : ℕ) (v : View) → get_ele
 answers m i j v at q a rest is clear free out e asks seat follows room =
     let g = gathers rest m i j v at q a is clear in
     let u : View = record v { held = g.held; request = g.request } in
-    let a2 : Asks g.end.given.plan u q = record { of_plan = subst (λ (x : Given). Has x.plan q) (sym g.leads.given) a.of_plan; live = a.live; unmarked = a.unmarked; before = a.before; no_journal = a.no_journal; request = g.asked } in
+    let a2 : Asks g.end.given.plan u q = record {
+      of_plan = subst (λ (x : Given). Has x.plan q) (sym g.leads.given) a.of_plan;
+      live = a.live;
+      unmarked = a.unmarked;
+      before = a.before;
+      no_journal =
+          a.no_journal;
+      request = g.asked;
+    } in
     let follows2 = subst (λ (x : Given). MayFollow x.plan g.end.history e) (sym g.leads.given) (subst (λ h. MayFollow m.given.plan h e) (sym g.history) follows) in
     let room2 : length g.end.history < g.end.given.capacity = omega (arith, room, ap (length {A = HistoryEntry}) g.history, ap (λ (x : Given). x.capacity) g.leads.given) in
     let i2 = path_keeps m g.leads.path.0 g.end i g.leads.path.1 in
@@ -220,7 +248,8 @@ answers m i j v at q a rest is clear free out e asks seat follows room =
       meets = refl;
       met = refl;
       seen = ap (λ h. h ++ e ∷ []) g.history;
-      few = few_in_all (length g.leads.path.0) (length n.leads.path.0) (length r.leads.path.0) (length v.held) (length g.held) (length n.held) (length (way m.given.plan (now m) q)) (length (route m.given.plan (now m) (request_of e)))
+      few = few_in_all (length g.leads.path.0) (length n.leads.path.0) (length r.leads.path.0) (length v.held) (length g.held) (length n.held) (length (way m.given.plan (now m) q))
+          (length (route m.given.plan (now m) (request_of e)))
           _ (length-append g.leads.path.0 (n.leads.path.0 ++ r.leads.path.0) ∙ ap (λ x. length g.leads.path.0 + x) (length-append n.leads.path.0 r.leads.path.0)) g.few n.few r.few n.same
           (held_in_all g.end m g.held q g.leads.given g.history g.whole) (route_length m.given.plan (now m) q (request_of e) asks);
     }

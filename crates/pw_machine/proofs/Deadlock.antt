@@ -4,10 +4,10 @@ use mathlib.Core.Option.{some}
 use mathlib.Core.Logic.{dite}
 use native.Mathlib.Decide.{ℕ_discrete}
 use lib.ListN.{get_elem?}
-use Rattle.pw_parts.specs.Records.{Part}
+use Rattle.pw_model.specs.Records.{Part}
 use Rattle.pw_plan.specs.declared.request.Request.{Request}
 use Rattle.pw_machine.specs.Turns.{count_turn, StartsWith}
-use Rattle.pw_parts.specs.Records.{record_count}
+use Rattle.pw_model.specs.Records.{record_count}
 use Rattle.pw_machine.specs.Turns.{part_at, way}
 use Rattle.pw_machine.proofs.Plans.{height, tallest}
 use Rattle.pw_machine.proofs.Plans.{ends_route, height_below, on_route, way_rises, way_within}
@@ -45,13 +45,23 @@ module _ (m : Machine) (i : Invariant m) where
   frees : (k : ℕ) (u : View) → get_elem? m.views k ≡ some u → (t : ℕ) → 0 < count_held t u.held
       → ((x : Part) × May m k u (release_record t x)) ⊎ (0 < count_turn t u.out) → CanGoOn m
   frees k u there t more may = ⊎_elim
-      (λ (r : (x : Part) × May m k u (release_record t x)). record { place = k; view = u; kind = release_record t r.0; there = there; holds_turn = inl (some_held t u.held more); goes_on = tt; may = r.1 })
+      (λ (r : (x : Part) × May m k u (release_record t x)). record {
+        place = k;
+        view = u;
+        kind = release_record t r.0;
+        there = there;
+        holds_turn = inl (some_held t u.held more);
+        goes_on = tt;
+        may =
+            r.1;
+      })
       (λ (out : 0 < count_turn t u.out). record { place = k; view = u; kind = record_back t; there = there; holds_turn = inl (some_held t u.held more); goes_on = tt; may = (more, out) })
       may
 
   -- while open runs, each record can be released
   marked_frees : (k : ℕ) (u : View) → get_elem? m.views k ≡ some u → u.mark ≡ true → (t : ℕ) → 0 < count_held t u.held → CanGoOn m
-  marked_frees k u there mark t more = frees k u there t more (⊎_elim (λ (e : 0 < count_turn t u.out). inr e) (λ (e : count_turn t u.out ≡ 0). inl (part_at m.given.plan t (now m), (inr (mark, more, refl), e))) (either_out t u.out))
+  marked_frees k u there mark t more = frees k u there t more (⊎_elim (λ (e : 0 < count_turn t u.out). inr e)
+      (λ (e : count_turn t u.out ≡ 0). inl (part_at m.given.plan t (now m), (inr (mark, more, refl), e))) (either_out t u.out))
 
   -- who holds the journal can release it, or what it has to release before
   leader_goes : (k : ℕ) (u : View) → get_elem? m.views k ≡ some u → u.leads ≡ true → CanGoOn m
@@ -74,7 +84,8 @@ module _ (m : Machine) (i : Invariant m) where
   record_goes : (fuel t : ℕ) → t < record_count m.given.plan → tallest m.given.plan ≤ height m.given.plan t + fuel → get_or m.turns t 0 ≢ 0
       → CanGoOn m
   record_goes zero t low near ne = absurd (omega (arith, near, height_below m.given.plan t))
-  record_goes (suc fuel) t low near ne = let r = holder (get_or m.turns t 0) (holds t) m.views (i.turns.holders t low) ne in holds_it r.0 r.1 r.2 r.3 (λ t2 low2 up ne2. record_goes fuel t2 low2 (omega (arith, near, up)) ne2)
+  record_goes (suc fuel) t low near ne = let r = holder (get_or m.turns t 0) (holds t) m.views (i.turns.holders t low) ne in holds_it r.0 r.1 r.2 r.3
+      (λ t2 low2 up ne2. record_goes fuel t2 low2 (omega (arith, near, up)) ne2)
     where
       holds_it : (k : ℕ) (u : View) → get_elem? m.views k ≡ some u → 0 < count_held t u.held
           → ((t2 : ℕ) → t2 < record_count m.given.plan → height m.given.plan t < height m.given.plan t2 → get_or m.turns t2 0 ≢ 0 → CanGoOn m) → CanGoOn m
@@ -83,18 +94,21 @@ module _ (m : Machine) (i : Invariant m) where
           (λ (unmarked : u.mark ≡ false). ⊎_elim
           (λ (h : u.leads ≡ true). leader_goes k u there h)
           (λ (h : u.leads ≡ false). ⊎_elim
-          (λ (rel : u.releasing ≡ true). frees k u there t more (⊎_elim (λ (e : 0 < count_turn t u.out). inr e) (λ (e : count_turn t u.out ≡ 0). let x = held_noted t u.held more in inl (x.0, (inl (rel, x.1), e))) (either_out t u.out)))
+          (λ (rel : u.releasing ≡ true). frees k u there t more (⊎_elim (λ (e : 0 < count_turn t u.out). inr e) (λ (e : count_turn t u.out ≡ 0). let x = held_noted t u.held more
+          in inl (x.0, (inl (rel, x.1), e))) (either_out t u.out)))
           (λ (before : u.releasing ≡ false). ⊎_elim
           (λ (none : u.request ≡ None). absurd (omega (arith, more, ap (count_held t) (((i.fits k u there).serves unmarked).rests none).0)))
           (λ (q : (q : Request) × (u.request ≡ Some q)). let g = (i.fits k u there).serves unmarked in
-          asks q.0 record { of_plan = g.of_plan q.0 q.1; live = live_held m i k u there t more; unmarked = unmarked; before = before; no_journal = h; request = inr q.1 } (g.before q.0 q.1 before).0 (g.before q.0 q.1 before).1)
+          asks q.0 record { of_plan = g.of_plan q.0 q.1; live = live_held m i k u there t more; unmarked = unmarked; before = before; no_journal = h; request = inr q.1 } (g.before q.0 q.1 before).0
+          (g.before q.0 q.1 before).1)
           (either_request u.request))
           (either_is u.releasing))
           (either_is u.leads))
           (either_is u.mark)
         where
           asks : (q : Request) → Asks m.given.plan u q → (rest : List ℕ) → way m.given.plan (now m) q ≡ turns_of u.held ++ rest → CanGoOn m
-          asks q a [] e = let all : turns_of u.held ≡ way m.given.plan (now m) q = sym (e ∙ append-nil (turns_of u.held)) in let last : IsNext m u q (record_count m.given.plan) = ends_route m.given.plan (now m) q (turns_of u.held) all in
+          asks q a [] e = let all : turns_of u.held ≡ way m.given.plan (now m) q = sym (e ∙ append-nil (turns_of u.held)) in let last : IsNext m u q (record_count m.given.plan) =
+              ends_route m.given.plan (now m) q (turns_of u.held) all in
               dite (ℕ_discrete m.journal 0)
               (λ free. record { place = k; view = u; kind = take_journal q; there = there; holds_turn = inl (some_held t u.held more); goes_on = tt; may = (a, last, free) })
               (λ taken. journal_goes taken)
@@ -103,7 +117,16 @@ module _ (m : Machine) (i : Invariant m) where
               let comes : IsNext m u q t2 = on_route m.given.plan (now m) q (turns_of u.held ++ t2 ∷ []) next_one in
               let low2 : t2 < record_count m.given.plan = way_within m.given.plan (now m) q t2 a.of_plan (next_in (way m.given.plan (now m) q) (turns_of u.held) t2 next_one) in
               dite (ℕ_discrete (get_or m.turns t2 0) 0)
-              (λ free. record { place = k; view = u; kind = take_record t2 q (part_at m.given.plan t2 (now m)); there = there; holds_turn = inl (some_held t u.held more); goes_on = tt; may = (a, comes, free, i.values.free t2 low2 free) })
+              (λ free. record {
+                place = k;
+                view = u;
+                kind = take_record t2 q (part_at m.given.plan t2 (now m));
+                there = there;
+                holds_turn = inl (some_held t u.held more);
+                goes_on = tt;
+                may =
+                    (a, comes, free, i.values.free t2 low2 free);
+              })
               (λ taken. next t2 low2 (way_rises m.given.plan (now m) q (turns_of u.held) t2 a.of_plan next_one t (omega (arith, count-turns t u.held, more))) taken)
 
   -- where a step would wait, another seat can go on

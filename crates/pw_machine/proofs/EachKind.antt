@@ -20,8 +20,8 @@ use Rattle.pw_model.specs.History.{Faultless, entry_of}
 use Rattle.pw_model.specs.Refusals.{fixed_refusal, is_absent, refuse_if, unfit_refusal, ◌or_else◌}
 use Rattle.pw_model.specs.declared.reply.Reply.TheVariants.{Disabled, NoState, NoTable, TooSlow}
 use Rattle.pw_model.proofs.Joining.{request_of-entry}
-use Rattle.pw_parts.specs.Records.{Part, footprint, record_count, records_among, runs_in_both, through}
-use Rattle.pw_parts.specs.Routes.{numbers}
+use Rattle.pw_model.specs.Records.{Part, footprint, record_count, records_among, runs_in_both, through}
+use Rattle.pw_model.specs.Routes.{numbers}
 use Rattle.pw_machine.specs.declared.view.View.{View}
 use Rattle.pw_machine.specs.Turns.{StartsWith, count_turn, part_at, way}
 use Rattle.pw_machine.specs.Machine.{Given, Machine, Invariant, count_held, now, turns_of}
@@ -42,7 +42,8 @@ use Rattle.pw_machine.proofs.Meeting.{begins_in, entry_seat, first_named, first_
 -- # A request that takes no record
 
 refused : (P : Plan) (p : ℕ) → (x : Reply) × (fixed_refusal P (Idle p 0 0) ≡ Some x)
-refused P p = step (refuse_if (is_absent (cpu_at P p).idle.kind) NoTable) (unfit_refusal P p) (NoState (length (rows_of (cpu_at P p).idle))) (refuse_if (not (row_at (cpu_at P p).idle 0).enabled) Disabled or_else refuse_if (nat_lt 0 (row_at (cpu_at P p).idle 0).latency) (TooSlow (row_at (cpu_at P p).idle 0).latency))
+refused P p = step (refuse_if (is_absent (cpu_at P p).idle.kind) NoTable) (unfit_refusal P p) (NoState (length (rows_of (cpu_at P p).idle)))
+    (refuse_if (not (row_at (cpu_at P p).idle 0).enabled) Disabled or_else refuse_if (nat_lt 0 (row_at (cpu_at P p).idle 0).latency) (TooSlow (row_at (cpu_at P p).idle 0).latency))
   where
     step : (a b : Option Reply) (c : Reply) (rest : Option Reply) → (x : Reply) × ((a or_else (b or_else (Some c or_else rest))) ≡ Some x)
     step (Some r) b c rest = (r, refl)
@@ -115,8 +116,10 @@ module _ (given : Given) (values : List Part) (sized : length values ≡ record_
         let drew : View = drawn m.made b in
         let m2 = after m1 1 b draw_number in
         let w2 : get_elem? m2.views 0 ≡ some w = set_else m1.views 1 0 drew zero_one ∙ set_here m.views 0 w (elem_below m.views 0 a at_a) in
-        ends_with m2 (on m1 (on m s.path 0 a read_made at_a idle_a) 1 b draw_number b1 (idle_b, omega (arith, s.made))) 0 w miss_draw w2
-        (record { live = idle_a.live; unmarked = idle_a.unmarked; request = idle_a.request; held = idle_a.held; no_journal = idle_a.no_journal; no_slot = idle_a.no_slot }, inl (m.made, refl, omega arith))
+        ends_with m2 (on m1 (on m s.path 0 a read_made at_a idle_a) 1 b draw_number b1 (idle_b, omega (arith, s.made))) 0 w miss_draw w2 (
+          record { live = idle_a.live; unmarked = idle_a.unmarked; request = idle_a.request; held = idle_a.held; no_journal = idle_a.no_journal; no_slot = idle_a.no_slot },
+          inl (m.made, refl, omega arith),
+        )
 
     splits_off : IsTaken given values 14
     splits_off =
@@ -176,11 +179,13 @@ module _ (given : Given) (values : List Part) (sized : length values ≡ record_
       puts_back =
           let w : View = in_hand t own in
           let may : May m1 0 own (record_out t) = (holds_it, ap (count_turn t) idle_a.no_slot) in
-          ends_with (after m1 0 own (record_out t)) (on m1 (on m s.path 0 a (take_record t q part) at_a may_take) 0 own (record_out t) own_at may) 0 w (record_back t) (set_here m1.views 0 w (elem_below m1.views 0 own own_at))
+          ends_with (after m1 0 own (record_out t)) (on m1 (on m s.path 0 a (take_record t q part) at_a may_take) 0 own (record_out t) own_at may) 0 w (record_back t)
+          (set_here m1.views 0 w (elem_below m1.views 0 own own_at))
           (holds_it, omega (arith, one t t refl))
 
       record_low : t < record_count given.plan
-      record_low = subst (λ (g : Given). t < record_count g.plan) s.given_same (way_within m.given.plan (now m) q t (has_in given m s.given_same q has) (next_in (way m.given.plan (now m) q) [] t first_a))
+      record_low = subst (λ (g : Given). t < record_count g.plan) s.given_same (way_within m.given.plan (now m) q t (has_in given m s.given_same q has)
+          (next_in (way m.given.plan (now m) q) [] t first_a))
 
     -- where a request takes no record, and then the journal
     module _ (p : ℕ) (has : Has given.plan (Idle p 0 0)) (room : 1 ≤ given.capacity) where
@@ -232,7 +237,8 @@ module _ (given : Given) (values : List Part) (sized : length values ≡ record_
 
       enters_it : IsTaken given values 10
       enters_it = ends_with n path_n 0 leader (release_with_entry (entry_of 0 z) (m.count + 1)) leader_at
-          (enter_asks m a z (entry_of 0 z) idle_a.no_slot (request_of-entry 0 z) (entry_seat 0 z ∙ sym (s.seated.seats 0 none_one).number) (follows_in given m s.given_same 0 z has (subst Faultless (sym s.history) tt))
+          (enter_asks m a z (entry_of 0 z) idle_a.no_slot (request_of-entry 0 z) (entry_seat 0 z ∙ sym (s.seated.seats 0 none_one).number)
+          (follows_in given m s.given_same 0 z has (subst Faultless (sym s.history) tt))
           (omega (arith, room, ap (length {A = HistoryEntry}) s.history, ap (λ (g : Given). g.capacity) s.given_same)) n refl refl)
 
 or_last : (A : ℕ → Type 0) (n k : ℕ) → A k → (n ≢ k → A n) → A n

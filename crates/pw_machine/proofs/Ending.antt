@@ -3,7 +3,7 @@ use Rattle.std.proofs.Common.{◌≡◌, ⊎_elim, ℕ, ◌*◌, ◌<◌, ◌≤
 use mathlib.Core.Option.{some}
 use lib.ListN.{get_elem?}
 use Rattle.pw_plan.specs.declared.request.Request.{Request}
-use Rattle.pw_parts.specs.Routes.{route}
+use Rattle.pw_model.specs.Routes.{route}
 use Rattle.pw_machine.specs.declared.view.View.{View}
 use Rattle.pw_machine.specs.Turns.{StartsWith, count_turn, way}
 use Rattle.pw_machine.specs.Machine.{Machine, Invariant, now, turns_of}

@@ -8,7 +8,7 @@ use Rattle.pw_model.specs.declared.entry.HistoryEntry.{HistoryEntry}
 use Rattle.pw_machine.specs.Turns.{count_turn}
 use Rattle.pw_model.specs.Operations.{opening_ops}
 use Rattle.pw_model.specs.History.{Faultless, request_of, entry_ops, replay, history_ops, fault_at}
-use Rattle.pw_parts.specs.Records.{record_count}
+use Rattle.pw_model.specs.Records.{record_count}
 use Rattle.pw_machine.specs.Turns.{part_at}
 use Rattle.pw_machine.proofs.Plans.{legal_next, legal_state, ops_snoc}
 use Rattle.pw_machine.specs.declared.view.View.{View}
@@ -58,11 +58,13 @@ module _ (m : Machine) (i : Invariant m) (j : ℕ) (v : View) (at : get_elem? m.
       let live = live_leads m i j v at may.leads in
       let seen : H ≡ v.seen ++ e ∷ [] = ap (λ l. l ++ e ∷ []) (sym (f.leader may.leads)) in
       record {
-        reads = subst (λ l. Reads seat_of H l v.told (grown seat_of v.book e)) seen (reads_all seat_of H v.told (grown seat_of v.book e) (prefix_more m.history (e ∷ []) v.told f.reads.begins_too) (knows_grown seat_of v.book m.history e f.reads.lists));
+        reads = subst (λ l. Reads seat_of H l v.told (grown seat_of v.book e)) seen (reads_all seat_of H v.told (grown seat_of v.book e) (prefix_more m.history (e ∷ []) v.told f.reads.begins_too)
+            (knows_grown seat_of v.book m.history e f.reads.lists));
         own = λ h. count_grown seat_of v.number v.book e ∙ f.own h;
         serves = λ _. serves_releasing P S (renoted P S v.held) v.request g.of_plan (λ n. nil_renoted P S v (g.rests n).0) (noted_renoted P S v.held);
         holds_records = λ t more. f.holds_records t (omega (arith, more, count_renoted t P S v.held));
-        slots = λ t more. ⊎_elim (λ (h : 0 < count_held t v.held). inl (omega (arith, h, count_renoted t P S v.held))) (λ (h : (t ≡ record_count P) × (v.leads ≡ true)). absurd (omega (arith, more, may.back, ap (λ t. count_turn t v.out) h.0))) (f.slots t more);
+        slots = λ t more. ⊎_elim (λ (h : 0 < count_held t v.held). inl (omega (arith, h, count_renoted t P S v.held))) (λ (h : (t ≡ record_count P)
+            × (v.leads ≡ true)). absurd (omega (arith, more, may.back, ap (λ t. count_turn t v.out) h.0))) (f.slots t more);
         leader = λ h. off false refl h;
         found = λ h. off false refl h;
         notes = record { at_take = at_most_more v.first m.count count (omega (arith, found_count, may.kept)) f.notes.at_take; at_release = omega arith; at_read = f.notes.at_read };
@@ -81,7 +83,8 @@ module _ (m : Machine) (i : Invariant m) (j : ℕ) (v : View) (at : get_elem? m.
       record {
         reads = reads_other seat_of m.history u.seen u.told u.book e (other_count m i j k v u ne at there e.seat own_count) g.reads;
         own = g.own;
-        serves = λ unmarked. serves_still P (now m) (replay P H) u.held u.leads u.request u.releasing (is_state m i) (legal_state P H (legal_next P m.history e i.history.legal may.follows)) no-journal same (g.serves unmarked);
+        serves = λ unmarked. serves_still P (now m) (replay P H) u.held u.leads u.request u.releasing (is_state m i) (legal_state P H (legal_next P m.history e i.history.legal may.follows)) no-journal
+            same (g.serves unmarked);
         holds_records = g.holds_records;
         slots = g.slots;
         leader = λ h. off u.leads no-journal h;
@@ -96,7 +99,8 @@ module _ (m : Machine) (i : Invariant m) (j : ℕ) (v : View) (at : get_elem? m.
   registers_entered r =
       let P = m.given.plan in
       record {
-        log = ap (λ l. l ++ entry_ops P (now m) e) r.log ∙ (append_assoc (m.given.ops ++ opening_ops P) (history_ops P m.history) (entry_ops P (now m) e) ∙ ap (λ l. m.given.ops ++ opening_ops P ++ l) (sym (ops_snoc P m.history e)));
+        log = ap (λ l. l ++ entry_ops P (now m) e) r.log ∙ (append_assoc (m.given.ops ++ opening_ops P) (history_ops P m.history) (entry_ops P (now m) e) ∙ ap
+            (λ l. m.given.ops ++ opening_ops P ++ l) (sym (ops_snoc P m.history e)));
         least = omega (arith, r.least, found_count, may.kept);
         fault = λ k h. λ last. let up = may.fault (fault_snoc m.history e k may.follows.faultless h) last in omega (arith, up, r.least, found_count);
       }

@@ -10,7 +10,7 @@ use Rattle.pw_plan.specs.Requests.{Has}
 use Rattle.pw_model.specs.declared.entry.HistoryEntry.{HistoryEntry}
 use Rattle.pw_model.specs.History.{Legal, MayFollow, request_of}
 use Rattle.pw_model.proofs.Joining.{legal-first, legal-follows}
-use Rattle.pw_parts.specs.Records.{Part, record_count}
+use Rattle.pw_model.specs.Records.{Part, record_count}
 use Rattle.pw_machine.specs.declared.view.View.{View}
 use Rattle.pw_machine.specs.Turns.{way}
 use Rattle.pw_books.specs.Books.{entries_of}
@@ -27,7 +27,15 @@ use Rattle.pw_machine.proofs.Seating.{Seated, seated_quiet, seated_still, splits
 -- an idle seat may begin a request
 pub idle_asks : (m : Machine) (i : Invariant m) (j : ℕ) (v : View) → get_elem? m.views j ≡ some v → IsIdle v → (q : Request)
     → Has m.given.plan q → Asks m.given.plan v q
-idle_asks m i j v at a q has = record { of_plan = has; live = a.live; unmarked = a.unmarked; before = (((i.fits j v at).serves a.unmarked).rests a.request).2; no_journal = a.no_journal; request = inl a.request }
+idle_asks m i j v at a q has = record {
+  of_plan = has;
+  live = a.live;
+  unmarked = a.unmarked;
+  before = (((i.fits j v at).serves a.unmarked).rests a.request).2;
+  no_journal = a.no_journal;
+  request =
+      inl a.request;
+}
 
 -- an idle seat makes a request from its first turn to its last
 pub whole_request : (n : ℕ) (m : Machine) → (s : Seated n m) → (j : ℕ) → (le : j ≤ n) → (e : HistoryEntry) → e.seat ≡ j
@@ -83,7 +91,8 @@ numbers_below : (made : ℕ) (H : List HistoryEntry) → ((n : ℕ) → made ≤
 numbers_below made [] none most = tt
 numbers_below made (e ∷ es) none most = (
   dite (dec_le made e.seat)
-      (λ le. absurd (let z = none e.seat le in let is : entries_of seat_of e.seat (e ∷ es) ≡ e ∷ entries_of seat_of e.seat es = ap (λ b. cond b (e ∷ entries_of seat_of e.seat es) (entries_of seat_of e.seat es)) (eq-eqb e.seat e.seat refl) in cc))
+      (λ le. absurd (let z = none e.seat le in let is : entries_of seat_of e.seat (e ∷ es) ≡ e ∷ entries_of seat_of e.seat es = ap
+      (λ b. cond b (e ∷ entries_of seat_of e.seat es) (entries_of seat_of e.seat es)) (eq-eqb e.seat e.seat refl) in cc))
       (λ lt. omega (arith, lt, most)),
   numbers_below made es (λ n le. tail n (e.seat == n) (none n le)) most,
 )

@@ -4,8 +4,8 @@ use mathlib.Core.Option.{some, some-injective, some-ne-none}
 use mathlib.Core.Logic.{dite}
 use native.Mathlib.Decide.{ℕ_discrete, dec_le}
 use lib.ListN.{get_elem?}
-use Rattle.pw_parts.specs.Records.{Part}
-use Rattle.pw_parts.specs.Records.{record_count}
+use Rattle.pw_model.specs.Records.{Part}
+use Rattle.pw_model.specs.Records.{record_count}
 use Rattle.pw_machine.proofs.Plans.{legal_nil}
 use Rattle.pw_machine.specs.declared.view.View.{View}
 use Rattle.pw_machine.specs.Machine.{Given, Machine, count_held, holds, leads, Fits, IsOpening, Invariant}
@@ -93,10 +93,25 @@ module _ (given : Given) (values : List Part) (sized : length values ≡ record_
     };
     turns = record {
       wide = length_all values ∙ sized;
-      holders = λ t low n. omega (arith, as_named (holds t) n (first_view values) (held_all 0 t values (omega arith) (omega (arith, low, sized))), ap (λ x. names x n) (turn_all values t (omega (arith, low, sized))));
+      holders = λ t low n. omega (
+        arith,
+        as_named (holds t) n (first_view values) (held_all 0 t values (omega arith) (omega (arith, low, sized))),
+        ap
+            (λ x. names x n) (turn_all values t (omega (arith, low, sized))),
+      );
       leader = λ n. omega (arith, as_named leads n (first_view values) refl);
     };
-    opens = λ k u there mark. let s = first_alone k u there in subst (λ k. IsOpening given [] given.count k u) (sym s.0) (subst (IsOpening given [] given.count 0) s.1 record { place = refl; number = refl; all = refl; journal = refl; no_request = refl; not_releasing = refl; empty = refl; given_count = refl });
+    opens = λ k u there mark. let s = first_alone k u there in subst (λ k. IsOpening given [] given.count k u) (sym s.0) (subst (IsOpening given [] given.count 0) s.1 record {
+      place = refl;
+      number =
+          refl;
+      all = refl;
+      journal = refl;
+      no_request = refl;
+      not_releasing = refl;
+      empty = refl;
+      given_count = refl;
+    });
     values = record { sized = sized; free = λ t low free. absurd (omega (arith, free, turn_all values t (omega (arith, low, sized)))) };
     registers = λ none. absurd (omega (arith, none));
     parts = refl;

@@ -15,5 +15,7 @@ pub mod Seating
 pub mod Histories
 pub mod Meeting
 pub mod EachKind
-pub mod Choosing
 pub mod Ending
+pub mod Follows
+pub mod Walks
+pub mod Standing

@@ -11,7 +11,7 @@ use Rattle.pw_model.specs.declared.entry.HistoryEntry.{HistoryEntry}
 use Rattle.pw_model.specs.History.{Faultless, MayFollow, entry_of, request_of}
 use Rattle.pw_model.specs.States.{opening}
 use Rattle.pw_model.proofs.Joining.{entry_is, request_of-entry}
-use Rattle.pw_parts.specs.Records.{Part, record_count}
+use Rattle.pw_model.specs.Records.{Part, record_count}
 use Rattle.pw_machine.specs.declared.view.Met.{Met}
 use Rattle.pw_machine.specs.declared.view.View.{View}
 use Rattle.pw_machine.specs.Turns.{StartsWith, part_at, way}
@@ -56,14 +56,16 @@ module _ (given : Given) (m : Machine) (same : m.given ≡ given) where
   pub begins_in : Invariant m → (q : Request) (t : ℕ) → Has given.plan q → StartsWith (way given.plan (opening given.plan) q) (t ∷ [])
       → StartsWith (way m.given.plan (now m) q) (t ∷ [])
   begins_in i q t has begins =
-      first_stays m.given.plan (opening m.given.plan) (now m) q t (opening_state m.given.plan) (is_state m i) (has_in q has) (subst (λ (g : Given). StartsWith (way g.plan (opening g.plan) q) (t ∷ [])) (sym same) begins)
+      first_stays m.given.plan (opening m.given.plan) (now m) q t (opening_state m.given.plan) (is_state m i) (has_in q has) (subst (λ (g : Given). StartsWith (way g.plan (opening g.plan) q) (t ∷ []))
+      (sym same) begins)
 
   pub follows_in : (n : ℕ) (q : Request) → Has given.plan q → Faultless m.history → MayFollow m.given.plan m.history (entry_of n q)
   follows_in n q has none = record { faultless = none; entry = entry_is m.given.plan n q (has_in q has); fits = inl (entry_fault n q) }
 
 -- # The first turn
 
-module _ (m : Machine) (i : Invariant m) (j : ℕ) (v : View) (at : get_elem? m.views j ≡ some v) (q : Request) (a : Asks m.given.plan v q) (nothing : v.held ≡ []) (t : ℕ) (begins : StartsWith (way m.given.plan (now m) q) (t ∷ [])) where
+module _ (m : Machine) (i : Invariant m) (j : ℕ) (v : View) (at : get_elem? m.views j ≡ some v) (q : Request) (a : Asks m.given.plan v q) (nothing : v.held ≡ []) (t : ℕ)
+    (begins : StartsWith (way m.given.plan (now m) q) (t ∷ [])) where
   first_low : t < record_count m.given.plan
   first_low = way_within m.given.plan (now m) q t a.of_plan (next_in (way m.given.plan (now m) q) [] t begins)
 
@@ -108,7 +110,11 @@ quiet_own m n j w quiet views p u ne there = quiet p u ne (sym (set_else m.views
 
 pub still_after : (m n : Machine) (j : ℕ) (w : View) → Quiet m j → Leads m n j w → w.held ≡ [] → w.leads ≡ false → Still n
 still_after m n j w quiet l held leads k u there = dite (ℕ_discrete k j)
-    (λ e. let same : w ≡ u = some-injective w u (sym l.there ∙ (ap (λ k. get_elem? n.views k) (sym e) ∙ there)) in (ap (λ (x : View). x.held) (sym same) ∙ held, ap (λ (x : View). x.leads) (sym same) ∙ leads))
+    (λ e. let same : w ≡ u = some-injective w u (sym l.there ∙ (ap (λ k. get_elem? n.views k) (sym e) ∙ there)) in (
+      ap (λ (x : View). x.held) (sym same) ∙ held,
+      ap (λ (x : View). x.leads) (sym same)
+          ∙ leads,
+    ))
     (λ ne. quiet k u ne (sym (l.others k ne) ∙ there))
 
 -- # The whole example
@@ -302,7 +308,8 @@ ending : (m : Machine) → Invariant m → Still m → (v w : View) → get_elem
     → Ending m v w e
 ending m i still v w at there b told told_too q a nothing out e asks seat follows room =
     let g = cycles m i 0 v at (quiet_of m 0 still) q a (way m.given.plan (now m) q) (ap (λ hs. turns_of hs ++ way m.given.plan (now m) q) (sym nothing)) out e asks seat follows room in
-    joining g.end (path_keeps m g.leads.path.0 g.end i g.leads.path.1) g.view w g.leads.there (g.leads.others 1 one_zero ∙ there) g.idle b (g.told ∙ told) told_too (g.seen ∙ sym g.history) g.leads.path.0 m g.leads.path.1 e g.history v g.met g.meets g.parts
+    joining g.end (path_keeps m g.leads.path.0 g.end i g.leads.path.1) g.view w g.leads.there (g.leads.others 1 one_zero ∙ there) g.idle b (g.told ∙ told) told_too (g.seen
+    ∙ sym g.history) g.leads.path.0 m g.leads.path.1 e g.history v g.met g.meets g.parts
 
 -- # The whole list
 
@@ -352,7 +359,8 @@ module _ (given : Given) (q r : Request) (t : ℕ) (has : Has given.plan q) (has
     first_history = f.history ∙ ap (λ h. h ++ entry_of 0 q ∷ []) s.history
 
     first_inv : Invariant f.end
-    first_inv = path_keeps s.end ((0, (s.seated.seats 0 none_one).view, take_record t q f.part) ∷ (1, (s.seated.seats 1 one_one).view, find_record_held t r false) ∷ f.rest) f.end s.seated.inv f.allowed
+    first_inv = path_keeps s.end ((0, (s.seated.seats 0 none_one).view, take_record t q f.part) ∷ (1, (s.seated.seats 1 one_one).view, find_record_held t r false)
+        ∷ f.rest) f.end s.seated.inv f.allowed
 
     waiting_asks : Asks f.end.given.plan waiting r
     waiting_asks =
@@ -389,7 +397,8 @@ module _ (given : Given) (q r : Request) (t : ℕ) (has : Has given.plan q) (has
       go_third : Third
       go_third =
           let a = s.seated.seats 0 none_one in let b = s.seated.seats 1 one_one in
-          last_round g.end second_inv g.still waiting_again g.view g.other g.there g.idle (f.told ∙ a.told) (g.told ∙ b.told) second_given second_history again_asks f.idle.held f.idle.no_slot (f.number ∙ a.number)
+          last_round g.end second_inv g.still waiting_again g.view g.other g.there g.idle (f.told ∙ a.told) (g.told ∙ b.told) second_given second_history again_asks f.idle.held f.idle.no_slot
+          (f.number ∙ a.number)
 
       module _ (h : Third) where
         abbrev asked : List (ℕ × View × Kind)

@@ -6,7 +6,7 @@ use native.Mathlib.Decide.{ℕ_discrete}
 use lib.ListN.{get_elem?}
 use Rattle.std.specs.List.{AllByRecursion}
 use Rattle.pw_plan.proofs.Lists.{each_append}
-use Rattle.pw_parts.specs.Records.{record_count}
+use Rattle.pw_model.specs.Records.{record_count}
 use Rattle.pw_machine.specs.declared.view.View.{View}
 use Rattle.pw_machine.specs.Machine.{Machine, Invariant, count_held, holds, leads}
 use Rattle.pw_books.specs.Sums.{bit}
@@ -79,14 +79,16 @@ module _ (m : Machine) (i : Invariant m) (j : ℕ) (v : View) (at : get_elem? m.
   record_free t low none = dite (ℕ_discrete (get_or m.turns t 0) 0) (λ z. z) (λ ne.
       let r = holder (get_or m.turns t 0) (holds t) m.views (i.turns.holders t low) ne in
       dite (ℕ_discrete r.0 j)
-      (λ e. absurd (let same : r.1 ≡ v = some-injective r.1 v (sym r.2 ∙ (ap (λ k. get_elem? m.views k) e ∙ at)) in let none2 : count_held t r.1.held ≡ 0 = ap (λ (u : View). count_held t u.held) same ∙ none in omega (arith, r.3, none2)))
+      (λ e. absurd (let same : r.1 ≡ v = some-injective r.1 v (sym r.2 ∙ (ap (λ k. get_elem? m.views k) e ∙ at)) in let none2 : count_held t r.1.held ≡ 0 = ap (λ (u : View). count_held t u.held) same
+      ∙ none in omega (arith, r.3, none2)))
       (λ far. absurd (let z : count_held t r.1.held ≡ 0 = ap (count_held t) (quiet r.0 r.1 far r.2).0 in omega (arith, r.3, z))))
 
   pub journal_free : v.leads ≡ false → m.journal ≡ 0
   journal_free none = dite (ℕ_discrete m.journal 0) (λ z. z) (λ ne.
       let r = holder m.journal leads m.views i.turns.leader ne in
       dite (ℕ_discrete r.0 j)
-      (λ e. absurd (let same : r.1 ≡ v = some-injective r.1 v (sym r.2 ∙ (ap (λ k. get_elem? m.views k) e ∙ at)) in let z : bit r.1.leads ≡ 0 = ap (λ (u : View). bit u.leads) same ∙ ap bit none in omega (arith, r.3, z)))
+      (λ e. absurd (let same : r.1 ≡ v = some-injective r.1 v (sym r.2 ∙ (ap (λ k. get_elem? m.views k) e ∙ at)) in let z : bit r.1.leads ≡ 0 = ap (λ (u : View). bit u.leads) same ∙ ap bit none
+      in omega (arith, r.3, z)))
       (λ far. absurd (let z : bit r.1.leads ≡ 0 = ap bit (quiet r.0 r.1 far r.2).1 in omega (arith, r.3, z))))
 
 -- the step is one of seat j
@@ -133,6 +135,7 @@ once m j v w k at may views made = record {
   wide = ap (length {A = View}) views ∙ length-set m.views j w;
 }
 
-pub once_length : (m : Machine) (j : ℕ) (v w : View) (k : Kind) (at : get_elem? m.views j ≡ some v) (may : May m j v k) (views : (after m j v k).views ≡ set m.views j w) (made : (after m j v k).made ≡ m.made)
+pub once_length : (m : Machine) (j : ℕ) (v w : View) (k : Kind) (at : get_elem? m.views j ≡ some v) (may : May m j v k) (views : (after m j v k).views ≡ set m.views j w) (made : (after m j v k).made
+    ≡ m.made)
     → length (once m j v w k at may views made).path.0 ≡ 1
 once_length m j v w k at may views made = refl

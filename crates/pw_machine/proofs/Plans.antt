@@ -21,14 +21,14 @@ use Rattle.pw_model.specs.History.{IsEntry, Legal, MayFollow, StatesRequest, aft
 use Rattle.pw_model.proofs.Joining.{history_ops-append, legal-empty, legal-more, replay-append}
 use Rattle.pw_model.proofs.Opening.{opening_fits}
 use Rattle.pw_model.proofs.Staying.{replay_fits, request_has}
-use Rattle.pw_parts.specs.Locality.{SameParts}
-use Rattle.pw_parts.specs.Records.{IsRecord, Record, container, group, footprint, group_records, number_of, part_of, reach, record_at, record_count, records_among, records_by}
-use Rattle.pw_parts.specs.Routes.{numbers, route}
-use Rattle.pw_parts.proofs.Central.{is_local}
-use Rattle.pw_parts.proofs.Lines.{Among, Below, IsLine, ancestors_line, below, starts}
-use Rattle.pw_parts.proofs.Plans.{wired}
-use Rattle.pw_parts.proofs.Routes.{has_route}
-use Rattle.pw_parts.proofs.Ways.{has_way, numbers_tell, record_below, record_numbers}
+use Rattle.pw_model.specs.Locality.{SameParts}
+use Rattle.pw_model.specs.Records.{IsRecord, Record, container, group, footprint, group_records, number_of, part_of, reach, record_at, record_count, records_among, records_by}
+use Rattle.pw_model.specs.Routes.{numbers, route}
+use Rattle.pw_model.proofs.Central.{is_local}
+use Rattle.pw_model.proofs.Lines.{Among, Below, IsLine, ancestors_line, below, starts}
+use Rattle.pw_model.proofs.Plans.{wired}
+use Rattle.pw_model.proofs.Routes.{has_route}
+use Rattle.pw_model.proofs.Ways.{has_way, numbers_tell, record_below, record_numbers}
 use Rattle.pw_machine.specs.Turns.{StartsWith, count_turn, part_at, way}
 
 -- # Histories
@@ -271,7 +271,8 @@ pub way_rises : (P : Plan) (S : State) (q : Request) (front : List ℕ) (t : ℕ
 unfolding height
 way_rises P S q front t has begins r more =
     let lt = falls_before (way P S q) front begins.0 t r (way_falls P S q has) begins.1 more in
-    let low = way_within P S q t has (subst (λ l. 0 < count_turn t l) (sym begins.1) (omega (arith, count_turn-append t (front ++ t ∷ []) begins.0, count_turn-append t front (t ∷ []), one t t refl))) in
+    let low = way_within P S q t has (subst (λ l. 0 < count_turn t l) (sym begins.1) (omega (arith, count_turn-append t (front ++ t ∷ []) begins.0, count_turn-append t front (t ∷ []), one t t refl)))
+    in
     omega (arith, lt, low)
 
 pub height_below : (P : Plan) (t : ℕ) → height P t < tallest P
@@ -314,7 +315,8 @@ pub next_journal : (P : Plan) (S : State) (q : Request) (front : List ℕ) → H
     → front ≡ way P S q
 unfolding way
 next_journal P S q front has b = whole_front (numbers P (footprint P S q)) front (record_count P)
-    (dite (ℕ_discrete (count_turn (record_count P) (numbers P (footprint P S q))) 0) (λ z. z) (λ nz. absurd (let low = within P (footprint P S q) (record_count P) (exist P S q has) (omega (arith, nz)) in omega (arith, low)))) b
+    (dite (ℕ_discrete (count_turn (record_count P) (numbers P (footprint P S q))) 0) (λ z. z) (λ nz. absurd (let low = within P (footprint P S q) (record_count P) (exist P S q has) (omega (arith, nz))
+    in omega (arith, low)))) b
 
 pub on_route : (P : Plan) (S : State) (q : Request) (front : List ℕ) → StartsWith (way P S q) front → StartsWith (route P S q) front
 unfolding way

@@ -9,7 +9,7 @@ use Rattle.pw_plan.specs.Requests.{Has}
 use Rattle.pw_model.specs.States.{IsState}
 use Rattle.pw_model.specs.Answers.{after}
 use Rattle.pw_model.specs.History.{Legal, MayFollow, replay, request_of}
-use Rattle.pw_parts.specs.Records.{record_count}
+use Rattle.pw_model.specs.Records.{record_count}
 use Rattle.pw_machine.specs.Turns.{part_at, way}
 use Rattle.pw_machine.proofs.Plans.{legal_state, follows_has, replay_snoc, part_stays, way_front}
 use Rattle.pw_machine.specs.declared.view.Held.{Held}

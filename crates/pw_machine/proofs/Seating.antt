@@ -4,7 +4,7 @@ use mathlib.Core.Option.{some, some-injective}
 use mathlib.Core.Logic.{dite}
 use native.Mathlib.Decide.{ℕ_discrete}
 use lib.ListN.{get_elem?}
-use Rattle.pw_parts.specs.Records.{Part, record_count}
+use Rattle.pw_model.specs.Records.{Part, record_count}
 use Rattle.pw_machine.specs.declared.view.View.{View}
 use Rattle.pw_machine.specs.Machine.{Given, Machine, Invariant}
 use Rattle.pw_machine.specs.Steps.{Kind, IsIdle, May, after, drawn, draw_number, left_of, left_with, let_go, release_without_entry, right_of, split_seat}
@@ -38,7 +38,8 @@ module _ (given : Given) (values : List Part) (sized : length values ≡ record_
   pub opening : Opened given values
   opening =
       let m = opened given values in
-      let r = releases (length (all_held 0 values)) (all_held 0 values) (first_view values) (omega arith) (inr refl) refl m (opens given values sized) 0 (ap (λ (v : View). some v) (first_is values)) in
+      let r = releases (length (all_held 0 values)) (all_held 0 values) (first_view values) (omega arith) (inr refl) refl m (opens given values sized) 0 (ap (λ (v : View). some v) (first_is values))
+      in
       let v = left_with [] (first_view values) in
       let k = release_without_entry given.count in
       let may : May r.end 0 v k = (refl, refl, inr (refl, refl, let same : r.end.given.count ≡ given.count = ap (λ (g : Given). g.count) r.leads.given in omega (arith, same))) in
@@ -182,7 +183,13 @@ module _ (given : Given) (values : List Part) (sized : length values ≡ record_
               })
               (λ nz.
               let seat = s.seated.seats p (omega (arith, le, ne)) in
-              record { view = seat.view; there = at_longer vs (right ∷ []) p seat.view (set_else (set m.views 0 drew) 0 p left nz ∙ (set_else m.views 0 p drew nz ∙ seat.there)); number = seat.number; idle = seat.idle; told = seat.told }));
+              record {
+                view = seat.view;
+                there = at_longer vs (right ∷ []) p seat.view (set_else (set m.views 0 drew) 0 p left nz ∙ (set_else m.views 0 p drew nz ∙ seat.there));
+                number = seat.number;
+                idle = seat.idle;
+                told = seat.told;
+              }));
         };
         given_same = s.given_same;
         made = omega (arith, s.made);

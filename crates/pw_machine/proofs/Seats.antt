@@ -97,7 +97,13 @@ module _ (m : Machine) (i : Invariant m) (j : ℕ) (v : View) (at : get_elem? m.
     fits_left =
         let a = may.0 in let spare = may.2 in let f = i.fits j v at in
         record {
-          reads = record { begins = f.reads.begins; begins_too = f.reads.begins_too; lists = knows_without seat_of n v.book m.history f.reads.lists; entries = knows_without seat_of n v.book (furthest v.told v.seen) f.reads.entries };
+          reads = record {
+            begins = f.reads.begins;
+            begins_too = f.reads.begins_too;
+            lists = knows_without seat_of n v.book m.history f.reads.lists;
+            entries =
+                knows_without seat_of n v.book (furthest v.told v.seen) f.reads.entries;
+          };
           own = λ h. (count_without n v.number v.book).1 spare.other ∙ f.own (omega (arith, may.4));
           serves = f.serves;
           holds_records = f.holds_records;
@@ -182,7 +188,8 @@ module _ (m : Machine) (i : Invariant m) (j : ℕ) (v : View) (at : get_elem? m.
             begins = f.reads.begins;
             begins_too = g.reads.begins;
             lists = knows-append seat_of v.book w.book m.history f.reads.lists g.reads.lists;
-            entries = knows-append seat_of v.book w.book (longer w.seen v.seen) (knows_between seat_of v.book m.history (longer w.seen v.seen) v.seen far.2 far.0 f.reads.lists known-v) (knows_between seat_of w.book m.history (longer w.seen v.seen) w.seen far.1 far.0 g.reads.lists known-w);
+            entries = knows-append seat_of v.book w.book (longer w.seen v.seen) (knows_between seat_of v.book m.history (longer w.seen v.seen) v.seen far.2 far.0 f.reads.lists known-v)
+                (knows_between seat_of w.book m.history (longer w.seen v.seen) w.seen far.1 far.0 g.reads.lists known-w);
           };
           own = λ h. omega (arith, count-append v.number v.book w.book, mine, apart);
           serves = f.serves;
@@ -198,7 +205,11 @@ module _ (m : Machine) (i : Invariant m) (j : ℕ) (v : View) (at : get_elem? m.
     keeps_join =
         let a = may.2 in let c = may.3 in let b = joined v w in let vs : List View = set m.views j b in
         let moved : get_elem? vs k ≡ some w = set_else m.views j k b may.0 ∙ may.1 in
-        let both : (h : View → ℕ) → total h (set vs k spent_view) + h w + h v ≡ total h m.views + h b + h spent_view = λ h. omega (arith, total-set h m.views j v b at, total-set h vs k w spent_view moved) in
+        let both : (h : View → ℕ) → total h (set vs k spent_view) + h w + h v ≡ total h m.views + h b + h spent_view = λ h. omega (
+          arith,
+          total-set h m.views j v b at,
+          total-set h vs k w spent_view moved,
+        ) in
         let no-turn : (t : ℕ) → count_held t w.held ≡ 0 = λ t. ap (count_held t) c.held in
         record {
           history = i.history;

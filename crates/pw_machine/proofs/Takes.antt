@@ -6,13 +6,13 @@ use native.Mathlib.Decide.{ℕ_discrete}
 use lib.ListN.{get_elem?}
 use Rattle.pw_base.specs.Outside.{Rose}
 use Rattle.pw_plan.specs.declared.request.Request.{Request}
-use Rattle.pw_parts.specs.Records.{Part}
+use Rattle.pw_model.specs.Records.{Part}
 use Rattle.acpi_values.specs.declared.operation.Op.{Op}
 use Rattle.pw_machine.specs.Turns.{count_turn, StartsWith}
 use Rattle.pw_plan.specs.Requests.{Has}
 use Rattle.pw_model.specs.Operations.{opening_ops}
 use Rattle.pw_model.specs.History.{history_ops, fault_at}
-use Rattle.pw_parts.specs.Records.{record_count}
+use Rattle.pw_model.specs.Records.{record_count}
 use Rattle.pw_machine.specs.Turns.{part_at, way}
 use Rattle.pw_machine.proofs.Plans.{ops_nil, next_record, next_journal}
 use Rattle.pw_machine.specs.declared.view.Held.{Held}
@@ -114,10 +114,13 @@ module _ (m : Machine) (i : Invariant m) (j : ℕ) (v : View) (at : get_elem? m.
         fits = record {
           reads = f.reads;
           own = f.own;
-          serves = λ _. subst (λ b. ServesRequest m.given.plan (now m) w.held v.leads (Some q) b) (sym a.before) (subst (λ b. ServesRequest m.given.plan (now m) w.held b (Some q) false) (sym a.no_journal)
-              (serves_asking m.given.plan (now m) w.held q a.of_plan (subst (StartsWith (way m.given.plan (now m) q)) (sym (turns-snoc v.held t x)) next) (noted-snoc m.given.plan (now m) v.held t x g.noted is)));
+          serves = λ _. subst (λ b. ServesRequest m.given.plan (now m) w.held v.leads (Some q) b) (sym a.before) (subst (λ b. ServesRequest m.given.plan (now m) w.held b (Some q) false)
+              (sym a.no_journal)
+              (serves_asking m.given.plan (now m) w.held q a.of_plan (subst (StartsWith (way m.given.plan (now m) q)) (sym (turns-snoc v.held t x)) next)
+              (noted-snoc m.given.plan (now m) v.held t x g.noted is)));
           holds_records = λ r more. dite (ℕ_discrete t r) (λ e. omega (arith, low, e)) (λ ne. f.holds_records r (omega (arith, more, count-snoc r v.held t x, none-of t r ne)));
-          slots = λ r more. ⊎_elim (λ (h : 0 < count_held r v.held). inl (omega (arith, h, count-snoc r v.held t x))) (λ (h : (r ≡ record_count m.given.plan) × (v.leads ≡ true)). inr h) (f.slots r more);
+          slots = λ r more. ⊎_elim (λ (h : 0 < count_held r v.held). inl (omega (arith, h, count-snoc r v.held t x))) (λ (h : (r ≡ record_count m.given.plan) × (v.leads ≡ true)). inr h)
+              (f.slots r more);
           leader = λ e. off v.leads a.no_journal e;
           found = λ e. off v.leads a.no_journal e;
           notes = f.notes;
@@ -147,7 +150,8 @@ module _ (m : Machine) (i : Invariant m) (j : ℕ) (v : View) (at : get_elem? m.
         fits = record {
           reads = reads_all seat_of m.history v.told v.book f.reads.begins_too f.reads.lists;
           own = f.own;
-          serves = λ _. subst (λ b. ServesRequest m.given.plan (now m) v.held true (Some q) b) (sym a.before) (serves_leading m.given.plan (now m) v.held q a.of_plan (next_journal m.given.plan (now m) q (turns_of v.held) a.of_plan may.1) g.noted);
+          serves = λ _. subst (λ b. ServesRequest m.given.plan (now m) v.held true (Some q) b) (sym a.before) (serves_leading m.given.plan (now m) v.held q a.of_plan
+              (next_journal m.given.plan (now m) q (turns_of v.held) a.of_plan may.1) g.noted);
           holds_records = f.holds_records;
           slots = λ r more. ⊎_elim (λ (h : 0 < count_held r v.held). inl h) (λ (h : (r ≡ record_count m.given.plan) × (v.leads ≡ true)). inr (h.0, refl)) (f.slots r more);
           leader = λ _. refl;
@@ -180,7 +184,8 @@ module _ (m : Machine) (i : Invariant m) (j : ℕ) (v : View) (at : get_elem? m.
       unturned w m.made a.live a.unmarked a.unmarked refl refl refl refl (λ n. refl) (omega arith) i.numbers.most record {
         reads = f.reads;
         own = f.own;
-        serves = λ _. subst (λ b. ServesRequest m.given.plan (now m) v.held v.leads (Some q) b) (sym a.before) (subst (λ b. ServesRequest m.given.plan (now m) v.held b (Some q) false) (sym a.no_journal) (serves_asking m.given.plan (now m) v.held q a.of_plan begins g.noted));
+        serves = λ _. subst (λ b. ServesRequest m.given.plan (now m) v.held v.leads (Some q) b) (sym a.before) (subst (λ b. ServesRequest m.given.plan (now m) v.held b (Some q) false)
+            (sym a.no_journal) (serves_asking m.given.plan (now m) v.held q a.of_plan begins g.noted));
         holds_records = f.holds_records;
         slots = f.slots;
         leader = f.leader;
@@ -191,11 +196,13 @@ module _ (m : Machine) (i : Invariant m) (j : ℕ) (v : View) (at : get_elem? m.
 
   pub keeps_find_record : (t : ℕ) (q : Request) (gives_up : Bool) → May m j v (find_record_held t q gives_up)
       → Invariant (after m j v (find_record_held t q gives_up))
-  keeps_find_record t q gives_up may = found_held t (get_or m.turns t 0 - 1) q gives_up may.0 (front_of (way m.given.plan (now m) q) (turns_of v.held) t (next_record m.given.plan (now m) q (turns_of v.held) t (omega (arith, turn_below m.turns t may.2, i.turns.wide)) may.1))
+  keeps_find_record t q gives_up may = found_held t (get_or m.turns t 0 - 1) q gives_up may.0 (front_of (way m.given.plan (now m) q) (turns_of v.held) t
+      (next_record m.given.plan (now m) q (turns_of v.held) t (omega (arith, turn_below m.turns t may.2, i.turns.wide)) may.1))
 
   pub keeps_find_journal : (q : Request) (gives_up : Bool) → May m j v (find_journal_held q gives_up)
       → Invariant (after m j v (find_journal_held q gives_up))
-  keeps_find_journal q gives_up may = found_held (record_count m.given.plan) (m.journal - 1) q gives_up may.0 (all_of (way m.given.plan (now m) q) (turns_of v.held) (next_journal m.given.plan (now m) q (turns_of v.held) may.0.of_plan may.1))
+  keeps_find_journal q gives_up may = found_held (record_count m.given.plan) (m.journal - 1) q gives_up may.0 (all_of (way m.given.plan (now m) q) (turns_of v.held)
+      (next_journal m.given.plan (now m) q (turns_of v.held) may.0.of_plan may.1))
 
   -- # Slots
 
@@ -208,17 +215,38 @@ module _ (m : Machine) (i : Invariant m) (j : ℕ) (v : View) (at : get_elem? m.
     more = omega arith;
     most = i.numbers.most;
     has_turns = turns_stay m.given.plan m.turns m.journal m.views i.turns j v w at refl refl refl;
-    opens = λ e. let o = i.opens j v at e in record { place = o.place; number = o.number; all = o.all; journal = o.journal; no_request = o.no_request; not_releasing = o.not_releasing; empty = o.empty; given_count = o.given_count };
+    opens = λ e. let o = i.opens j v at e in record {
+      place = o.place;
+      number = o.number;
+      all = o.all;
+      journal = o.journal;
+      no_request = o.no_request;
+      not_releasing = o.not_releasing;
+      empty = o.empty;
+      given_count = o.given_count;
+    };
     has_values = i.values;
     registers = λ none. registers_stay m i j v w at refl none;
     risen = omega arith;
     others = λ u _ k _ _. refl;
-    fits = record { reads = f.reads; own = f.own; serves = f.serves; holds_records = f.holds_records; slots = slots; leader = f.leader; found = f.found; notes = f.notes; spent = λ z. absurd (omega (arith, z, live)) };
+    fits = record {
+      reads = f.reads;
+      own = f.own;
+      serves = f.serves;
+      holds_records = f.holds_records;
+      slots = slots;
+      leader = f.leader;
+      found = f.found;
+      notes = f.notes;
+      spent = λ
+          z. absurd (omega (arith, z, live));
+    };
   }
 
   -- one more slot's value in hand, and one fewer
   takes_out : (t : ℕ) → 0 < v.parts → HasTurn m.given.plan t v → Invariant record m { views = set m.views j (in_hand t v) }
-  takes_out t live has = slotted (t ∷ v.out) live (λ r more. dite (ℕ_discrete t r) (λ e. subst (λ t. HasTurn m.given.plan t v) e has) (λ ne. (i.fits j v at).slots r (omega (arith, more, none-of t r ne))))
+  takes_out t live has = slotted (t ∷ v.out) live (λ r more. dite (ℕ_discrete t r) (λ e. subst (λ t. HasTurn m.given.plan t v) e has)
+      (λ ne. (i.fits j v at).slots r (omega (arith, more, none-of t r ne))))
 
   puts_back : (t : ℕ) → 0 < v.parts → Invariant record m { views = set m.views j (in_place t v) }
   puts_back t live = slotted (without_turn t v.out) live (λ r more. (i.fits j v at).slots r (omega (arith, more, fewer t r v.out)))
@@ -242,7 +270,8 @@ module _ (m : Machine) (i : Invariant m) (j : ℕ) (v : View) (at : get_elem? m.
   left_value t x l = ⊎_elim
       (λ (r : (v.releasing ≡ true) × HoldsAs t x v.held). (
         holds_count t x v.held r.1,
-        noted_is m.given.plan (now m) t x v.held ((i.fits j v at).serves (⊎_elim (λ (e : v.mark ≡ true). off v.releasing (i.opens j v at e).not_releasing r.0) (λ (e : v.mark ≡ false). e) (either_is v.mark))).noted r.1,
+        noted_is m.given.plan (now m) t x v.held ((i.fits j v at).serves (⊎_elim (λ (e : v.mark ≡ true). off v.releasing (i.opens j v at e).not_releasing r.0)
+            (λ (e : v.mark ≡ false). e) (either_is v.mark))).noted r.1,
       ))
       (λ (r : (v.mark ≡ true) × (0 < count_held t v.held) × (x ≡ part_at m.given.plan t (now m))). (r.1, r.2)) l
 
@@ -264,7 +293,17 @@ module _ (m : Machine) (i : Invariant m) (j : ℕ) (v : View) (at : get_elem? m.
               r (omega (arith, below, i.turns.wide));
           leader = stays m.journal leads m.views i.turns.leader j v w at refl refl;
         };
-        opens = λ e. let o = i.opens j v at e in record { place = o.place; number = o.number; all = o.all; journal = o.journal; no_request = no_request_left hs v.request o.no_request; not_releasing = no_sign_left hs v.releasing o.not_releasing; empty = o.empty; given_count = o.given_count };
+        opens = λ e. let o = i.opens j v at e in record {
+          place = o.place;
+          number = o.number;
+          all = o.all;
+          journal = o.journal;
+          no_request = no_request_left hs v.request o.no_request;
+          not_releasing =
+              no_sign_left hs v.releasing o.not_releasing;
+          empty = o.empty;
+          given_count = o.given_count;
+        };
         has_values = record {
           sized = length-set m.values t x ∙ i.values.sized;
           free = λ r below free. dite (ℕ_discrete r t)
@@ -278,11 +317,13 @@ module _ (m : Machine) (i : Invariant m) (j : ℕ) (v : View) (at : get_elem? m.
           reads = f.reads;
           own = f.own;
           serves = λ unmarked. let g = f.serves unmarked in ⊎_elim
-              (λ (r : (v.releasing ≡ true) × HoldsAs t x v.held). subst (λ b. ServesRequest m.given.plan (now m) hs b (request_left hs v.request) (sign_left hs v.releasing)) (sym (g.back r.0)) (subst (λ b. ServesRequest m.given.plan (now m) hs false (request_left hs v.request) (sign_left hs b)) (sym r.0)
+              (λ (r : (v.releasing ≡ true) × HoldsAs t x v.held). subst (λ b. ServesRequest m.given.plan (now m) hs b (request_left hs v.request) (sign_left hs v.releasing)) (sym (g.back r.0)) (subst
+              (λ b. ServesRequest m.given.plan (now m) hs false (request_left hs v.request) (sign_left hs b)) (sym r.0)
               (serves_releasing m.given.plan (now m) hs v.request g.of_plan (λ e. ap (without_record t) (g.rests e).0) (noted_without m.given.plan (now m) t v.held g.noted))))
               (λ (r : (v.mark ≡ true) × (0 < count_held t v.held) × (x ≡ part_at m.given.plan t (now m))). off v.mark unmarked r.0) may.0;
           holds_records = λ r more. dite (ℕ_discrete t r) (λ e. omega (arith, low, e)) (λ ne. f.holds_records r (omega (arith, more, (count_without t r v.held).1 ne)));
-          slots = λ r more. ⊎_elim (λ (h : 0 < count_held r v.held). dite (ℕ_discrete t r) (λ e. absurd (omega (arith, more, may.1, ap (λ t. count_turn t v.out) e))) (λ ne. inl (omega (arith, h, (count_without t r v.held).1 ne)))) (λ (h : (r ≡ record_count m.given.plan) × (v.leads ≡ true)). inr h) (f.slots r more);
+          slots = λ r more. ⊎_elim (λ (h : 0 < count_held r v.held). dite (ℕ_discrete t r) (λ e. absurd (omega (arith, more, may.1, ap (λ t. count_turn t v.out) e)))
+              (λ ne. inl (omega (arith, h, (count_without t r v.held).1 ne)))) (λ (h : (r ≡ record_count m.given.plan) × (v.leads ≡ true)). inr h) (f.slots r more);
           leader = f.leader;
           found = f.found;
           notes = f.notes;
@@ -319,7 +360,8 @@ module _ (m : Machine) (i : Invariant m) (j : ℕ) (v : View) (at : get_elem? m.
           own = f.own;
           serves = λ _. serves_releasing m.given.plan (now m) v.held v.request has rests noted;
           holds_records = f.holds_records;
-          slots = λ r more. ⊎_elim (λ (h : 0 < count_held r v.held). inl h) (λ (h : (r ≡ record_count m.given.plan) × (v.leads ≡ true)). absurd (omega (arith, more, back, ap (λ t. count_turn t v.out) h.0))) (f.slots r more);
+          slots = λ r more. ⊎_elim (λ (h : 0 < count_held r v.held). inl h) (λ (h : (r ≡ record_count m.given.plan)
+              × (v.leads ≡ true)). absurd (omega (arith, more, back, ap (λ t. count_turn t v.out) h.0))) (f.slots r more);
           leader = λ e. off false refl e;
           found = λ e. off false refl e;
           notes = record { at_take = at_most_more v.first m.count count risen f.notes.at_take; at_release = omega arith; at_read = f.notes.at_read };
@@ -333,13 +375,19 @@ module _ (m : Machine) (i : Invariant m) (j : ℕ) (v : View) (at : get_elem? m.
       let g = (i.fits j v at).serves r.0 in
       gone count (cond v.mark (m.given.ops ++ opening_ops m.given.plan) m.ops) may.0 may.1 (omega (arith, r.1))
       (λ none. let o = registers_stay m i j v (let_go count v) at (sym r.0) none in
-      record { log = ap (λ b. cond b (m.given.ops ++ opening_ops m.given.plan) m.ops) r.0 ∙ o.log; least = omega (arith, o.least, r.1); fault = λ k e. subst (Rose m.given.count) (sym r.1) (o.fault k e) })
+      record {
+        log = ap (λ b. cond b (m.given.ops ++ opening_ops m.given.plan) m.ops) r.0 ∙ o.log;
+        least = omega (arith, o.least, r.1);
+        fault = λ k e. subst (Rose m.given.count) (sym r.1)
+            (o.fault k e);
+      })
       g.of_plan (λ e. (g.rests e).0) g.noted)
       (λ (r : (v.mark ≡ true) × (v.held ≡ []) × (m.given.count ≤ count)).
       let o = i.opens j v at r.0 in
       gone count (cond v.mark (m.given.ops ++ opening_ops m.given.plan) m.ops) may.0 may.1 (omega (arith, r.2, o.given_count))
       (λ none. record {
-        log = ap (λ b. cond b (m.given.ops ++ opening_ops m.given.plan) m.ops) r.0 ∙ sym (ap (λ l. m.given.ops ++ opening_ops m.given.plan ++ l) (ap (history_ops m.given.plan) o.empty ∙ ops_nil m.given.plan) ∙ append-nil (m.given.ops ++ opening_ops m.given.plan));
+        log = ap (λ b. cond b (m.given.ops ++ opening_ops m.given.plan) m.ops) r.0 ∙ sym (ap (λ l. m.given.ops ++ opening_ops m.given.plan ++ l) (ap (history_ops m.given.plan) o.empty
+            ∙ ops_nil m.given.plan) ∙ append-nil (m.given.ops ++ opening_ops m.given.plan));
         least = r.2;
         fault = λ k e. let none : fault_at m.history ≡ None = ap fault_at o.empty in absurd (cc);
       })

@@ -6,7 +6,7 @@ use native.Mathlib.Decide.{ℕ_discrete, dec_le}
 use lib.ListN.{get_elem?}
 use Rattle.pw_plan.specs.declared.request.Request.{Request}
 use Rattle.pw_model.specs.declared.entry.HistoryEntry.{HistoryEntry}
-use Rattle.pw_parts.specs.Records.{record_count}
+use Rattle.pw_model.specs.Records.{record_count}
 use Rattle.pw_machine.specs.Turns.{part_at, way}
 use Rattle.pw_machine.proofs.Plans.{next_record, way_rises, way_reached}
 use Rattle.pw_machine.specs.declared.view.View.{View}
@@ -55,7 +55,8 @@ module _ (m : Machine) (i : Invariant m) (j : ℕ) (v : View) (at : get_elem? m.
       let a = may.0 in
       let low : t < record_count m.given.plan = omega (arith, turn_below m.turns t may.2, i.turns.wide) in
       let next_one = next_record m.given.plan (now m) q (turns_of v.held) t low may.1 in
-      let none : count_held t v.held ≡ 0 = dite (ℕ_discrete (count_held t v.held) 0) (λ z. z) (λ more. absurd (let up = way_rises m.given.plan (now m) q (turns_of v.held) t a.of_plan next_one t (omega (arith, more, count-turns t v.held)) in omega (arith, up))) in
+      let none : count_held t v.held ≡ 0 = dite (ℕ_discrete (count_held t v.held) 0) (λ z. z)
+      (λ more. absurd (let up = way_rises m.given.plan (now m) q (turns_of v.held) t a.of_plan next_one t (omega (arith, more, count-turns t v.held)) in omega (arith, up))) in
       met_other (get_or m.turns t 0) (holds t) (i.turns.holders t low) may.2 none (λ k u there more. live_held m i k u there t more)
 
   pub met_at_journal : (q : Request) (gives_up : Bool) → May m j v (find_journal_held q gives_up) → MeetsOther v (m.journal - 1)
@@ -82,7 +83,8 @@ module _ (m : Machine) (i : Invariant m) (j : ℕ) (v : View) (at : get_elem? m.
 
     -- its book has every number made
     pub alone_book : (n : ℕ) → n < m.made → count_in n v.book ≡ 1
-    alone_book n h = sym (total_only (λ (u : View). count_in n u.book) m.views j v at (λ k u ne e. ap (λ (x : View). count_in n x.book) ((i.fits k u e).spent (other_parts k u ne e)))) ∙ (i.numbers.books n ∙ once_yes n m.made h)
+    alone_book n h = sym (total_only (λ (u : View). count_in n u.book) m.views j v at (λ k u ne e. ap (λ (x : View). count_in n x.book) ((i.fits k u e).spent (other_parts k u ne e))))
+        ∙ (i.numbers.books n ∙ once_yes n m.made h)
 
     -- it has seen the whole history
     pub alone_seen : furthest v.told v.seen ≡ m.history
@@ -96,9 +98,17 @@ module _ (m : Machine) (i : Invariant m) (j : ℕ) (v : View) (at : get_elem? m.
             → ((n : ℕ) → entries_of seat_of n m.history ≡ entries_of seat_of n (furthest v.told v.seen)) → furthest v.told v.seen ≡ m.history
         ended [] e same = sym (e ∙ append-nil (furthest v.told v.seen))
         ended (x ∷ xs) e same =
-            let c : entries_of seat_of x.seat (x ∷ xs) ≡ x ∷ entries_of seat_of x.seat xs = ap (λ b. cond b (x ∷ entries_of seat_of x.seat xs) (entries_of seat_of x.seat xs)) (eq-eqb x.seat x.seat refl) in
-            let l : entries_of seat_of x.seat m.history ≡ entries_of seat_of x.seat (furthest v.told v.seen) ++ entries_of seat_of x.seat (x ∷ xs) = ap (entries_of seat_of x.seat) e ∙ entries_of-append seat_of x.seat (furthest v.told v.seen) (x ∷ xs) in
-            absurd (omega (arith, ap (length {A = HistoryEntry}) l, ap (length {A = HistoryEntry}) (same x.seat), ap (length {A = HistoryEntry}) c, length-append (entries_of seat_of x.seat (furthest v.told v.seen)) (entries_of seat_of x.seat (x ∷ xs))))
+            let c : entries_of seat_of x.seat (x ∷ xs) ≡ x ∷ entries_of seat_of x.seat xs = ap (λ b. cond b (x ∷ entries_of seat_of x.seat xs) (entries_of seat_of x.seat xs))
+            (eq-eqb x.seat x.seat refl) in
+            let l : entries_of seat_of x.seat m.history ≡ entries_of seat_of x.seat (furthest v.told v.seen) ++ entries_of seat_of x.seat (x ∷ xs) = ap (entries_of seat_of x.seat) e
+            ∙ entries_of-append seat_of x.seat (furthest v.told v.seen) (x ∷ xs) in
+            absurd (omega (
+              arith,
+              ap (length {A = HistoryEntry}) l,
+              ap (length {A = HistoryEntry}) (same x.seat),
+              ap (length {A = HistoryEntry}) c,
+              length-append (entries_of seat_of x.seat (furthest v.told v.seen)) (entries_of seat_of x.seat (x ∷ xs)),
+            ))
 
     -- a turn that it hasn't is free
     alone_free : (turn : ℕ) (has : View → ℕ) → Named turn has m.views → has v ≡ 0

@@ -6,7 +6,7 @@ use native.Mathlib.Decide.{ℕ_discrete}
 use lib.ListN.{get_elem?}
 use Rattle.pw_plan.specs.declared.plan.Plan.{Plan}
 use Rattle.pw_model.specs.declared.state.State.{State}
-use Rattle.pw_parts.specs.Records.{Part}
+use Rattle.pw_model.specs.Records.{Part}
 use Rattle.pw_machine.specs.Turns.{count_turn}
 use Rattle.pw_machine.specs.Turns.{part_at}
 use Rattle.pw_machine.specs.declared.view.Held.{Held}

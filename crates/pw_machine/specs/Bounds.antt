@@ -6,7 +6,7 @@ use Rattle.std.specs.List.{AllByRecursion}
 use Rattle.pw_plan.specs.declared.request.Request.{Request}
 use Rattle.pw_model.specs.declared.entry.HistoryEntry.{HistoryEntry}
 use Rattle.pw_model.specs.History.{MayFollow, request_of}
-use Rattle.pw_parts.specs.Routes.{route}
+use Rattle.pw_model.specs.Routes.{route}
 use Rattle.pw_machine.specs.declared.view.View.{View}
 use Rattle.pw_machine.specs.Turns.{count_turn, way}
 use Rattle.pw_machine.specs.Machine.{Machine, Invariant, count_held, now}

@@ -3,7 +3,7 @@ use Rattle.std.specs.Prelude.{◌≡◌, ℕ, ◌≤◌, List, [], ◌∷◌, �
 use Rattle.pw_plan.specs.declared.request.Request.{Request}
 use Rattle.pw_plan.specs.Requests.{Has}
 use Rattle.pw_model.specs.States.{opening}
-use Rattle.pw_parts.specs.Records.{Part, record_count}
+use Rattle.pw_model.specs.Records.{Part, record_count}
 use Rattle.pw_machine.specs.declared.view.View.{View}
 use Rattle.pw_machine.specs.Turns.{StartsWith, way}
 use Rattle.pw_machine.specs.Machine.{Given, Machine}

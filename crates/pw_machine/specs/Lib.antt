@@ -9,4 +9,6 @@ pub mod Bounds
 pub mod Histories
 pub mod Meetings
 pub mod Kinds
-pub mod Choices
+pub mod Walk
+pub mod WalkLaw
+pub mod Standing

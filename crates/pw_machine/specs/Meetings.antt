@@ -6,7 +6,7 @@ use Rattle.pw_plan.specs.declared.request.Request.{Request}
 use Rattle.pw_plan.specs.Requests.{Has}
 use Rattle.pw_model.specs.History.{entry_of}
 use Rattle.pw_model.specs.States.{opening}
-use Rattle.pw_parts.specs.Records.{Part, record_count}
+use Rattle.pw_model.specs.Records.{Part, record_count}
 use Rattle.pw_machine.specs.declared.view.View.{View}
 use Rattle.pw_machine.specs.Turns.{StartsWith, way}
 use Rattle.pw_machine.specs.Machine.{Given, Machine}
@@ -29,7 +29,9 @@ pub record TheyMeet (given : Given) (values : List Part) (q r : Request) (t : �
   pub second : View
   pub end : Machine
   pub allowed : Steps (opened given values)
-      (before ++ ((0, splits, split_seat 1 1) ∷ (asking ++ ((1, waits_second, find_record_held t r false) ∷ (answering ++ ((0, waits_first, find_record_held t q false) ∷ (ending ++ ((0, first, join_seats 1 second) ∷ last))))))))
+      (before ++ ((0, splits, split_seat 1 1)
+      ∷ (asking ++ ((1, waits_second, find_record_held t r false)
+      ∷ (answering ++ ((0, waits_first, find_record_held t q false) ∷ (ending ++ ((0, first, join_seats 1 second) ∷ last))))))))
       end
   pub history : end.history ≡ entry_of 0 q ∷ entry_of 1 r ∷ entry_of 0 q ∷ []
   -- each has met the other, once

@@ -1,5 +1,5 @@
 -- The parts that seats note are those that records hold.
-use Rattle.pw_parts.specs.Records.{Part, votes, levels, states}
+use Rattle.pw_model.specs.Records.{Part, votes, levels, states}
 use Rattle.pw_machine.specs.declared.part.Noted.{Noted}
 use Rattle.pw_machine.specs.declared.part.Noted.TheVariants.{Votes, Levels, States}
 

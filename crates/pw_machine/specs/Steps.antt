@@ -7,13 +7,13 @@ use Rattle.pw_plan.specs.declared.plan.Plan.{Plan}
 use Rattle.pw_model.specs.declared.state.State.{State}
 use Rattle.pw_plan.specs.declared.request.Request.{Request}
 use Rattle.pw_model.specs.declared.entry.HistoryEntry.{HistoryEntry}
-use Rattle.pw_parts.specs.Records.{Part}
+use Rattle.pw_model.specs.Records.{Part}
 use Rattle.pw_machine.specs.Turns.{count_turn, StartsWith}
 use Rattle.pw_plan.specs.Requests.{Has}
 use Rattle.pw_model.specs.Operations.{opening_ops}
 use Rattle.pw_model.specs.History.{MayFollow, request_of, entry_ops, replay}
-use Rattle.pw_parts.specs.Records.{record_count}
-use Rattle.pw_parts.specs.Routes.{route}
+use Rattle.pw_model.specs.Records.{record_count}
+use Rattle.pw_model.specs.Routes.{route}
 use Rattle.pw_machine.specs.Turns.{part_at}
 use Rattle.pw_machine.specs.declared.view.Held.{Held}
 use Rattle.pw_machine.specs.declared.view.View.{View}

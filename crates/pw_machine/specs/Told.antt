@@ -3,8 +3,8 @@ use Rattle.std.specs.Prelude.{◌≡◌, ◌≢◌, ℕ, ◌+◌, ◌-◌, ◌<�
 use mathlib.Core.Option.{some}
 use lib.ListN.{get_elem?}
 use Rattle.pw_plan.specs.declared.request.Request.{Request}
-use Rattle.pw_parts.specs.Records.{reach, record_count}
-use Rattle.pw_parts.specs.Routes.{numbers}
+use Rattle.pw_model.specs.Records.{reach, record_count}
+use Rattle.pw_model.specs.Routes.{numbers}
 use Rattle.pw_machine.specs.declared.view.View.{View}
 use Rattle.pw_machine.specs.Turns.{count_turn, part_at}
 use Rattle.pw_books.specs.Books.{count_in, entries_of, furthest}

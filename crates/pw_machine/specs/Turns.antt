@@ -3,8 +3,8 @@ use Rattle.std.specs.Prelude.{◌≡◌, ℕ, ◌+◌, List, [], ◌∷◌, ◌+
 use Rattle.pw_plan.specs.declared.plan.Plan.{Plan}
 use Rattle.pw_plan.specs.declared.request.Request.{Request}
 use Rattle.pw_model.specs.declared.state.State.{State}
-use Rattle.pw_parts.specs.Records.{Part, footprint, part_of, record_at}
-use Rattle.pw_parts.specs.Routes.{numbers}
+use Rattle.pw_model.specs.Records.{Part, footprint, part_of, record_at}
+use Rattle.pw_model.specs.Routes.{numbers}
 
 -- the part of a state that the record of a turn holds
 unfoldable pub part_at : Plan → ℕ → State → Part

@@ -2,8 +2,8 @@
 use Rattle.std.specs.Prelude.{◌≡◌, ◌⊎◌, ℕ, ◌<◌, true, List, length}
 use mathlib.Core.Option.{some}
 use lib.ListN.{get_elem?}
-use Rattle.pw_parts.specs.Records.{Part}
-use Rattle.pw_parts.specs.Records.{record_count}
+use Rattle.pw_model.specs.Records.{Part}
+use Rattle.pw_model.specs.Records.{record_count}
 use Rattle.pw_machine.specs.declared.view.View.{View}
 use Rattle.pw_machine.specs.Machine.{Given, Machine}
 use Rattle.pw_machine.specs.Steps.{Kind, take_record, find_record_held, record_back, release_record, take_journal, find_journal_held, journal_back, release_without_entry, May}

@@ -21,7 +21,7 @@ pub struct Part {
 }
 
 impl Model for Part {
-    ghost use Rattle.pw_parts.specs.Records.{Part as part};
+    ghost use Rattle.pw_model.specs.Records.{Part as part};
     ghost use Rattle.pw_machine.specs.Parts.{noted};
 
     ghost Value = { part };

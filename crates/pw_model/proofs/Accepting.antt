@@ -147,7 +147,8 @@ module _ (P : Plan) (p : ℕ) where
         let n = length (rows_of (cpu_at P p).idle) in
         let range = state_from n (not_refused ((s == 0) || nat_lt n s) (NoState n) (none_first no_state (disabled or_else slow) states)) in
         record {
-          table = has_table (cpu_at P p).idle.kind (not_refused (is_absent (cpu_at P p).idle.kind) NoTable (none_first no_table (unfit_refusal P p or_else (no_state or_else (disabled or_else slow))) e));
+          table = has_table (cpu_at P p).idle.kind (not_refused (is_absent (cpu_at P p).idle.kind) NoTable (none_first no_table (unfit_refusal P p or_else (no_state or_else (disabled or_else slow)))
+              e));
           domains = unfit_from (none_first (unfit_refusal P p) (no_state or_else (disabled or_else slow)) later);
           from = range.0;
           within = range.1;

@@ -97,7 +97,8 @@ module _ (P : Plan) (d p : ℕ) (on : IsFitMember P SwAny d p) (own : (q : ℕ) 
   moved S T ops e last = subst (λ s. IsLastSetAmong P (domain_at P d).kind (domain_at P d).members s ops) e last
 
   -- what is set of another domain's member is no register of this one's
-  apart : (e m s r : ℕ) → IsFit P e → has_member (domain_at P e).members m ≡ true → e ≢ d → has_member all r ≡ true → (w : ℕ) → set_on P (domain_at P e).kind s m ≢ op.Set r (its_register P kind_is all r) w
+  apart : (e m s r : ℕ) → IsFit P e → has_member (domain_at P e).members m ≡ true → e ≢ d → has_member all r ≡ true → (w : ℕ)
+      → set_on P (domain_at P e).kind s m ≢ op.Set r (its_register P kind_is all r) w
   apart e m s r fit member other in_d w = elsewhere P d r is_fit in_d (own r in_d) e m s fit member other w
 
   opening_here : Last (opening P) (opening_ops_of P d)
@@ -124,7 +125,8 @@ module _ (P : Plan) (d p : ℕ) (on : IsFitMember P SwAny d p) (own : (q : ℕ) 
       step false true x y = tt
       step false false x y = mapped (λ o. (w : ℕ) → o ≢ op.Set r (its_register P kind_is all r) w)
           (λ q. set_on P (domain_at P e).kind (standing P (opening P) e q) q) (opening_at (domain_at P e).coord (domain_at P e).members)
-          (λ q g. apart e q (standing P (opening P) e q) r (record { exists = lt; kind = x; fit = grind (arith, nat_tests) }) (opening_at_members (domain_at P e).coord (domain_at P e).members q g) other in_d)
+          (λ q g. apart e q (standing P (opening P) e q) r (record { exists = lt; kind = x; fit = grind (arith, nat_tests) }) (opening_at_members (domain_at P e).coord (domain_at P e).members q g)
+          other in_d)
 
   opens : Last (opening P) (opening_ops P)
   unfolding opening_ops
@@ -149,7 +151,8 @@ module _ (P : Plan) (d p : ℕ) (on : IsFitMember P SwAny d p) (own : (q : ℕ) 
             let same : standing P S d q ≡ standing P left d q = grind (arith, nat_tests) in
             rw append-nil (moved S left ops (standing-any P S d p q software ∙ same ∙ standing-any P left d q p software) last)
         step false SwAny e f = among_before P kind_is all (standing P left d p) ops (set_on P k (standing P left d q) q ∷ [])
-            (subst (λ o. IsLastSetAmong P kind_is all (standing P left d p) (o ∷ [])) (ap (λ s. set_on P kind_is s q) (standing-any P left d p q software) ∙ ap (λ j. set_on P j (standing P left d q) q) is)
+            (subst (λ o. IsLastSetAmong P kind_is all (standing P left d p) (o ∷ [])) (ap (λ s. set_on P kind_is s q) (standing-any P left d p q software) ∙ ap
+            (λ j. set_on P j (standing P left d q) q) is)
             (among_alone P kind_is all (standing P left d p) q in_d))
 
     -- on another one

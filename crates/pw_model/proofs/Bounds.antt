@@ -39,7 +39,8 @@ set_at-length HwAll members p = refl
 domain_ops-le : (P : Plan) (S T : State) (kind : DomainKind) (p : ℕ) → length (domain_ops P S T kind p) ≤ domain_bound P kind p
 domain_ops-le P S T kind p = step (standing P S (domain_of P kind p) p == standing P T (domain_of P kind p) p)
   where
-    step : (b : Bool) → length (cond b [] (map (set_on P kind (standing P T (domain_of P kind p) p)) (set_at (domain_at P (domain_of P kind p)).coord (domain_at P (domain_of P kind p)).members p))) ≤ domain_bound P kind p
+    step : (b : Bool) → length (cond b [] (map (set_on P kind (standing P T (domain_of P kind p) p)) (set_at (domain_at P (domain_of P kind p)).coord (domain_at P (domain_of P kind p)).members p))) ≤
+        domain_bound P kind p
     step true = omega arith
     step false =
         rw (length-map, set_at-length (domain_at P (domain_of P kind p)).coord (domain_at P (domain_of P kind p)).members p) (omega arith)
@@ -139,7 +140,8 @@ opening_of-length P d = step (is_idle (domain_at P d).kind) (nat_lt 0 (domain_at
         ∙ opening_at-length (domain_at P d).coord (domain_at P d).members
 
 -- lists put together, one for each element of another
-total : {X Y : Type 0} (f : ℕ → List Y) (g : X → ℕ) (d : X) (xs : List X) (k : ℕ) → ((i : ℕ) → i < length xs → length (f (k + i)) ≡ g (get_or xs i d)) → length (flat_map f (range_with_len k (length xs))) ≡ sum_by g xs
+total : {X Y : Type 0} (f : ℕ → List Y) (g : X → ℕ) (d : X) (xs : List X) (k : ℕ) → ((i : ℕ) → i < length xs → length (f (k + i)) ≡ g (get_or xs i d))
+    → length (flat_map f (range_with_len k (length xs))) ≡ sum_by g xs
 total f g d [] k h = refl
 total f g d (x ∷ xs) k h =
     let here : length (f k) ≡ g x = rw k+0 at (h 0 (omega arith)) in

@@ -220,7 +220,8 @@ module _ (P : Plan) (S : State) (p s t q : ℕ) (other : q ≢ p) where
   drawn_by : (x : Composite) → ComesAlong P S left q → x ≡ composite_of P q (states_of P left q) → Contains (idle_ops P S left p) (op.Enter q x)
   drawn_by x h is =
       let passes : (not (q == p) && is_drawn P S left q) ≡ true = and_both (not (q == p)) (is_drawn P S left q) (ap not differ) (comes_by P S left q h) in
-      let drawn : Contains (drawn_with P S left p) q = passes_filter (λ r. not (r == p) && is_drawn P S left r) (group_at P (group_of P p)).members q (grouped P S p (idling s t) q other h.deeper) passes in
+      let drawn : Contains (drawn_with P S left p) q = passes_filter (λ r. not (r == p) && is_drawn P S left r) (group_at P (group_of P p)).members q (grouped P S p (idling s t) q other h.deeper)
+      passes in
       rw is (Contains-append_right (own_entry (cpu_at P p).idle.kind (c_state P left p) (enter P left p)) (map (enter P left) (drawn_with P S left p))
       (op.Enter q (composite_of P q (states_of P left q))) (map_in (enter P left) (drawn_with P S left p) q drawn))
     where

@@ -77,10 +77,13 @@ module _ (P : Plan) (Stands : State → List Op → Type 0) (keeps : Keeps P Sta
       let T = with_change S (changes.Vote q (idling s t)) in
       keeps.entered T ops (idle_ops P S T q) (idle_sets_none P S T q) (keeps.voted S q (idling s t) ops last)
   accepted_stands S (Wake q) ops has e last = rw append-nil (keeps.voted S q running ops last)
-  accepted_stands S (Perf q i) ops has e last = keeps.requested S (changes.Ask scales.Perf q i) kinds.Perf q has (first_none (domain_refusal P kinds.Perf q (scale_of kinds.Perf (cpu_at P q))) _ e) refl (λ k m h. h) ops last
-  accepted_stands S (Throttle q i) ops has e last = keeps.requested S (changes.Ask scales.Throttle q i) kinds.Throttle q has (first_none (domain_refusal P kinds.Throttle q (scale_of kinds.Throttle (cpu_at P q))) _ e) refl (λ k m h. h) ops last
+  accepted_stands S (Perf q i) ops has e last = keeps.requested S (changes.Ask scales.Perf q i) kinds.Perf q has (first_none (domain_refusal P kinds.Perf q (scale_of kinds.Perf (cpu_at P q))) _ e)
+      refl (λ k m h. h) ops last
+  accepted_stands S (Throttle q i) ops has e last = keeps.requested S (changes.Ask scales.Throttle q i) kinds.Throttle q has
+      (first_none (domain_refusal P kinds.Throttle q (scale_of kinds.Throttle (cpu_at P q))) _ e) refl (λ k m h. h) ops last
   accepted_stands S (PerfLimit q n) ops has e last = keeps.requested S (changes.Limit scales.Perf q (capped (scale_of kinds.Perf (cpu_at P q)) n)) kinds.Perf q has e refl (λ k m h. h) ops last
-  accepted_stands S (ThrottleLimit q n) ops has e last = keeps.requested S (changes.Limit scales.Throttle q (capped (scale_of kinds.Throttle (cpu_at P q)) n)) kinds.Throttle q has e refl (λ k m h. h) ops last
+  accepted_stands S (ThrottleLimit q n) ops has e last = keeps.requested S (changes.Limit scales.Throttle q (capped (scale_of kinds.Throttle (cpu_at P q)) n)) kinds.Throttle q has e refl
+      (λ k m h. h) ops last
 
   request_stands : (S : State) (q : Request) (ops : List Op) → Has P q → Stands S ops → Stands (after P S q) (ops ++ ops_of P S q)
   unfolding after ops_of

@@ -156,7 +156,15 @@ module _ (P : Plan) (k : ℕ) where
   -- an entry that is a fault is the last
   stops_here : (S : State) (e : HistoryEntry) (es : List HistoryEntry) → FaultIsLast (e ∷ es) → FaultFits P S e → e.fault ≢ 0 → k ≡ e.fault - 1 → Stops P S (e ∷ es) k
   stops_here S e [] l (inl none) some is = absurd (some none)
-  stops_here S e [] l (inr le) some is = record { before = []; last = e; is = refl; faultless = tt; fault = one_more e.fault some is; within = below e.fault (length (ops_of P S (request_of e))) some is le }
+  stops_here S e [] l (inr le) some is = record {
+    before = [];
+    last = e;
+    is = refl;
+    faultless = tt;
+    fault = one_more e.fault some is;
+    within =
+        below e.fault (length (ops_of P S (request_of e))) some is le;
+  }
     where
       one_more : (f : ℕ) → f ≢ 0 → k ≡ f - 1 → f ≡ k + 1
       one_more f some is = omega arith

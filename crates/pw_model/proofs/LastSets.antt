@@ -60,13 +60,16 @@ set_members p r v f (m ∷ ms) e is other = step (has_member ms p) refl (λ g. s
 
 pub untouched_in : (p : ℕ) (r : Register) (f : ℕ → List Op) (k n : ℕ) → ((q : ℕ) → k ≤ q → q < k + n → Untouched p r (f q)) → Untouched p r (flat_map f (range_with_len k n))
 untouched_in p r f k zero h = tt
-untouched_in p r f k (suc n) h = each_append (λ o. (w : ℕ) → o ≢ Set p r w) (f k) (flat_map f (range_with_len (k + 1) n)) (h k (omega arith) (omega arith)) (untouched_in p r f (k + 1) n (λ q a b. h q (omega arith) (omega arith)))
+untouched_in p r f k (suc n) h = each_append (λ o. (w : ℕ) → o ≢ Set p r w) (f k) (flat_map f (range_with_len (k + 1) n)) (h k (omega arith) (omega arith)) (untouched_in p r f (k + 1) n
+    (λ q a b. h q (omega arith) (omega arith)))
 
 -- where one of them alone sets it
-pub set_in : (p : ℕ) (r : Register) (v : ℕ) (f : ℕ → List Op) (d k n : ℕ) → k ≤ d → d < k + n → IsLastSet p r v (f d) → ((q : ℕ) → q < k + n → q ≢ d → Untouched p r (f q)) → IsLastSet p r v (flat_map f (range_with_len k n))
+pub set_in : (p : ℕ) (r : Register) (v : ℕ) (f : ℕ → List Op) (d k n : ℕ) → k ≤ d → d < k + n → IsLastSet p r v (f d) → ((q : ℕ) → q < k + n → q ≢ d → Untouched p r (f q))
+    → IsLastSet p r v (flat_map f (range_with_len k n))
 set_in p r v f d k zero le lt last other = absurd (omega arith)
 set_in p r v f d k (suc n) le lt last other = elim (cases_eq k d) [
-  | inl here ↦ last_append p r v (f k) (flat_map f (range_with_len (k + 1) n)) (rw here last) (untouched_in p r f (k + 1) n (λ q a b. other q (omega arith) (λ same. absurd (omega (arith, same, here)))))
+  | inl here ↦ last_append p r v (f k) (flat_map f (range_with_len (k + 1) n)) (rw here last) (untouched_in p r f (k + 1) n
+      (λ q a b. other q (omega arith) (λ same. absurd (omega (arith, same, here)))))
   | inr behind ↦ last_before p r v (f k) (flat_map f (range_with_len (k + 1) n)) (set_in p r v f d (k + 1) n (further k d le behind) (omega arith) last (λ q b. other q (omega arith)))
 ]
   where

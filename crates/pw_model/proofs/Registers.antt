@@ -132,7 +132,8 @@ found P kind q exists accepted scaled =
     let fine = domain_from P kind q (scale_of kind (cpu_at P q)) accepted in
     let lt : domain_of P kind q < length P.domains = P.sound.domains.placed kind q exists fine.0 in
     let covered : covers kind q (domain_at P (domain_of P kind q)) ≡ true = passes_at_first (covers kind q) P.domains no_domain lt in
-    let is = kind_same (domain_at P (domain_of P kind q)).kind kind (and_first (same_kind (domain_at P (domain_of P kind q)).kind kind) (has_member (domain_at P (domain_of P kind q)).members q) covered) in
+    let is = kind_same (domain_at P (domain_of P kind q)).kind kind (and_first (same_kind (domain_at P (domain_of P kind q)).kind kind) (has_member (domain_at P (domain_of P kind q)).members q)
+    covered) in
     record {
       fit = record { exists = lt; kind = ap is_idle is ∙ scaled; fit = fine.1 };
       is = is;
@@ -200,7 +201,8 @@ module _ (P : Plan) (d p : ℕ) (on : IsSetOnEach P d p) (own : HasOwnRegisters 
       step false true x y = tt
       step false false x y = mapped (λ o. (w : ℕ) → o ≢ op.Set p the_register w)
           (λ q. set_on P (domain_at P e).kind (standing P (opening P) e q) q) (opening_at (domain_at P e).coord (domain_at P e).members)
-          (λ q g. elsewhere P d p is_fit on.member own e q (standing P (opening P) e q) (record { exists = lt; kind = x; fit = grind (arith, nat_tests) }) (opening_at_members (domain_at P e).coord (domain_at P e).members q g) other)
+          (λ q g. elsewhere P d p is_fit on.member own e q (standing P (opening P) e q) (record { exists = lt; kind = x; fit = grind (arith, nat_tests) })
+          (opening_at_members (domain_at P e).coord (domain_at P e).members q g) other)
 
   pub opening_stands : Stands (opening P) (opening_ops P)
   unfolding opening_ops
@@ -219,7 +221,8 @@ module _ (P : Plan) (d p : ℕ) (on : IsSetOnEach P d p) (own : HasOwnRegisters 
     has_found = found P kind q exists accepted scaled
 
     -- on the domain itself, that software coordinates
-    here_all : (T : State) (ops : List Op) (k : DomainKind) → (domain_at P d).kind ≡ k → is_software (domain_at P d).coord ≡ true → Stands S ops → (b : Bool) → (standing P S d q == standing P T d q) ≡ b
+    here_all : (T : State) (ops : List Op) (k : DomainKind) → (domain_at P d).kind ≡ k → is_software (domain_at P d).coord ≡ true → Stands S ops → (b : Bool)
+        → (standing P S d q == standing P T d q) ≡ b
         → Stands T (ops ++ cond b [] (map (set_on P k (standing P T d q)) (domain_at P d).members))
     here_all T ops k is software last true e =
         let same : standing P S d q ≡ standing P T d q = grind (arith, nat_tests) in
@@ -249,11 +252,13 @@ module _ (P : Plan) (d p : ℕ) (on : IsSetOnEach P d p) (own : HasOwnRegisters 
         step false = (λ w. set_on_other P k (standing P (with_change S c) d q) q p the_register other w, tt)
 
     here : (ops : List Op) (k : DomainKind) → (domain_at P d).kind ≡ k → Stands S ops
-        → Stands (with_change S c) (ops ++ cond (standing P S d q == standing P (with_change S c) d q) [] (map (set_on P k (standing P (with_change S c) d q)) (set_at (domain_at P d).coord (domain_at P d).members q)))
+        → Stands (with_change S c) (ops ++ cond (standing P S d q == standing P (with_change S c) d q) [] (map (set_on P k (standing P (with_change S c) d q))
+        (set_at (domain_at P d).coord (domain_at P d).members q)))
     here ops k is last = step (domain_at P d).coord refl on.coord
       where
         step : (x : Coord) → (domain_at P d).coord ≡ x → is_each x ≡ true
-            → Stands (with_change S c) (ops ++ cond (standing P S d q == standing P (with_change S c) d q) [] (map (set_on P k (standing P (with_change S c) d q)) (set_at x (domain_at P d).members q)))
+            → Stands (with_change S c) (ops ++ cond (standing P S d q == standing P (with_change S c) d q) [] (map (set_on P k (standing P (with_change S c) d q))
+            (set_at x (domain_at P d).members q)))
         step SwAny e f = cc
         step SwAll e f = here_all (with_change S c) ops k is (ap is_software e) last (standing P S d q == standing P (with_change S c) d q) refl
         step HwAll e f = elim (cases_eq q p) [
@@ -289,7 +294,8 @@ module _ (P : Plan) (d p : ℕ) (on : IsSetOnEach P d p) (own : HasOwnRegisters 
     ]
       where
         on_it : (e : ℕ) → e ≡ d → (domain_at P e).kind ≡ kind
-            → Stands (with_change S c) (ops ++ cond (standing P S e q == standing P (with_change S c) e q) [] (map (set_on P kind (standing P (with_change S c) e q)) (set_at (domain_at P e).coord (domain_at P e).members q)))
+            → Stands (with_change S c) (ops ++ cond (standing P S e q == standing P (with_change S c) e q) [] (map (set_on P kind (standing P (with_change S c) e q))
+            (set_at (domain_at P e).coord (domain_at P e).members q)))
         on_it e same is = subst (λ i. Stands (with_change S c) (ops ++ cond (standing P S i q == standing P (with_change S c) i q) []
             (map (set_on P kind (standing P (with_change S c) i q)) (set_at (domain_at P i).coord (domain_at P i).members q)))) (sym same)
             (here ops kind (ap (λ i. (domain_at P i).kind) (sym same) ∙ is) last)

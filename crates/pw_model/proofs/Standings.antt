@@ -70,7 +70,8 @@ each_member : (Q : ℕ → Type 0) (ms : List ℕ) → ((q : ℕ) → has_member
 each_member Q [] h = tt
 each_member Q (m ∷ ms) h = (h m (or_left (m == m) (has_member ms m) (grind (arith, nat_tests))), each_member Q ms (λ q e. h q (or_right (m == q) (has_member ms q) e)))
 
-own_spared : (S : State) (c : Change) (kind : DomainKind) (p : ℕ) → Spares c kind p → max (limit_of kind (with_change S c) p) (ask_of kind (with_change S c) p) ≡ max (limit_of kind S p) (ask_of kind S p)
+own_spared : (S : State) (c : Change) (kind : DomainKind) (p : ℕ) → Spares c kind p → max (limit_of kind (with_change S c) p) (ask_of kind (with_change S c) p)
+    ≡ max (limit_of kind S p) (ask_of kind S p)
 own_spared S c kind p spared =
     ap (λ l. max l (ask_of kind (with_change S c) p)) (limit_spared S c kind p spared)
     ∙ ap (max (limit_of kind S p)) (ask_spared S c kind p spared)
@@ -90,7 +91,8 @@ standing-spared P S c d p member spares =
     let asks : map (ask_of (domain_at P d).kind (with_change S c)) (domain_at P d).members ≡ map (ask_of (domain_at P d).kind S) (domain_at P d).members =
     map_agree (Spares c (domain_at P d).kind) (ask_of (domain_at P d).kind (with_change S c)) (ask_of (domain_at P d).kind S) (ask_spared S c (domain_at P d).kind) (domain_at P d).members each in
     let limits : map (limit_of (domain_at P d).kind (with_change S c)) (domain_at P d).members ≡ map (limit_of (domain_at P d).kind S) (domain_at P d).members =
-    map_agree (Spares c (domain_at P d).kind) (limit_of (domain_at P d).kind (with_change S c)) (limit_of (domain_at P d).kind S) (limit_spared S c (domain_at P d).kind) (domain_at P d).members each in
+    map_agree (Spares c (domain_at P d).kind) (limit_of (domain_at P d).kind (with_change S c)) (limit_of (domain_at P d).kind S) (limit_spared S c (domain_at P d).kind) (domain_at P d).members each
+    in
     by (is_software (domain_at P d).coord) asks limits
   where
     own : max (limit_of (domain_at P d).kind (with_change S c) p) (ask_of (domain_at P d).kind (with_change S c) p) ≡ max (limit_of (domain_at P d).kind S p) (ask_of (domain_at P d).kind S p)

@@ -75,7 +75,8 @@ same_within P S (suc f) (suc g) n a b =
     ap (node_vote P n) (map_agree (IsChild P n) (vote_among P S.votes (vote_within f P S.votes)) (vote_among P S.votes (vote_within g P S.votes))
     (each (λ m lt. same_within P S f g m (omega arith) (omega arith))) (children_at P n) (are_children P n))
   where
-    each : ((m : ℕ) → n < m → vote_within f P S.votes m ≡ vote_within g P S.votes m) → (c : Child) → IsChild P n c → vote_among P S.votes (vote_within f P S.votes) c ≡ vote_among P S.votes (vote_within g P S.votes) c
+    each : ((m : ℕ) → n < m → vote_within f P S.votes m ≡ vote_within g P S.votes m) → (c : Child) → IsChild P n c
+        → vote_among P S.votes (vote_within f P S.votes) c ≡ vote_among P S.votes (vote_within g P S.votes) c
     each above (Cpu p) h = refl
     each above (Container m) h = above m (P.sound.tree.falls m n h.exists h.parent)
 

@@ -40,7 +40,8 @@ pub record MayIdle (P : Plan) (S : State) (n i : ℕ) : Type 0 where
 -- Domain d lets processor p enter C state j: if it is an idle domain of p that software coordinates, about that state,
 -- each member votes for the state or a deeper one (ACPI 6.5, 8.3).
 abbrev pub LetsEnter : State → ℕ → ℕ → Domain → Type 0
-LetsEnter S p j d = is_idle d.kind ≡ true → is_software d.coord ≡ true → has_member d.members p ≡ true → state_of d ≡ j → AllByRecursion (λ q. j ≤ (vote_of S q).state) d.members
+LetsEnter S p j d = is_idle d.kind ≡ true → is_software d.coord ≡ true → has_member d.members p ≡ true → state_of d ≡ j
+    → AllByRecursion (λ q. j ≤ (vote_of S q).state) d.members
 
 -- Processor p may enter C state j: each domain lets it.
 abbrev pub MayEnter : Plan → State → ℕ → ℕ → Type 0

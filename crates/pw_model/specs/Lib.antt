@@ -9,3 +9,12 @@ pub mod History
 pub mod Laws
 pub mod Acceptance
 pub mod Entering
+pub mod Records
+pub mod Effects
+pub mod Locality
+pub mod Numbers
+pub mod Calls
+pub mod Holding
+pub mod Routes
+pub mod Loops
+pub mod inner

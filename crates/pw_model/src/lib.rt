@@ -8,6 +8,7 @@ mod entering;
 mod entry;
 mod history;
 mod laws;
+mod record_laws;
 mod reply;
 mod starting;
 mod state;
@@ -24,6 +25,10 @@ pub use history::{
 pub use laws::{
     bounds_hold, c_states_are_greatest, container_states_are_greatest, domains_stand_within_limits,
     refusals_change_nothing, registers_stand, wakes_operate_nothing,
+};
+pub use record_laws::{
+    histories_leave_ways, records_open_and_serve, records_tell_requests, requests_are_local,
+    requests_have_routes, requests_have_ways, states_fit_records,
 };
 pub use reply::Reply;
 pub use starting::starts_are_those_of_the_tables;

@@ -69,7 +69,8 @@ changed_both P S T q kinds.Throttle p a = record { long = a.long; same = a.same 
 changed_both P S T q kinds.Idle p a = record { long = a.long; same = a.same }
 
 -- one that changes no limit may be refused in one state and accepted in the other
-mixed : (P : Plan) (S T : State) (q : Request) (kind : DomainKind) (p : ℕ) → ((U : State) → limits_of kind (changed P U q) ≡ limits_of kind U) → Alike kind p S T → Alike kind p (after P S q) (after P T q)
+mixed : (P : Plan) (S T : State) (q : Request) (kind : DomainKind) (p : ℕ) → ((U : State) → limits_of kind (changed P U q) ≡ limits_of kind U) → Alike kind p S T
+    → Alike kind p (after P S q) (after P T q)
 unfolding after
 mixed P S T q kind p quiet a = step (refusal P S q) (refusal P T q)
   where
@@ -121,7 +122,8 @@ after_both P S T (Throttle c i) kind p a = mixed P S T (Throttle c i) kind p (qu
 
 -- # All requests
 
-made_alike : (P : Plan) (kind : DomainKind) (p : ℕ) (qs : List Request) (S T : State) → Alike kind p S T → limit_of kind (made_from P S qs) p ≡ limit_of kind (made_from P T (filter (λ q. cpu_of q == p) qs)) p
+made_alike : (P : Plan) (kind : DomainKind) (p : ℕ) (qs : List Request) (S T : State) → Alike kind p S T
+    → limit_of kind (made_from P S qs) p ≡ limit_of kind (made_from P T (filter (λ q. cpu_of q == p) qs)) p
 made_alike P kind p [] S T a = a.same
 made_alike P kind p (q ∷ qs) S T a = step (cpu_of q == p) refl (λ U b. made_alike P kind p qs (after P S q) U b)
   where
@@ -150,7 +152,8 @@ entry_both P S T e kind p a = step (e.fault == 0)
     step true = after_both P S T (request_of e) kind p a
     step false = a
 
-replayed_alike : (P : Plan) (kind : DomainKind) (p : ℕ) (es : List HistoryEntry) (S T : State) → Alike kind p S T → limit_of kind (replay_from P S es) p ≡ limit_of kind (replay_from P T (own_entries p es)) p
+replayed_alike : (P : Plan) (kind : DomainKind) (p : ℕ) (es : List HistoryEntry) (S T : State) → Alike kind p S T
+    → limit_of kind (replay_from P S es) p ≡ limit_of kind (replay_from P T (own_entries p es)) p
 replayed_alike P kind p [] S T a = a.same
 replayed_alike P kind p (e ∷ es) S T a = step (e.cpu == p) refl (λ U b. replayed_alike P kind p es (after_entry P S e) U b)
   where

@@ -16,8 +16,10 @@ stepped count current value =
 -- least one state, every limit below it and every value, and what it answers is below the count.
 pub record Handles (pre : ℕ → ℕ → ℕ → Type 0) (post : ℕ → ℕ → ℕ → ℕ → Type 0) : Type 0 where
   pub callable : (count current value : ℕ) → 1 ≤ count → current < count → count < 2 ^ 32 → value < 2 ^ 32 → pre count current value
-  pub below : (count current value n : ℕ) → 1 ≤ count → current < count → count < 2 ^ 32 → value < 2 ^ 32 → post count current value n → n < count
+  pub below : (count current value n : ℕ) → 1 ≤ count → current < count → count < 2 ^ 32 → value < 2 ^ 32 → post count current value n
+      → n < count
 
 -- What it answers is the value of a function, as that of `stepped` for one that answers as `step` does.
 abbrev pub HandlesAs : (ℕ → ℕ → ℕ → ℕ) → (ℕ → ℕ → ℕ → ℕ → Type 0) → Type 0
-HandlesAs answer post = (count current value n : ℕ) → 1 ≤ count → current < count → count < 2 ^ 32 → value < 2 ^ 32 → post count current value n → n ≡ answer count current value
+HandlesAs answer post = (count current value n : ℕ) → 1 ≤ count → current < count → count < 2 ^ 32 → value < 2 ^ 32
+    → post count current value n → n ≡ answer count current value

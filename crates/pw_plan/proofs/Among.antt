@@ -18,7 +18,8 @@ module _ {X Y : Type 0} (t u : X → Bool) (whole : List X) (d : X) (f : ℕ →
       shows : v (f k) ≡ u x
       shows = same k ∙ ap u ((drop_head k whole x d xs at).0)
 
-      by : list_all v (map f (places_from t (k + 1) xs)) ≡ list_all u xs → (b : Bool) → t x ≡ b → list_all v (map f (cond (t x) (k ∷ places_from t (k + 1) xs) (places_from t (k + 1) xs))) ≡ (u x && list_all u xs)
+      by : list_all v (map f (places_from t (k + 1) xs)) ≡ list_all u xs → (b : Bool) → t x ≡ b → list_all v (map f (cond (t x) (k ∷ places_from t (k + 1) xs) (places_from t (k + 1) xs)))
+          ≡ (u x && list_all u xs)
       by ih true h = rw (h, shows, ih) refl
       by ih false h = rw (h, outside x h) ih
 
@@ -30,6 +31,7 @@ module _ {X Y : Type 0} (t u : X → Bool) (whole : List X) (d : X) (f : ℕ →
       shows : v (f k) ≡ u x
       shows = same k ∙ ap u ((drop_head k whole x d xs at).0)
 
-      by : list_any v (map f (places_from t (k + 1) xs)) ≡ list_any u xs → (b : Bool) → t x ≡ b → list_any v (map f (cond (t x) (k ∷ places_from t (k + 1) xs) (places_from t (k + 1) xs))) ≡ (u x || list_any u xs)
+      by : list_any v (map f (places_from t (k + 1) xs)) ≡ list_any u xs → (b : Bool) → t x ≡ b → list_any v (map f (cond (t x) (k ∷ places_from t (k + 1) xs) (places_from t (k + 1) xs)))
+          ≡ (u x || list_any u xs)
       by ih true h = rw (h, shows, ih) refl
       by ih false h = rw (h, outside x h) ih

@@ -63,7 +63,8 @@ abbrev name_by : Option ℕ → ℕ → Option DomainName
 name_by number index = option_map (λ n. record { number = n; index = index }) number
 
 abbrev made : List CpuParts → DomainKind → Option ℕ → ℕ → List ℕ → Domain
-made ps kind number index members = build kind number index (shown kind (name_by number index) ps (first_of members)).coord members (why_unfit kind (name_by number index) ps (first_of members) members)
+made ps kind number index members = build kind number index (shown kind (name_by number index) ps (first_of members)).coord members
+    (why_unfit kind (name_by number index) ps (first_of members) members)
 
 is_made : (ps : List CpuParts) (d : Domain) → IsDomain ps d → d ≡ made ps d.kind d.number d.index d.members
 is_made ps d is = ap (λ c. build d.kind d.number d.index c d.members d.unfit) is.coord
@@ -87,7 +88,8 @@ module _ (ps : List CpuParts) (ds es : List Domain) (a : AreDomains ps ds) (b : 
       let declared : declares d.kind name ps p ≡ true = sym (is.declared n p e) ∙ first_there d.members is.some in
       let r = any_in (HasName d.kind name) es (b.named d.kind name p declared) in
       let is_r : IsDomain ps r.0 = each_in (IsDomain ps) es r.0 (recursion_from_All (IsDomain ps) es b.each) r.1 in
-      let members : d.members ≡ r.0.members = same_members d.members r.0.members is.rising is_r.rising (λ q. is.declared n q e ∙ moved r.0.kind r.0.index d.kind d.index q n (sym r.2.0) (sym r.2.2) ∙ sym (is_r.declared n q r.2.1)) in
+      let members : d.members ≡ r.0.members = same_members d.members r.0.members is.rising is_r.rising (λ q. is.declared n q e ∙ moved r.0.kind r.0.index d.kind d.index q n (sym r.2.0) (sym r.2.2)
+      ∙ sym (is_r.declared n q r.2.1)) in
       let same : d ≡ r.0 = same_domain ps d r.0 is is_r (sym r.2.0) (e ∙ sym r.2.1) (sym r.2.2) members in
       subst (λ w. In w es) (sym same) r.1
     where

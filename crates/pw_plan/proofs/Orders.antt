@@ -98,7 +98,8 @@ any_cpu : (ys : List ℕ) (p : ℕ) → has_member ys p ≡ true → list_any (i
 any_cpu [] p e = cc
 any_cpu (y ∷ ys) p e = step (y == p) e (any_cpu ys p)
   where
-    step : (b : Bool) → (b || has_member ys p) ≡ true → (has_member ys p ≡ true → list_any (is_same (Cpu p)) (map (λ q. Cpu q) ys) ≡ true) → (b || list_any (is_same (Cpu p)) (map (λ q. Cpu q) ys)) ≡ true
+    step : (b : Bool) → (b || has_member ys p) ≡ true → (has_member ys p ≡ true → list_any (is_same (Cpu p)) (map (λ q. Cpu q) ys) ≡ true)
+        → (b || list_any (is_same (Cpu p)) (map (λ q. Cpu q) ys)) ≡ true
     step true e later = refl
     step false e later = later e
 
@@ -106,7 +107,8 @@ any_container : (xs : List ℕ) (m : ℕ) → has_member xs m ≡ true → list_
 any_container [] m e = cc
 any_container (x ∷ xs) m e = step (x == m) e (any_container xs m)
   where
-    step : (b : Bool) → (b || has_member xs m) ≡ true → (has_member xs m ≡ true → list_any (is_same (Container m)) (map (λ n. Container n) xs) ≡ true) → (b || list_any (is_same (Container m)) (map (λ n. Container n) xs)) ≡ true
+    step : (b : Bool) → (b || has_member xs m) ≡ true → (has_member xs m ≡ true → list_any (is_same (Container m)) (map (λ n. Container n) xs) ≡ true)
+        → (b || list_any (is_same (Container m)) (map (λ n. Container n) xs)) ≡ true
     step true e later = refl
     step false e later = later e
 
@@ -148,7 +150,8 @@ module _ (cs : List ContainerParts) (ps : List CpuParts) (fit : PartsFit cs ps) 
   nested n m lt e =
       let up = parent_below m n (container_in cs m).parent (fit.containers m lt) e in
       let on : has_member (below n) m ≡ true = rw zero-add at (places-has (λ (c : ContainerParts). is_number n c.parent) 0 cs m no_container lt (is_its n (container_in cs m).parent e)) in
-      ap (list_any (is_same (Container m))) (children_at_is n (omega (arith, up, lt))) ∙ any_append_left (is_same (Container m)) (map (λ k. Container k) (below n)) (map (λ q. Cpu q) (beside n)) (any_container (below n) m on)
+      ap (list_any (is_same (Container m))) (children_at_is n (omega (arith, up, lt))) ∙ any_append_left (is_same (Container m)) (map (λ k. Container k) (below n)) (map (λ q. Cpu q) (beside n))
+      (any_container (below n) m on)
 
   -- # Domains
 
@@ -280,7 +283,8 @@ module _ (ds : List Domain) (gs : List Group) (are : AreGroups ds gs) where
         ]
       ]
 
-  together : All (λ (d : Domain). (p q : ℕ) → is_link d ≡ true → has_member d.members p ≡ true → has_member d.members q ≡ true → (group_in gs p < length gs) × (has_member (at (group_in gs p)).members q ≡ true)) ds
+  together : All (λ (d : Domain). (p q : ℕ) → is_link d ≡ true → has_member d.members p ≡ true → has_member d.members q ≡ true → (group_in gs p < length gs)
+      × (has_member (at (group_in gs p)).members q ≡ true)) ds
   together k x lt p q link on also =
       let is : get_or ds k x ≡ domain_in ds k = get_or_default ds k x no_domain lt in
       let linked : is_linked ds p ≡ true = any_at (λ (d : Domain). is_link d && has_member d.members p) ds k x lt (and_both (is_link (get_or ds k x)) (has_member (get_or ds k x).members p) link on) in
@@ -290,7 +294,8 @@ module _ (ds : List Domain) (gs : List Group) (are : AreGroups ds gs) where
   group_kind : (ps : List CpuParts) → AllByRecursion (HasCStates ps) ds → All (λ (g : Group). (p : ℕ) → has_member g.members p ≡ true → is_cst (cpu_in ps p).idle.kind ≡ true) gs
   group_kind ps h g x lt p on =
       let r = first_place (λ (d : Domain). is_link d && has_member d.members p) ds no_domain (are.linked g x lt p on) in
-      ap is_cst (All-from_recursion (HasCStates ps) ds h r.0 no_domain r.1 p (and_first (is_link (domain_in ds r.0)) (has_member (domain_in ds r.0).members p) r.2) (and_second (is_link (domain_in ds r.0)) (has_member (domain_in ds r.0).members p) r.2))
+      ap is_cst (All-from_recursion (HasCStates ps) ds h r.0 no_domain r.1 p (and_first (is_link (domain_in ds r.0)) (has_member (domain_in ds r.0).members p) r.2)
+      (and_second (is_link (domain_in ds r.0)) (has_member (domain_in ds r.0).members p) r.2))
 
 -- # The plan of its parts
 
@@ -305,7 +310,8 @@ orderly cs ps children ds gs plan =
       once = rw plan.children_are (once cs ps plan.fit);
       members = rw ds_are (All-from_recursion (λ (d : Domain). IsStrictlyIncreasing d.members) (all_domains ps) (members cs ps plan.fit));
       scaled_first = rw ds_are (λ d lt e. first_scaled (domains_of Perf ps ++ domains_of Throttle ps) (domains_of Idle ps) no_domain
-          (each_append (λ (d : Domain). is_scaled d ≡ true) (domains_of Perf ps) (domains_of Throttle ps) (scaled_kind cs ps plan.fit Perf refl) (scaled_kind cs ps plan.fit Throttle refl)) (idle_kind cs ps plan.fit) d lt e);
+          (each_append (λ (d : Domain). is_scaled d ≡ true) (domains_of Perf ps) (domains_of Throttle ps) (scaled_kind cs ps plan.fit Perf refl) (scaled_kind cs ps plan.fit Throttle refl))
+          (idle_kind cs ps plan.fit) d lt e);
       grouped = are.rising;
       kind = group_kind ds gs are ps (rw ds_are (c_states cs ps plan.fit));
       one_group = one_group ds gs are;

@@ -191,7 +191,8 @@ module _ (ps : List CpuParts) (kind : DomainKind)
               → list_any (covers kind p) (map (λ n. domain_with kind (Some n) ps q (members_of kind ps n)) (cond (not b) (name_of d ∷ []) [])) ≡ true → LeadsNamed p q
           step true h e = cc
           step false h e =
-              let member = and_second (same_kind kind kind) (has_member (members_of kind ps (name_of d)) p) (only (covers kind p (domain_with kind (Some (name_of d)) ps q (members_of kind ps (name_of d)))) e) in
+              let member = and_second (same_kind kind kind) (has_member (members_of kind ps (name_of d)) p)
+              (only (covers kind p (domain_with kind (Some (name_of d)) ps q (members_of kind ps (name_of d)))) e) in
               let at = places-only (is_in kind (name_of d)) 0 ps p no_cpu member in
               let same : at.0 ≡ p = omega (arith, at.1) in
               record { entry = d; own = is; in_it = rw same at at.3; first = h }
@@ -238,7 +239,8 @@ module _ (ps : List CpuParts) (kind : DomainKind)
   leads : (p q : ℕ) → list_any (covers kind p) (led_by kind ps q) ≡ true → LeadsOwn p q ⊎ LeadsNamed p q
   leads p q e = step (list_any (covers kind p) (own_domain kind ps q)) refl (sym (list_any-append (covers kind p) (own_domain kind ps q) (named_domains kind ps q (names_of kind (cpu_in ps q)))) ∙ e)
     where
-      step : (b : Bool) → list_any (covers kind p) (own_domain kind ps q) ≡ b → (b || list_any (covers kind p) (named_domains kind ps q (names_of kind (cpu_in ps q)))) ≡ true → LeadsOwn p q ⊎ LeadsNamed p q
+      step : (b : Bool) → list_any (covers kind p) (own_domain kind ps q) ≡ b → (b || list_any (covers kind p) (named_domains kind ps q (names_of kind (cpu_in ps q)))) ≡ true → LeadsOwn p q
+          ⊎ LeadsNamed p q
       step true h e = inl (own_leads p q h)
       step false h e = inr (named_leads p q e)
 
@@ -273,7 +275,8 @@ module _ (ps : List CpuParts) where
   not_idle Idle e = cc
 
   -- a processor is in at most one domain of performance, and in one of throttling
-  pub only : (kind : DomainKind) (d p : ℕ) (x : Domain) → d < length (all_domains ps) → is_idle kind ≡ false → covers kind p (get_or (all_domains ps) d x) ≡ true → position_or_len (covers kind p) (all_domains ps) ≡ d
+  pub only : (kind : DomainKind) (d p : ℕ) (x : Domain) → d < length (all_domains ps) → is_idle kind ≡ false → covers kind p (get_or (all_domains ps) d x) ≡ true
+      → position_or_len (covers kind p) (all_domains ps) ≡ d
   only kind d p x lt scaled e = only_place (covers kind p) (all_domains ps) d x
       (one_append (covers kind p) (domains_of Perf ps ++ domains_of Throttle ps) (domains_of Idle ps) (scaled_one kind p scaled)
       (one_none (covers kind p) (domains_of Idle ps) (none_of kind Idle p (not_idle kind scaled))) (λ h. none_of kind Idle p (not_idle kind scaled)))

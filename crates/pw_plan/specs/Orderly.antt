@@ -39,10 +39,13 @@ group_in gs p = position_or_len (λ (g : Group). has_member g.members p) gs
 -- What a plan tells beyond its soundness, of its lists alone. A child is listed under its parent, and once; members rise;
 -- domains of idle states come last; who is in a group has C states and is in no other group; the members of an idle domain
 -- that software coordinates are in one group.
-pub record IsOrderly (cs : List ContainerParts) (ps : List CpuParts) (children : List (List Child)) (ds : List Domain) (gs : List Group) : Type 0 where
+pub record IsOrderly (cs : List ContainerParts) (ps : List CpuParts) (children : List (List Child)) (ds : List Domain)
+    (gs : List Group) : Type 0 where
   pub listed : (n p : ℕ) → p < length ps → (cpu_in ps p).parent ≡ Some n → list_any (is_same (Cpu p)) (slice_index_or children n []) ≡ true
-  pub nested : (n m : ℕ) → m < length cs → (container_in cs m).parent ≡ Some n → list_any (is_same (Container m)) (slice_index_or children n []) ≡ true
-  pub once : (n j k : ℕ) → j < k → k < length (slice_index_or children n []) → is_same (child_in children n j) (child_in children n k) ≡ false
+  pub nested : (n m : ℕ) → m < length cs → (container_in cs m).parent ≡ Some n
+      → list_any (is_same (Container m)) (slice_index_or children n []) ≡ true
+  pub once : (n j k : ℕ) → j < k → k < length (slice_index_or children n [])
+      → is_same (child_in children n j) (child_in children n k) ≡ false
   pub members : All (λ (d : Domain). IsStrictlyIncreasing d.members) ds
   pub scaled_first : (d : ℕ) → d < length ds → is_scaled (domain_in ds d) ≡ true → d < count_by is_scaled ds
   pub grouped : All (λ (g : Group). IsStrictlyIncreasing g.members) gs

@@ -12,7 +12,8 @@ use Rattle.pw_plan.specs.Domains.{AreDomains}
 use Rattle.pw_plan.specs.Groups.{groups_of}
 
 -- It is the plan of its parts: they fit together and pass no limit, and the rest is made of them.
-pub record IsPlanOf (cs : List ContainerParts) (ps : List CpuParts) (children : List (List Child)) (ds : List Domain) (gs : List Group) : Type 0 where
+pub record IsPlanOf (cs : List ContainerParts) (ps : List CpuParts) (children : List (List Child)) (ds : List Domain)
+    (gs : List Group) : Type 0 where
   pub fit : PartsFit cs ps
   pub within : limit_passed cs ps ≡ None
   pub children_are : children ≡ all_children cs ps

@@ -43,11 +43,16 @@ pub record IsSmall (cs : List ContainerParts) (ps : List CpuParts) : Type 0 wher
 pub record HasDomains (ps : List CpuParts) (ds : List Domain) : Type 0 where
   pub members : All (λ (d : Domain). All (λ p. p < length ps) d.members) ds
   pub sizes : All (λ (d : Domain). length d.members ≤ 256) ds
-  pub placed : (kind : DomainKind) (p : ℕ) → p < length ps → is_some (scale_of kind (cpu_in ps p)) ≡ true → position_or_len (covers kind p) ds < length ds
-  pub only : (kind : DomainKind) (d p : ℕ) → d < length ds → is_idle kind ≡ false → covers kind p (domain_in ds d) ≡ true → position_or_len (covers kind p) ds ≡ d
-  pub scaled : All (λ (d : Domain). (p : ℕ) → is_idle d.kind ≡ false → has_member d.members p ≡ true → is_some (scale_of d.kind (cpu_in ps p)) ≡ true) ds
-  pub registered : All (λ (d : Domain). (p : ℕ) → d.unfit ≡ 0 → has_member d.members p ≡ true → has_register (scale_of d.kind (cpu_in ps p)) ≡ true) ds
-  pub few : (kind : DomainKind) (p : ℕ) → p < length ps → is_some (scale_of kind (cpu_in ps p)) ≡ true → position_or_len (covers kind p) ds < 512
+  pub placed : (kind : DomainKind) (p : ℕ) → p < length ps → is_some (scale_of kind (cpu_in ps p)) ≡ true
+      → position_or_len (covers kind p) ds < length ds
+  pub only : (kind : DomainKind) (d p : ℕ) → d < length ds → is_idle kind ≡ false → covers kind p (domain_in ds d) ≡ true
+      → position_or_len (covers kind p) ds ≡ d
+  pub scaled : All (λ (d : Domain). (p : ℕ) → is_idle d.kind ≡ false → has_member d.members p ≡ true
+      → is_some (scale_of d.kind (cpu_in ps p)) ≡ true) ds
+  pub registered : All (λ (d : Domain). (p : ℕ) → d.unfit ≡ 0 → has_member d.members p ≡ true
+      → has_register (scale_of d.kind (cpu_in ps p)) ≡ true) ds
+  pub few : (kind : DomainKind) (p : ℕ) → p < length ps → is_some (scale_of kind (cpu_in ps p)) ≡ true
+      → position_or_len (covers kind p) ds < 512
   pub opening : sum_by opening_count ds ≤ 131072
 
 -- Groups: their members are processors.
@@ -56,7 +61,8 @@ pub record HasGroups (ps : List CpuParts) (gs : List Group) : Type 0 where
   pub sizes : All (λ (g : Group). length g.members ≤ 256) gs
 
 -- What follows, in one.
-pub record IsSound (cs : List ContainerParts) (ps : List CpuParts) (children : List (List Child)) (ds : List Domain) (gs : List Group) : Type 0 where
+pub record IsSound (cs : List ContainerParts) (ps : List CpuParts) (children : List (List Child)) (ds : List Domain)
+    (gs : List Group) : Type 0 where
   pub tree : IsTree cs ps children
   pub small : IsSmall cs ps
   pub domains : HasDomains ps ds

@@ -152,7 +152,8 @@ impl Plan {
         ensures place { MatchOption result (domain_of self.now kind cpu ≡ length self.now.domains)
             (IsPlaceIn self.now.domains (domain_of self.now kind cpu)) }
         ensures member { IfSome result
-            (λ membership. membership.member ≡ member_place (domain_at self.now membership.place).members cpu) }
+            (λ membership. membership.member
+            ≡ member_place (domain_at self.now membership.place).members cpu) }
     {
         let index = self.index_of(cpu)?;
         match kind {
@@ -185,7 +186,8 @@ impl Plan {
         ensures place { MatchOption result (group_of self.now cpu ≡ length self.now.groups)
             (IsPlaceIn self.now.groups (group_of self.now cpu)) }
         ensures member { IfSome result
-            (λ membership. membership.member ≡ member_place (group_at self.now membership.place).members cpu) }
+            (λ membership. membership.member
+            ≡ member_place (group_at self.now membership.place).members cpu) }
     {
         self.index_of(cpu)?.group
     }

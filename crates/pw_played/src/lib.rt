@@ -1,5 +1,5 @@
-//! Runs of scripts on registers in memory, by one caller and by workers, with what came of them as text, and a
-//! gate at which requests meet: what the programs that compare such runs share.
+//! Runs of scripts on registers in memory, by one caller and by workers, with what came of them as text,
+//! and a gate at which requests meet: what the programs that compare such runs share.
 #![tactic(auto)]
 
 mod gates;

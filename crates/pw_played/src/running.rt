@@ -6,11 +6,10 @@ ghost use Rattle.pw_script.specs.declared.script.TheConstants.{MOST_LINES};
 
 use crate::telling::{Played, told};
 use pw_base::Gate;
-use pw_drive::{Driven, serial};
+use pw_drive::{Driven, Drove, drive, serial};
 use pw_plan::Plan;
 use pw_regs::FailingRegisters;
 use pw_script::{Line, MOST_LINES, Script};
-use pw_workers::{Drove, drive};
 use std::alloc::Global;
 use std::sync::Wait;
 use std::thread::Threads;

@@ -2,11 +2,11 @@ ghost use Rattle.std.specs.Prelude.{IsTrue};
 ghost use Rattle.pw_model.specs.History.{Faultless, Legal};
 
 use pw_base::MemorySink;
+use pw_generate::print_summary;
 use pw_model::HistoryEntry;
 use pw_plan::Plan;
 use pw_regs::FailingRegisters;
 use pw_script::print_history;
-use pw_summary::print_summary;
 use std::alloc::Global;
 
 /// As many bytes as a text has room for.

@@ -26,7 +26,7 @@ fn script_of(alloc: Global, lines: &str) -> Option<Script> {
 }
 
 /// Registers that fail at the call of this number, at none where it is 0.
-pub fn registers(alloc: Global, room: u32, fail: u32) -> Option<FailingRegisters> {
+pub(crate) fn registers(alloc: Global, room: u32, fail: u32) -> Option<FailingRegisters> {
     let mut fails = Vec::new(alloc);
     fails.push(fail).ok()?;
     FailingRegisters::new(alloc, room, fails).ok()
@@ -127,7 +127,11 @@ fn run<R: Threads + Wait + Sync>(
 }
 
 /// What comes of the run of a case: containers and processors, how it is run, and requests, a line each.
-pub fn run_case<R: Threads + Wait + Sync>(rt: &R, alloc: Global, lines: &str) -> Option<String> {
+pub(crate) fn run_case<R: Threads + Wait + Sync>(
+    rt: &R,
+    alloc: Global,
+    lines: &str,
+) -> Option<String> {
     let (machine, rest) = lines.split_once("\nrun ")?;
     let (how, asked) = rest.split_once("\n")?;
     let script = script_of(alloc, asked)?;

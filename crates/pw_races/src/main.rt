@@ -1,12 +1,13 @@
-//! Scripts driven by workers side by side. `data/runs.txt` lists runs whose outcome is certain: of one processor
-//! alone, or by a gate that holds requests up until others have been answered, or until so many workers stand at the
-//! gate at once. Of each is told the text of the history, how many operations the registers saw, and what the
-//! audit says of the text.
+//! Scripts driven by workers side by side. `data/runs.txt` lists runs whose outcome is certain: of one
+//! processor alone, or by a gate that holds requests up until others have been answered, or until so
+//! many workers stand at the gate at once. Of each is told the text of the history, how many operations
+//! the registers saw, and what the audit says of the text.
 //!
-//! Then come runs of machines and loads that are generated, each with a history of its own: 200 of two containers, and 200
-//! of eight, which take 64 workers and 4,096 requests each. The audit must accept all with an entry for each line, the
-//! registers must have seen the operations of the text, and all must have the summary of one caller's run. At last registers
-//! fail amid such runs: each must be lawful, and its last operation that before the one that failed.
+//! Then come runs of machines and loads that are generated, each with a history of its own: 200 of two
+//! containers, and 200 of eight, which take 64 workers and 4,096 requests each. The audit must accept
+//! all with an entry for each line, the registers must have seen the operations of the text, and all
+//! must have the summary of one caller's run. At last registers fail amid such runs: each must be
+//! lawful, and its last operation that before the one that failed.
 #![tactic(auto)]
 
 mod case;

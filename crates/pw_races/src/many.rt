@@ -44,8 +44,8 @@ impl Trial {
         play_alone(alloc, plan, &self.script, regs)?.summary
     }
 
-    /// Whether the audit accepts the text of a run, with as many entries as it has, and with the operations that
-    /// the registers saw.
+    /// Whether the audit accepts the text of a run, with as many entries as it has, and with the
+    /// operations that the registers saw.
     fn is_lawful(&self, alloc: Global, played: &Played) -> bool {
         let written = played.text.written();
         match audit(alloc, &self.plan, &self.script, written) {
@@ -71,16 +71,16 @@ fn ended_at(played: &Played, call: u32) -> bool {
     played.operations.checked_add(1) == Some(call as usize)
 }
 
-/// How many of so many runs are lawful, have an entry for each line, and the summary of one caller's run; and that
-/// summary.
-pub fn put_runs<R: Threads + Wait + Sync>(
+/// How many of so many runs are lawful, have an entry for each line, and the summary of one caller's
+/// run; and that summary.
+pub(crate) fn put_runs<R: Threads + Wait + Sync>(
     rt: &R,
     text: &mut String,
     alloc: Global,
-    containers: u32,
+    size: u32,
     times: u32,
 ) -> Option<()> {
-    let trial = Trial::new(alloc, containers)?;
+    let trial = Trial::new(alloc, size)?;
     let lines = trial.script.lines.as_slice().len();
     let summary = trial.summary(alloc)?;
     let (mut lawful, mut whole, mut same) = (0u32, 0u32, 0u32);
@@ -92,14 +92,15 @@ pub fn put_runs<R: Threads + Wait + Sync>(
     }
     writeln!(
         text,
-        "{times} runs of {containers} containers: {lawful} lawful, {whole} with {lines} entries, {same} with one summary"
+        "{times} runs of {size} containers: {lawful} lawful, {whole} with {lines} entries, {same} with one summary"
     )
     .ok()?;
     put_text(text, summary.written())
 }
 
-/// How many of so many runs, in each of which a register fails at another call, are lawful, and end with that fault.
-pub fn put_faults<R: Threads + Wait + Sync>(
+/// How many of so many runs, in each of which a register fails at another call, are lawful, and end with
+/// that fault.
+pub(crate) fn put_faults<R: Threads + Wait + Sync>(
     rt: &R,
     text: &mut String,
     alloc: Global,

@@ -6,24 +6,24 @@ use std::alloc::Global;
 use std::str::from_utf8;
 
 /// The text of a history.
-pub fn put_text(text: &mut String, written: &[u8]) -> Option<()> {
+pub(crate) fn put_text(text: &mut String, written: &[u8]) -> Option<()> {
     text.push_str(from_utf8(written).ok()?).ok()
 }
 
 /// How many operations the text of a history tells.
-pub fn operations_in(written: &[u8]) -> Option<usize> {
+pub(crate) fn operations_in(written: &[u8]) -> Option<usize> {
     let lines = from_utf8(written).ok()?.lines();
     Some(lines.filter(|line| line.starts_with("  ")).count())
 }
 
 /// How many entries a history has, and how many operations the registers saw.
-pub fn put_counts(text: &mut String, played: &Played) -> Option<()> {
+pub(crate) fn put_counts(text: &mut String, played: &Played) -> Option<()> {
     let (entries, done) = (played.entries, played.operations);
     writeln!(text, "{entries} entries, {done} operations").ok()
 }
 
 /// What the audit answers to the text of a history.
-pub fn put_audit(
+pub(crate) fn put_audit(
     text: &mut String,
     alloc: Global,
     plan: &Plan,

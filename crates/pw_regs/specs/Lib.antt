@@ -1,3 +1,5 @@
 pub mod InMemory
 pub mod Registers
 pub mod Seen
+pub mod Rooms
+pub mod Doing

@@ -4,8 +4,10 @@
 
 mod failing;
 mod file;
+mod ops;
 mod registers;
 
 pub use failing::FailingRegisters;
 pub use file::RegisterFile;
+pub use ops::Ops;
 pub use registers::Registers;

@@ -12,8 +12,8 @@ use Rattle.pw_model.specs.States.{IsState}
 use Rattle.pw_model.specs.History.{Legal, fault_at, history_ops, replay}
 use Rattle.pw_model.specs.Operations.{opening_ops}
 use Rattle.pw_base.specs.Outside.{Rose}
-use Rattle.pw_parts.specs.Records.{Part, record_count}
-use Rattle.pw_parts.specs.Routes.{route}
+use Rattle.pw_model.specs.Records.{Part, record_count}
+use Rattle.pw_model.specs.Routes.{route}
 use Rattle.pw_machine.specs.declared.view.View.{View}
 use Rattle.pw_machine.specs.Turns.{StartsWith, part_at, way}
 use Rattle.pw_books.specs.Books.{Knows, count_in, entries_of, furthest}

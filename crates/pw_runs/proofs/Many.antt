@@ -17,8 +17,8 @@ use Rattle.pw_script.specs.Lawful.{Lawful}
 use Rattle.pw_script.specs.Lines.{lines_of}
 use Rattle.pw_script.specs.Reading.{Answered, Chosen, requests_of}
 use Rattle.pw_script.proofs.Existing.{lines_fit}
-use Rattle.pw_texts.specs.Completing.{IsStart}
-use Rattle.pw_texts.proofs.Completions.{completed-run}
+use Rattle.pw_script.specs.Completing.{IsStart}
+use Rattle.pw_script.proofs.Completions.{completed-run}
 use Rattle.pw_runs.specs.Runs.{IsTextOn, entries_of}
 use Rattle.pw_runs.specs.Scripts.{HoldsScript, limit_by}
 use Rattle.pw_runs.specs.Workers.{IsTextBy, Seals}

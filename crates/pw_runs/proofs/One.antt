@@ -11,8 +11,8 @@ use Rattle.acpi_build.proofs.Planned.{same_plan}
 use Rattle.acpi_build.specs.Planning.{IsPlanFrom}
 use Rattle.acpi_build.specs.declared.note.Note.{Note}
 use Rattle.pw_plan.specs.declared.plan.Plan.{Plan}
-use Rattle.pw_blocks.specs.Held.{name_at}
-use Rattle.pw_blocks.proofs.OneReading.{same_blocks, same_first_fault, blocks_not_fault}
+use Rattle.aml_block.specs.Held.{name_at}
+use Rattle.aml_block.proofs.OneReading.{same_blocks, same_first_fault, blocks_not_fault}
 use Rattle.pw_governor.specs.Choices.{choice}
 use Rattle.pw_notice.specs.Limits.{answer_by}
 use Rattle.pw_script.specs.declared.script.Line.{Line as line}
@@ -21,8 +21,8 @@ use Rattle.pw_script.specs.HistoryText.{history_text}
 use Rattle.pw_script.specs.Lines.{lines_of}
 use Rattle.pw_script.specs.Reading.{operations, requests_of}
 use Rattle.pw_script.proofs.Existing.{lines_told}
-use Rattle.pw_ends.specs.Seen.{NoneFailed}
-use Rattle.pw_ends.proofs.Completeness.{IsOne}
+use Rattle.pw_load.specs.Seen.{NoneFailed}
+use Rattle.pw_load.proofs.Completeness.{IsOne}
 use Rattle.pw_load.specs.Lines.{blocks_line, twice_line}
 use Rattle.pw_load.specs.Steps.{AreHeldBy, IsGivenTwice, IsNoPlanOf, IsUnplanned, IsUnspelled}
 use Rattle.pw_runs.specs.Scripts.{AreLinesIn, HoldsNoScript, HoldsScript, IsNoScript, IsScript, limit_by, script_line}

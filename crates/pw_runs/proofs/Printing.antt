@@ -10,9 +10,9 @@ use Rattle.pw_plan.specs.declared.plan.Plan.{Plan}
 use Rattle.pw_model.specs.declared.entry.HistoryEntry.{HistoryEntry}
 use Rattle.pw_script.specs.HistoryText.{history_text}
 use Rattle.pw_drive.specs.Driven.{stopped_at}
-use Rattle.pw_ends.specs.Seen.{outputs_seen}
-use Rattle.pw_ends.specs.Ends.{Ended, print_line, print_status}
-use Rattle.pw_ends.proofs.Outcomes.{part_taken}
+use Rattle.pw_load.specs.Seen.{outputs_seen}
+use Rattle.pw_load.specs.Ends.{Ended, print_line, print_status}
+use Rattle.pw_load.proofs.Outcomes.{part_taken}
 use Rattle.pw_runs.specs.Runs.{PrintsRun, register_line}
 use Rattle.pw_runs.specs.Runs.PrintsRun.{whole, unwritten, failed, failed_unwritten, without_memory}
 use Rattle.pw_runs.specs.Failing.{failed_line, failed_status}

@@ -19,11 +19,11 @@ use Rattle.pw_script.specs.Reading.{operations}
 use Rattle.pw_script.specs.declared.script.Script.{Script}
 use Rattle.pw_script.specs.declared.script.ScriptFault.{ScriptFault}
 use Rattle.pw_script.specs.declared.script.ScriptFault.TheVariants.{Line, Memory, TooLong}
-use Rattle.pw_workers.specs.Drives.{GivesBack}
-use Rattle.pw_ends.specs.Seen.{Outputs, Seen}
-use Rattle.pw_ends.specs.Ends.{Stops}
-use Rattle.pw_ends.specs.Ends.Stops.{refused, unread, without_memory}
-use Rattle.pw_ends.proofs.Outcomes.{IsWithin}
+use Rattle.pw_drive.specs.Drives.{GivesBack}
+use Rattle.pw_load.specs.Seen.{Outputs, Seen}
+use Rattle.pw_load.specs.Ends.{Stops}
+use Rattle.pw_load.specs.Ends.Stops.{refused, unread, without_memory}
+use Rattle.pw_load.proofs.Outcomes.{IsWithin}
 use Rattle.pw_load.specs.Steps.{AreHeldBy, loading, placing, planning}
 use Rattle.pw_runs.specs.Scripts.{HoldsNoScript, HoldsScript, script_line, script_status}
 use Rattle.pw_runs.specs.Runs.{AreGiven, ArePlanned, DrivesSerially, driving}

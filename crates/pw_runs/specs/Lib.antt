@@ -3,3 +3,9 @@ pub mod Runs
 pub mod Failing
 pub mod Workers
 pub mod inner
+pub mod Trials
+pub mod Histories
+pub mod Reviews
+pub mod CppcScripts
+pub mod CppcRuns
+pub mod CppcWorkers

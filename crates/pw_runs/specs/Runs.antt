@@ -23,8 +23,8 @@ use Rattle.pw_script.specs.HistoryText.{history_text}
 use Rattle.pw_script.specs.Lawful.{LawfulSerial}
 use Rattle.pw_script.specs.Reading.{operations, requests_of}
 use Rattle.pw_drive.specs.Driven.{OperatesFor, stopped_at}
-use Rattle.pw_ends.specs.Seen.{Outputs, Seen}
-use Rattle.pw_ends.specs.Ends.{Stops, Work}
+use Rattle.pw_load.specs.Seen.{Outputs, Seen}
+use Rattle.pw_load.specs.Ends.{Stops, Work}
 use Rattle.pw_load.specs.Steps.{AreHeldBy, IsNoPlanOf, IsOneUnread, IsUnspelled}
 use Rattle.pw_runs.specs.Scripts.{HoldsNoScript, HoldsScript, script_line}
 
@@ -40,10 +40,11 @@ pub record ArePlanned (files : FilesSeen) (names : List (List ℕ)) (P : Plan) :
 
 -- This is the plan of the blocks, and these are the lines of the script: of what files hold that tell. No more operations
 -- may come of them than of any script.
-pub record AreGiven (files : FilesSeen) (step : Bool) (script : List ℕ) (names : List (List ℕ)) (P : Plan) (lines : List line) : Type 0 where
-  pub planned : ArePlanned files names P
-  pub scripted : OfFiles files (λ holds. HoldsScript (holds script) P step lines)
-  pub few : operations P lines ≤ MOST_OPERATIONS
+pub record AreGiven (files : FilesSeen) (step : Bool) (script : List ℕ) (names : List (List ℕ)) (P : Plan) (lines : List line) : Type 0
+  where
+    pub planned : ArePlanned files names P
+    pub scripted : OfFiles files (λ holds. HoldsScript (holds script) P step lines)
+    pub few : operations P lines ≤ MOST_OPERATIONS
 
 -- # Without a fault of a register
 
@@ -61,19 +62,21 @@ pub record IsTextOn (files : FilesSeen) (step : Bool) (script : List ℕ) (names
 -- # Why it is refused
 
 -- Under the script's name no script is held, of a plan that the blocks make.
-pub record IsUnscripted (files : FilesSeen) (step : Bool) (script : List ℕ) (names : List (List ℕ)) (status : ℕ) (text : List ℕ) : Type 0 where
-  pub is : status ≡ 7
-  pub plan : Plan
-  pub planned : ArePlanned files names plan
-  pub fault : ScriptFault
-  pub of_bytes : fault ≢ Memory
-  pub held : OfFiles files (λ holds. HoldsNoScript (holds script) plan step fault)
-  pub says : text ≡ script_line fault
+pub record IsUnscripted (files : FilesSeen) (step : Bool) (script : List ℕ) (names : List (List ℕ)) (status : ℕ) (text : List ℕ) : Type 0
+  where
+    pub is : status ≡ 7
+    pub plan : Plan
+    pub planned : ArePlanned files names plan
+    pub fault : ScriptFault
+    pub of_bytes : fault ≢ Memory
+    pub held : OfFiles files (λ holds. HoldsNoScript (holds script) plan step fault)
+    pub says : text ≡ script_line fault
 
 -- The blocks come before the script: they aren't spelled, they make no plan, or else the script is none.
 pub data IsRefusalOn (files : FilesSeen) (step : Bool) (script : List ℕ) (names : List (List ℕ)) (status : ℕ) (text : List ℕ) : Type 0 where
   unspelled : IsUnspelled files names status text → IsRefusalOn files step script names status text
-  unplanned : (blocks : List Block) → AreHeldBy files names blocks → IsNoPlanOf blocks status text → IsRefusalOn files step script names status text
+  unplanned : (blocks : List Block) → AreHeldBy files names blocks → IsNoPlanOf blocks status text
+      → IsRefusalOn files step script names status text
   unscripted : IsUnscripted files step script names status text → IsRefusalOn files step script names status text
 
 -- a read of the script's file failed, once the blocks had made a plan

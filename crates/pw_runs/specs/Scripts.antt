@@ -21,7 +21,8 @@ limit_by false count current value = followed count value
 
 -- the lines of a script's bytes: the deepest state that suits a processor is chosen, and notifications move limits so
 abbrev pub AreLinesIn : Plan → Bool → List ℕ → List line → Type 0
-AreLinesIn P step bytes lines = AreLines P (Chosen choice) (Answered (answer_by (limit_by step) (limit_by step))) [] 1 (lines_of bytes) lines
+AreLinesIn P step bytes lines = AreLines P (Chosen choice) (Answered (answer_by (limit_by step) (limit_by step))) [] 1
+    (lines_of bytes) lines
 
 -- Bytes are a script of these lines.
 pub record IsScript (P : Plan) (step : Bool) (bytes : List ℕ) (lines : List line) : Type 0 where

@@ -10,9 +10,9 @@ use Rattle.pw_script.specs.declared.script.Line.{Line as line}
 use Rattle.pw_script.specs.HistoryText.{history_text}
 use Rattle.pw_script.specs.Lawful.{Lawful}
 use Rattle.pw_script.specs.Reading.{requests_of}
-use Rattle.pw_workers.specs.Drives.{Opens, Runs}
-use Rattle.pw_ends.specs.Seen.{Seen}
-use Rattle.pw_ends.specs.Ends.{Stops, Work}
+use Rattle.pw_drive.specs.Drives.{Opens, Runs}
+use Rattle.pw_load.specs.Seen.{Seen}
+use Rattle.pw_load.specs.Ends.{Stops, Work}
 use Rattle.pw_load.specs.Steps.{IsOneUnread}
 use Rattle.pw_runs.specs.Runs.{AreGiven, IsRefusalOn, IsScriptUnread, PrintsRun}
 
@@ -46,8 +46,10 @@ pub record Seals (P : Plan) (opening : Option ℕ) (es : List HistoryEntry) (sta
   pub unended : status ≢ 0 → status ≢ 5 → sealed ≡ None
 
 -- A machine was driven by workers, or nothing was done: what is given is refused, a file couldn't be read, or memory ran out.
-pub data Drives (step : Bool) (script : List ℕ) (names : List (List ℕ)) (sealed : Option Sealed) (before after : Seen) : ℕ → List ℕ → List ℕ → Type 0 where
-  stopped : {status : ℕ} {text : List ℕ} → Stops (working step script names before.files after.files) status text → after.regs ≡ before.regs → sealed ≡ None
+pub data Drives (step : Bool) (script : List ℕ) (names : List (List ℕ)) (sealed : Option Sealed) (before after : Seen) : ℕ → List ℕ → List ℕ
+    → Type 0 where
+  stopped : {status : ℕ} {text : List ℕ} → Stops (working step script names before.files after.files) status text → after.regs ≡ before.regs
+      → sealed ≡ None
       → Drives step script names sealed before after status [] text
   -- memory ran out behind the operations at the start, before a request was made
   opened : {P : Plan} {lines : List line} → AreGiven before.files step script names P lines → Opens P before.regs after.regs → sealed ≡ None

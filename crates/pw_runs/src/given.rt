@@ -3,11 +3,11 @@ ghost use Rattle.std.specs.List.{AllByRecursion};
 ghost use Rattle.pw_base.specs.Outside.{KeepsFiles, KeepsSink};
 ghost use Rattle.pw_base.specs.Seen.{files_seen, sink_seen, OfFiles};
 ghost use Rattle.pw_plan.specs.Requests.{Has};
-ghost use Rattle.pw_blocks.specs.Held.{names_of};
+ghost use Rattle.aml_block.specs.Held.{names_of};
 ghost use Rattle.pw_script.specs.declared.script.Line.{Line as line};
 ghost use Rattle.pw_script.specs.declared.script.TheConstants.{MOST_OPERATIONS};
 ghost use Rattle.pw_script.specs.Reading.{operations};
-ghost use Rattle.pw_ends.specs.Ends.{Stopped};
+ghost use Rattle.pw_load.specs.Ends.{Stopped};
 ghost use Rattle.pw_runs.specs.Runs.{AreGiven, driving};
 ghost use Rattle.pw_runs.specs.Scripts.{HoldsScript};
 ghost use Rattle.pw_runs.specs.inner.Parts.{scripting};
@@ -16,14 +16,14 @@ use crate::planned::plan_in;
 use crate::refusal::refuse_script;
 use crate::script::{Missing, read_script};
 use pw_base::{Files, Sink};
-use pw_ends::unread;
+use pw_load::unread;
 use pw_plan::Plan;
 use pw_script::Script;
 use pw_text::Page;
 use std::alloc::Global;
 
-/// The script in the file of this name; or the status, once the error output has the line that says why there is
-/// none, by way of an empty page.
+/// The script in the file of this name; or the status, once the error output has the line that says why
+/// there is none, by way of an empty page.
 fn script_in<F: Files, K: Sink>(
     alloc: Global,
     files: &mut F,
@@ -85,8 +85,9 @@ fn with_script<F: Files, K: Sink>(
     }
 }
 
-/// The plan of the blocks in the files of these names, and the script for it: the blocks come first. Or the status,
-/// once the error output has the line that says why there is no plan or no script, by way of an empty page.
+/// The plan of the blocks in the files of these names, and the script for it: the blocks come first. Or
+/// the status, once the error output has the line that says why there is no plan or no script, by way of
+/// an empty page.
 pub fn given_in<F: Files, K: Sink>(
     alloc: Global,
     files: &mut F,
@@ -106,7 +107,8 @@ pub fn given_in<F: Files, K: Sink>(
     ensures quiet { OnOk result (err.new ≡ err.old) }
     ensures empty { OnOk result (page.new ≡ []) }
     ensures stopped { IfErr result (λ status. Stopped
-        (driving step script.now (names_of blocks.now) (files_seen F.Files files.old) (files_seen F.Files files.new))
+        (driving step script.now (names_of blocks.now) (files_seen F.Files files.old)
+        (files_seen F.Files files.new))
         (sink_seen K.Sink err.old) (sink_seen K.Sink err.new) status) }
 {
     match plan_in(alloc, files, blocks, page, err) {

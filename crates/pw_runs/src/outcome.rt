@@ -21,8 +21,9 @@ pub struct Outcome<R> {
     pub status: u8,
     /// The registers that were handed to it.
     pub regs: R,
-    /// What the coordinator of this run gave at its closing. It is `Some` exactly where the command is `drive` without
-    /// `--serial` or `generate`, the status is 0 or 5, and no operation at the start failed.
+    /// What the coordinator of this run gave at its closing. It is `Some` exactly where the command is
+    /// `drive` without `--serial` or `generate`, the status is 0 or 5, and no operation at the start
+    /// failed.
     pub sealed: Option<Sealed>,
 }
 

@@ -5,8 +5,8 @@ ghost use Rattle.aml_block.specs.Written.{IsWritableBlock};
 ghost use Rattle.acpi_build.specs.declared.note.Note.{Note as note};
 ghost use Rattle.acpi_build.specs.Planning.{IsPlanFrom};
 ghost use Rattle.acpi_build.specs.Tables.{AreCountable};
-ghost use Rattle.pw_blocks.specs.Held.{names_of};
-ghost use Rattle.pw_ends.specs.Ends.{Stopped};
+ghost use Rattle.aml_block.specs.Held.{names_of};
+ghost use Rattle.pw_load.specs.Ends.{Stopped};
 ghost use Rattle.pw_load.specs.Steps.{planning};
 ghost use Rattle.pw_runs.specs.Runs.{ArePlanned};
 ghost use Rattle.pw_runs.specs.inner.Parts.{IsPlanBy, mapping, readying};
@@ -21,8 +21,8 @@ use pw_text::Page;
 use std::alloc::Global;
 use std::mem::forget;
 
-/// The plan that objects make, without its notes; or the status, once the error output has the line that says why
-/// they make none, by way of an empty page.
+/// The plan that objects make, without its notes; or the status, once the error output has the line that
+/// says why they make none, by way of an empty page.
 fn plan_over<K: Sink>(
     alloc: Global,
     space: &Space<'_>,
@@ -44,8 +44,8 @@ fn plan_over<K: Sink>(
     }
 }
 
-/// The plan that blocks make; or the status, once the error output has the line that says why they make none, by
-/// way of an empty page.
+/// The plan that blocks make; or the status, once the error output has the line that says why they make
+/// none, by way of an empty page.
 fn plan_of<K: Sink>(
     alloc: Global,
     blocks: &[Block],
@@ -73,8 +73,8 @@ fn plan_of<K: Sink>(
     }
 }
 
-/// The plan of the blocks in the files of these names; or the status, once the error output has the line that says
-/// why there is none, by way of an empty page.
+/// The plan of the blocks in the files of these names; or the status, once the error output has the line
+/// that says why there is none, by way of an empty page.
 pub fn plan_in<F: Files, K: Sink>(
     alloc: Global,
     files: &mut F,
@@ -85,7 +85,8 @@ pub fn plan_in<F: Files, K: Sink>(
     requires { page.old ≡ [] }
     ensures keeps_files { KeepsFiles F.told F.holds F.faults files.old files.new }
     ensures keeps_err { KeepsSink K.told K.faults err.old err.new }
-    ensures planned { IfOk result (λ plan. ArePlanned (files_seen F.Files files.old) (names_of names.now) plan) }
+    ensures planned { IfOk result
+        (λ plan. ArePlanned (files_seen F.Files files.old) (names_of names.now) plan) }
     ensures quiet { OnOk result (err.new ≡ err.old) }
     ensures empty { OnOk result (page.new ≡ []) }
     ensures stopped { IfErr result (λ status. Stopped

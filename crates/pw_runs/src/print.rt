@@ -4,14 +4,14 @@ ghost use Rattle.pw_base.specs.Outside.{KeepsSink};
 ghost use Rattle.pw_base.specs.Seen.{sink_seen, GrewByLine};
 ghost use Rattle.pw_model.specs.History.{StatesRequest, fault_at};
 ghost use Rattle.pw_drive.specs.Driven.{stopped_at};
-ghost use Rattle.pw_ends.specs.Seen.{outputs_seen};
-ghost use Rattle.pw_ends.specs.Ends.{Ended};
+ghost use Rattle.pw_load.specs.Seen.{outputs_seen};
+ghost use Rattle.pw_load.specs.Ends.{Ended};
 ghost use Rattle.pw_runs.specs.Failing.{failed_line, failed_status};
 ghost use Rattle.pw_runs.specs.Runs.{PrintsRun};
 
 use crate::refusal::say_register;
 use pw_base::Sink;
-use pw_ends::{printed, without_memory};
+use pw_load::{printed, without_memory};
 use pw_model::HistoryEntry;
 use pw_plan::Plan;
 use pw_script::print_history;
@@ -42,8 +42,8 @@ pub fn failed_after(opening: Option<u32>, entries: &[HistoryEntry]) -> Option<u3
     }
 }
 
-/// Says after how many operations a register failed, by way of an empty page, unless there was no memory to print
-/// the history; and the status.
+/// Says after how many operations a register failed, by way of an empty page, unless there was no memory
+/// to print the history; and the status.
 pub fn end_failed<K: Sink>(
     page: &mut Page,
     err: &mut K,
@@ -53,7 +53,8 @@ pub fn end_failed<K: Sink>(
     requires { page.old ≡ [] }
     ensures keeps { KeepsSink K.told K.faults err.old err.new }
     ensures status { result ≡ failed_status outcome }
-    ensures line { GrewByLine (sink_seen K.Sink err.old) (sink_seen K.Sink err.new) (failed_line done outcome) }
+    ensures line { GrewByLine (sink_seen K.Sink err.old) (sink_seen K.Sink err.new)
+        (failed_line done outcome) }
 {
     if let Err(PrintFault::Memory) = outcome {
         return without_memory(err);
@@ -62,8 +63,8 @@ pub fn end_failed<K: Sink>(
     5
 }
 
-/// Prints the history of a run on the output, and where a register failed, a line on the error output, by way of
-/// an empty page. It says the status.
+/// Prints the history of a run on the output, and where a register failed, a line on the error output,
+/// by way of an empty page. It says the status.
 pub fn print_run<K: Sink>(
     alloc: Global,
     plan: &Plan,

@@ -6,7 +6,7 @@ ghost use Rattle.pw_runs.specs.Scripts.{script_line, script_status, why_word};
 
 use crate::say::say_number;
 use pw_base::Sink;
-use pw_ends::without_memory;
+use pw_load::without_memory;
 use pw_script::{LineWhy, ScriptFault};
 use pw_text::Page;
 

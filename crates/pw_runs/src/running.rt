@@ -2,11 +2,11 @@ ghost use Rattle.std.specs.Prelude.{◌≡◌, ◌≤◌, [], None, length};
 ghost use Rattle.std.specs.List.{AllByRecursion};
 ghost use Rattle.pw_base.specs.Outside.{KeepsFiles, KeepsSink};
 ghost use Rattle.pw_plan.specs.Requests.{Has};
-ghost use Rattle.pw_blocks.specs.Held.{names_of};
+ghost use Rattle.aml_block.specs.Held.{names_of};
 ghost use Rattle.pw_regs.specs.Seen.{registers_seen};
 ghost use Rattle.pw_script.specs.declared.script.Line.{Line as line};
-ghost use Rattle.pw_ends.specs.Seen.{all_seen, outputs_seen};
-ghost use Rattle.pw_ends.specs.Ends.{Ended};
+ghost use Rattle.pw_load.specs.Seen.{all_seen, outputs_seen};
+ghost use Rattle.pw_load.specs.Ends.{Ended};
 ghost use Rattle.pw_runs.specs.Runs.{DrivesSerially};
 ghost use Rattle.pw_runs.specs.inner.Parts.{RunsSerially};
 
@@ -15,15 +15,15 @@ use crate::outcome::Outcome;
 use crate::print::print_run;
 use pw_base::{Files, Sink};
 use pw_drive::{Driven, serial};
-use pw_ends::without_memory;
+use pw_load::without_memory;
 use pw_plan::Plan;
 use pw_regs::Registers;
 use pw_script::Script;
 use pw_text::Page;
 use std::alloc::Global;
 
-/// Makes the requests of a script on the machine of a plan, and prints the history, with an empty page for the
-/// error output. It says the status, and gives the registers back.
+/// Makes the requests of a script on the machine of a plan, and prints the history, with an empty page
+/// for the error output. It says the status, and gives the registers back.
 fn run<K: Sink, R: Registers>(
     alloc: Global,
     plan: Plan,
@@ -67,8 +67,8 @@ fn run<K: Sink, R: Registers>(
     }
 }
 
-/// Does `drive --serial`: the script's requests, in their order, on the machine that the blocks describe; prints its
-/// history. Says the status, and gives the registers back.
+/// Does `drive --serial`: the script's requests, in their order, on the machine that the blocks
+/// describe; prints its history. Says the status, and gives the registers back.
 pub fn drive_serially<F: Files, K: Sink, R: Registers>(
     alloc: Global,
     step: bool,

@@ -22,7 +22,8 @@ pub fn put_between<K: Sink>(
     page.put(sink, after)
 }
 
-/// Writes a number between two texts on the error output, by way of an empty page. Its failure is passed over.
+/// Writes a number between two texts on the error output, by way of an empty page. Its failure is passed
+/// over.
 pub fn say_number<K: Sink>(page: &mut Page, err: &mut K, before: &[u8], number: u32, after: &[u8])
     requires { page.old ≡ [] }
     ensures keeps { KeepsSink K.told K.faults err.old err.new }

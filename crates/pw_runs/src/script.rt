@@ -29,7 +29,8 @@ pub enum Missing {
     Fault(ScriptFault),
 }
 
-// A function of another crate is passed in a closure, since its contract can't be seen where it is named alone.
+// A function of another crate is passed in a closure, since its contract can't be seen where it is named
+// alone.
 
 /// The script that these bytes spell, with the limits that these functions answer.
 fn parse_by<P: Fn(u32, u32, u32) -> u32, T: Fn(u32, u32, u32) -> u32>(
@@ -57,8 +58,8 @@ fn parse_by<P: Fn(u32, u32, u32) -> u32, T: Fn(u32, u32, u32) -> u32>(
     parse(alloc, bytes, plan, &governor, &handlers)
 }
 
-/// The script that these bytes spell: the deepest state that suits a processor is chosen, and a notification moves
-/// a limit to the platform's value, or by one step towards it.
+/// The script that these bytes spell: the deepest state that suits a processor is chosen, and a
+/// notification moves a limit to the platform's value, or by one step towards it.
 fn parse_script(alloc: Global, bytes: &[u8], plan: &Plan, step: bool) -> Result<Script, ScriptFault>
     ensures script { IfOk result (λ script. IsScript plan.now step bytes.now script.lines) }
     ensures few { IfOk result (λ script. length script.lines ≤ 65536) }
@@ -113,7 +114,8 @@ pub fn read_script<F: Files>(
     ensures few { IfOk result (λ script. length script.lines ≤ 65536) }
     ensures bounded { IfOk result (λ script. operations plan.now script.lines ≤ MOST_OPERATIONS) }
     ensures has { IfOk result (λ script. AllByRecursion (λ (l : line). Has plan.now l.request) script.lines) }
-    ensures missing { IfErr result (λ why. IsWhyMissing (files_seen F.Files files.old) (files_seen F.Files files.new)
+    ensures missing { IfErr result
+        (λ why. IsWhyMissing (files_seen F.Files files.old) (files_seen F.Files files.new)
         name.now plan.now step why) }
 {
     match read_all(alloc, files, name, MOST_BYTES as usize + 1) {

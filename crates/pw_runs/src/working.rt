@@ -3,11 +3,11 @@ ghost use Rattle.std.specs.Prelude.{◌≡◌, ◌≤◌, [], length};
 ghost use Rattle.std.specs.List.{AllByRecursion};
 ghost use Rattle.pw_base.specs.Outside.{KeepsFiles, KeepsSink};
 ghost use Rattle.pw_plan.specs.Requests.{Has};
-ghost use Rattle.pw_blocks.specs.Held.{names_of};
+ghost use Rattle.aml_block.specs.Held.{names_of};
 ghost use Rattle.pw_regs.specs.Seen.{registers_seen};
 ghost use Rattle.pw_script.specs.declared.script.Line.{Line as line};
-ghost use Rattle.pw_ends.specs.Seen.{all_seen, outputs_seen};
-ghost use Rattle.pw_ends.specs.Ends.{Ended};
+ghost use Rattle.pw_load.specs.Seen.{all_seen, outputs_seen};
+ghost use Rattle.pw_load.specs.Ends.{Ended};
 ghost use Rattle.pw_runs.specs.Workers.{Drives};
 ghost use Rattle.pw_runs.specs.inner.Works.{Works};
 
@@ -15,18 +15,19 @@ use crate::given::given_in;
 use crate::outcome::{Outcome, handed_on};
 use crate::print::print_run;
 use pw_base::{Files, Gate, Sink};
-use pw_ends::without_memory;
+use pw_drive::Drove;
+use pw_load::without_memory;
 use pw_plan::Plan;
 use pw_regs::Registers;
 use pw_script::Script;
 use pw_text::Page;
-use pw_workers::Drove;
 use std::alloc::Global;
 use std::sync::Wait;
 use std::thread::Threads;
 
-/// Lets workers make the requests of a script on the machine of a plan, and prints the history, with an empty page for
-/// the error output. It says the status, gives the registers back, and hands on what the coordinator gave.
+/// Lets workers make the requests of a script on the machine of a plan, and prints the history, with an
+/// empty page for the error output. It says the status, gives the registers back, and hands on what the
+/// coordinator gave.
 fn work<T: Threads + Wait + Sync, K: Sink, R: Registers + Send, G: Gate + Sync>(
     rt: &T,
     alloc: Global,
@@ -48,7 +49,7 @@ fn work<T: Threads + Wait + Sync, K: Sink, R: Registers + Send, G: Gate + Sync>(
         (registers_seen R.Registers regs) (registers_seen R.Registers result.regs))
         (outputs_seen K.Sink out.old err.old) (outputs_seen K.Sink out.new err.new) result.status }
 {
-    match pw_workers::drive(rt, alloc, plan, script, regs, gate) {
+    match pw_drive::drive(rt, alloc, plan, script, regs, gate) {
         Err(regs) => Outcome {
             status: without_memory(err),
             regs,
@@ -71,8 +72,9 @@ fn work<T: Threads + Wait + Sync, K: Sink, R: Registers + Send, G: Gate + Sync>(
     }
 }
 
-/// Does `drive`: the script's requests on the machine that the blocks describe, by one worker for each processor, side
-/// by side; prints their history. Says the status, gives the registers back, and hands on what the coordinator gave.
+/// Does `drive`: the script's requests on the machine that the blocks describe, by one worker for each
+/// processor, side by side; prints their history. Says the status, gives the registers back, and hands
+/// on what the coordinator gave.
 pub fn drive<T: Threads + Wait + Sync, F: Files, K: Sink, R: Registers + Send, G: Gate + Sync>(
     rt: &T,
     alloc: Global,

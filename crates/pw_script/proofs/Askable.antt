@@ -70,7 +70,8 @@ zero_narrow = omega arith
 said_narrow : (fields : List (List ℕ)) → IfSome (said fields) IsNarrowSaid
 said_narrow [] = tt
 said_narrow (word ∷ []) = verb_narrow (verb_alone word) (Some 0) (Some 0) zero_narrow zero_narrow
-said_narrow (word ∷ n ∷ []) = some_narrow (is_number n) (option_map (λ verb. (verb, number_of n, Some 0)) (verb_of_one word)) (verb_narrow (verb_of_one word) (number_of n) (Some 0) (number_narrow n) zero_narrow)
+said_narrow (word ∷ n ∷ []) = some_narrow (is_number n) (option_map (λ verb. (verb, number_of n, Some 0)) (verb_of_one word)) (verb_narrow (verb_of_one word) (number_of n) (Some 0)
+    (number_narrow n) zero_narrow)
 said_narrow (word ∷ n ∷ m ∷ []) =
     some_narrow (is_number n && is_number m) (option_map (λ verb. (verb, number_of n, number_of m)) (verb_of_two word))
     (verb_narrow (verb_of_two word) (number_of n) (number_of m) (number_narrow n) (number_narrow m))
@@ -185,7 +186,8 @@ module _ (P : Plan) (governor : Bor IdleTable → ℕ → ℕ → ℕ → Type 0
     where
       step : (r : Result (Option Wish) LineWhy) → IsNarrowResult r
           → GivesLines P (LawfullyChosen governor) (AnsweredBy perf throttle) before n r (λ b l. AreLines P (LawfullyChosen governor) (AnsweredBy perf throttle) b (suc n) texts l) lines
-          → ((b : List Request) (ls : List line) → AllByRecursion (λ (l : line). Has P l.request) ls → AreLines P (LawfullyChosen governor) (AnsweredBy perf throttle) b (suc n) texts ls → AllByRecursion IsNarrowRequest (requests_of ls))
+          → ((b : List Request) (ls : List line) → AllByRecursion (λ (l : line). Has P l.request) ls → AreLines P (LawfullyChosen governor) (AnsweredBy perf throttle) b (suc n) texts ls
+          → AllByRecursion IsNarrowRequest (requests_of ls))
           → AllByRecursion IsNarrowRequest (requests_of lines)
       step (Err why) k g later = absurd g
       step (Ok None) k g later = later before lines has g
@@ -214,7 +216,8 @@ module _ (P : Plan) (c d : IdleTable → ℕ → ℕ → ℕ → Type 0) (m o : 
       → IsAnswer (o kind) (scale_of (kind_of kind) (cpu_at P p)) (own_limit P (kind_of kind) p before) value n
   answer_also before p kind value n lt narrow h = step (scale_of (kind_of kind) (cpu_at P p)) refl h
     where
-      step : (s : Option Scale) → scale_of (kind_of kind) (cpu_at P p) ≡ s → IsAnswer (m kind) s (own_limit P (kind_of kind) p before) value n → IsAnswer (o kind) s (own_limit P (kind_of kind) p before) value n
+      step : (s : Option Scale) → scale_of (kind_of kind) (cpu_at P p) ≡ s → IsAnswer (m kind) s (own_limit P (kind_of kind) p before) value n
+          → IsAnswer (o kind) s (own_limit P (kind_of kind) p before) value n
       step None e h = h
       step (Some scale) e h =
           let counts = counts_of P (made_from P (opening P) (own p before)) (kind_of kind) p (cpu_at P p) scale (own_fits P p lt before (opening P) (opening_fits P)) lt refl e in

@@ -67,7 +67,8 @@ in_fields P [] = tt
 in_fields P ([] ∷ fields) = tt
 in_fields P ((b ∷ path) ∷ fields) = step (b == 35) (of_path P (name_of (b ∷ path)) (said fields))
   where
-    step : (c : Bool) → Among (length P.cpus) (some_wish (wish_of P (name_of (b ∷ path)) (said fields))) → Among (length P.cpus) (cond c (Ok None) (some_wish (wish_of P (name_of (b ∷ path)) (said fields))))
+    step : (c : Bool) → Among (length P.cpus) (some_wish (wish_of P (name_of (b ∷ path)) (said fields)))
+        → Among (length P.cpus) (cond c (Ok None) (some_wish (wish_of P (name_of (b ∷ path)) (said fields))))
     step true h = tt
     step false h = h
 
@@ -83,7 +84,8 @@ asked_by P c m before (Within p t r) q asked = ap cpu_of asked.2 ∙ step (asked
 asked_by P c m before (Notice p scales.Perf v) q asked = ap cpu_of asked.2
 asked_by P c m before (Notice p scales.Throttle v) q asked = ap cpu_of asked.2
 
-pub lines_fit : (P : Plan) (c : IdleTable → ℕ → ℕ → ℕ → Type 0) (m : ScaleKind → ℕ → ℕ → ℕ → ℕ → Type 0) (before : List Request) (n : ℕ) (texts : List (List ℕ)) (lines : List line) → AreLines P c m before n texts lines → Fit P texts lines
+pub lines_fit : (P : Plan) (c : IdleTable → ℕ → ℕ → ℕ → Type 0) (m : ScaleKind → ℕ → ℕ → ℕ → ℕ → Type 0) (before : List Request) (n : ℕ) (texts : List (List ℕ)) (lines : List line)
+    → AreLines P c m before n texts lines → Fit P texts lines
 lines_fit P c m before n [] lines h = rw h (record { few = omega arith; exist = tt })
 lines_fit P c m before n (text ∷ texts) lines h =
     step (wish_in P text) (in_fields P (fields_of text)) h (λ b ls g. lines_fit P c m b (suc n) texts ls g)
@@ -99,7 +101,8 @@ lines_fit P c m before n (text ∷ texts) lines h =
         rw g.3 (record { few = omega arith; exist = (has, f.exist) })
 
 -- Lines are told by their texts where answers are told by their questions.
-pub lines_one : (P : Plan) (c : IdleTable → ℕ → ℕ → ℕ → Type 0) (m : ScaleKind → ℕ → ℕ → ℕ → ℕ → Type 0) → ((before : List Request) (w : Wish) (q r : Request) → IsAsked P c m before w q → IsAsked P c m before w r → q ≡ r)
+pub lines_one : (P : Plan) (c : IdleTable → ℕ → ℕ → ℕ → Type 0) (m : ScaleKind → ℕ → ℕ → ℕ → ℕ → Type 0) → ((before : List Request) (w : Wish) (q r : Request) → IsAsked P c m before w q
+    → IsAsked P c m before w r → q ≡ r)
     → (before : List Request) (n : ℕ) (texts : List (List ℕ)) (ls ms : List line) → AreLines P c m before n texts ls → AreLines P c m before n texts ms → ls ≡ ms
 lines_one P c m one before n [] ls ms g h = g ∙ sym h
 lines_one P c m one before n (text ∷ texts) ls ms g h = step (wish_in P text) g h (λ b xs ys. lines_one P c m one b (suc n) texts xs ys)
@@ -122,7 +125,8 @@ asked_once P choose answer before (Within p t z) q r a b =
     a.2 ∙ ap (λ (s : ℕ). cond (s == 0) (requests.Wake p) (requests.Idle p s t)) same ∙ sym b.2
 asked_once P choose answer before (Notice p kind v) q r a b = a.2 ∙ ap (limit_request kind p) (step (scale_of (kind_of kind) (cpu_at P p)) a.1 b.1) ∙ sym b.2
   where
-    step : (scale : Option Scale) → IsAnswer (Answered answer kind) scale (own_limit P (kind_of kind) p before) v a.0 → IsAnswer (Answered answer kind) scale (own_limit P (kind_of kind) p before) v b.0 → a.0 ≡ b.0
+    step : (scale : Option Scale) → IsAnswer (Answered answer kind) scale (own_limit P (kind_of kind) p before) v a.0
+        → IsAnswer (Answered answer kind) scale (own_limit P (kind_of kind) p before) v b.0 → a.0 ≡ b.0
     step None x y = x ∙ sym y
     step (Some scale) x y = x ∙ sym y
 

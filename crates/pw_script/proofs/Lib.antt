@@ -15,3 +15,14 @@ pub mod Printed
 pub mod Shorts
 pub mod Spacing
 pub mod Values
+pub mod Firsts
+pub mod Cuts
+pub mod TextWords
+pub mod Readers
+pub mod Determined
+pub mod Completions
+pub mod Beginnings
+pub mod Alike
+pub mod Nexts
+pub mod Narrow
+pub mod Ends

@@ -22,12 +22,14 @@ made_more P S (r ∷ qs) q = made_more P (after P S r) qs q
 
 -- # The first text asks for something, asks for nothing, or is bad
 
-pub lines_some : (P : Plan) (c : IdleTable → ℕ → ℕ → ℕ → Type 0) (m : ScaleKind → ℕ → ℕ → ℕ → ℕ → Type 0) (before : List Request) (n : ℕ) (texts : List (List ℕ)) (text : List ℕ) (rest : List (List ℕ)) (wish : Wish) (q : Request) (more : List line)
+pub lines_some : (P : Plan) (c : IdleTable → ℕ → ℕ → ℕ → Type 0) (m : ScaleKind → ℕ → ℕ → ℕ → ℕ → Type 0) (before : List Request) (n : ℕ) (texts : List (List ℕ)) (text : List ℕ) (rest : List (List ℕ))
+    (wish : Wish) (q : Request) (more : List line)
     → texts ≡ text ∷ rest → wish_in P text ≡ Ok (Some wish) → IsAsked P c m before wish q → AreLines P c m (before ++ q ∷ []) (suc n) rest more
     → AreLines P c m before n texts (record { number = n; request = q } ∷ more)
 lines_some P c m before n texts text rest wish q more e w asked h = rw (e, w) (q, asked, more, refl, h)
 
-pub lines_none : (P : Plan) (c : IdleTable → ℕ → ℕ → ℕ → Type 0) (m : ScaleKind → ℕ → ℕ → ℕ → ℕ → Type 0) (before : List Request) (n : ℕ) (texts : List (List ℕ)) (text : List ℕ) (rest : List (List ℕ)) (more : List line)
+pub lines_none : (P : Plan) (c : IdleTable → ℕ → ℕ → ℕ → Type 0) (m : ScaleKind → ℕ → ℕ → ℕ → ℕ → Type 0) (before : List Request) (n : ℕ) (texts : List (List ℕ)) (text : List ℕ) (rest : List (List ℕ))
+    (more : List line)
     → texts ≡ text ∷ rest → wish_in P text ≡ Ok None → AreLines P c m before (suc n) rest more
     → AreLines P c m before n texts more
 lines_none P c m before n texts text rest more e w h = rw (e, w) h
@@ -42,7 +44,8 @@ bad_here asks n texts text rest why e w = rw (e, w) refl
 
 -- # A loop over the lines, one line further
 
-pub reads_on : (P : Plan) (c : IdleTable → ℕ → ℕ → ℕ → Type 0) (m : ScaleKind → ℕ → ℕ → ℕ → ℕ → Type 0) (whole : List line → Type 0) (items new : List line) (number : ℕ) (texts : List (List ℕ)) (text : List ℕ) (rest : List (List ℕ)) (wish : Wish) (q : Request)
+pub reads_on : (P : Plan) (c : IdleTable → ℕ → ℕ → ℕ → Type 0) (m : ScaleKind → ℕ → ℕ → ℕ → ℕ → Type 0) (whole : List line
+    → Type 0) (items new : List line) (number : ℕ) (texts : List (List ℕ)) (text : List ℕ) (rest : List (List ℕ)) (wish : Wish) (q : Request)
     → texts ≡ text ∷ rest → wish_in P text ≡ Ok (Some wish) → IsAsked P c m (requests_of items) wish q → new ≡ items ++ record { number = number + 1; request = q } ∷ []
     → ((more : List line) → AreLines P c m (requests_of items) (suc number) texts more → whole (items ++ more))
     → (more : List line) → AreLines P c m (requests_of new) (suc (number + 1)) rest more → whole (new ++ more)
@@ -53,7 +56,8 @@ reads_on P c m whole items new number texts text rest wish q e w asked is so_far
     let back = so_far (record { number = suc number; request = q } ∷ more) (lines_some P c m (requests_of items) (suc number) texts text rest wish q more e w asked there) in
     rw (is, one, append_assoc) back
 
-pub past_on : (P : Plan) (c : IdleTable → ℕ → ℕ → ℕ → Type 0) (m : ScaleKind → ℕ → ℕ → ℕ → ℕ → Type 0) (whole : List line → Type 0) (items : List line) (number : ℕ) (texts : List (List ℕ)) (text : List ℕ) (rest : List (List ℕ))
+pub past_on : (P : Plan) (c : IdleTable → ℕ → ℕ → ℕ → Type 0) (m : ScaleKind → ℕ → ℕ → ℕ → ℕ → Type 0) (whole : List line
+    → Type 0) (items : List line) (number : ℕ) (texts : List (List ℕ)) (text : List ℕ) (rest : List (List ℕ))
     → texts ≡ text ∷ rest → wish_in P text ≡ Ok None
     → ((more : List line) → AreLines P c m (requests_of items) (suc number) texts more → whole (items ++ more))
     → (more : List line) → AreLines P c m (requests_of items) (suc (number + 1)) rest more → whole (items ++ more)
@@ -62,7 +66,8 @@ past_on P c m whole items number texts text rest e w so_far more h =
     let there = rw one at h in
     so_far more (lines_none P c m (requests_of items) (suc number) texts text rest more e w there)
 
-pub made_on : (P : Plan) (S T U : State) (items new : List line) (number : ℕ) (q : Request) → new ≡ items ++ record { number = number; request = q } ∷ [] → T ≡ made_from P S (requests_of items) → U ≡ after P T q → U ≡ made_from P S (requests_of new)
+pub made_on : (P : Plan) (S T U : State) (items new : List line) (number : ℕ) (q : Request) → new ≡ items ++ record { number = number; request = q } ∷ [] → T ≡ made_from P S (requests_of items)
+    → U ≡ after P T q → U ≡ made_from P S (requests_of new)
 made_on P S T U items new number q is before then =
     let asked_for : requests_of new ≡ requests_of items ++ q ∷ [] = ap requests_of is ∙ map-append _ items _ in
     then ∙ ap (λ X. after P X q) before ∙ sym (made_more P S (requests_of items) q) ∙ ap (made_from P S) (sym asked_for)

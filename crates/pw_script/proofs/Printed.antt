@@ -81,7 +81,8 @@ pub asked_parts : (n : ℕ) (path : List ℕ) (asked out : List (List ℕ)) → 
 asked_parts n path asked out =
     let arrow : behind (codes "->" ∷ out) ≡ codes " ->" ++ behind out = behind_more (codes "->") out in
     let words : behind (asked ++ (codes "->" ∷ out)) ≡ behind asked ++ (codes " ->" ++ behind out) = behind_append asked (codes "->" ∷ out) ∙ ap (λ (l : List ℕ). behind asked ++ l) arrow in
-    let named : behind (path ∷ (asked ++ (codes "->" ∷ out))) ≡ (32 ∷ path) ++ (behind asked ++ (codes " ->" ++ behind out)) = behind_more path (asked ++ (codes "->" ∷ out)) ∙ ap (λ (l : List ℕ). (32 ∷ path) ++ l) words in
+    let named : behind (path ∷ (asked ++ (codes "->" ∷ out))) ≡ (32 ∷ path) ++ (behind asked ++ (codes " ->" ++ behind out)) = behind_more path (asked ++ (codes "->" ∷ out)) ∙ ap
+    (λ (l : List ℕ). (32 ∷ path) ++ l) words in
     spaced_behind (decimal n) (path ∷ (asked ++ (codes "->" ∷ out))) ∙ ap (λ (l : List ℕ). decimal n ++ l) named
     ∙ sym (four (decimal n) (32 ∷ path) (behind asked) (codes " ->") (behind out))
 

@@ -16,7 +16,8 @@ behind_more word (next ∷ words) = refl
 pub behind_append : (xs ys : List (List ℕ)) → behind (xs ++ ys) ≡ behind xs ++ behind ys
 behind_append [] ys = refl
 behind_append (x ∷ xs) ys =
-    behind_more x (xs ++ ys) ∙ ap (λ (l : List ℕ). (32 ∷ x) ++ l) (behind_append xs ys) ∙ sym (append_assoc (32 ∷ x) (behind xs) (behind ys)) ∙ ap (λ (l : List ℕ). l ++ behind ys) (sym (behind_more x xs))
+    behind_more x (xs ++ ys) ∙ ap (λ (l : List ℕ). (32 ∷ x) ++ l) (behind_append xs ys) ∙ sym (append_assoc (32 ∷ x) (behind xs) (behind ys)) ∙ ap
+    (λ (l : List ℕ). l ++ behind ys) (sym (behind_more x xs))
 
 pub spaced_behind : (word : List ℕ) (words : List (List ℕ)) → spaced (word ∷ words) ≡ word ++ behind words
 spaced_behind word [] = sym (append-nil word)

@@ -93,7 +93,8 @@ Said = Verb × Option ℕ × Option ℕ
 abbrev pub said : List (List ℕ) → Option Said
 said (word ∷ []) = option_map (λ verb. (verb, Some 0, Some 0)) (verb_alone word)
 said (word ∷ n ∷ []) = if is_number n then option_map (λ verb. (verb, number_of n, Some 0)) (verb_of_one word) else None
-said (word ∷ n ∷ m ∷ []) = if is_number n && is_number m then option_map (λ verb. (verb, number_of n, number_of m)) (verb_of_two word) else None
+said (word ∷ n ∷ m ∷ []) = if is_number n && is_number m then option_map
+    (λ verb. (verb, number_of n, number_of m)) (verb_of_two word) else None
 said _ = None
 
 -- # What a form asks for

@@ -62,7 +62,8 @@ outcome_words P S e = if e.fault == 0 then reply_words (answer P S (request_of e
 
 -- a register: its space, width, offset, access size and address
 abbrev pub register_text : Register → List ℕ
-register_text r = 91 ∷ (join_with_byte 44 (decimal r.space ∷ decimal r.width ∷ decimal r.offset ∷ decimal r.access ∷ hex_text r.address ∷ []) ++ (93 ∷ []))
+register_text r = 91 ∷ (join_with_byte 44 (decimal r.space ∷ decimal r.width ∷ decimal r.offset ∷ decimal r.access ∷ hex_text r.address
+    ∷ []) ++ (93 ∷ []))
 
 -- # Lines
 

@@ -9,3 +9,6 @@ pub mod Paths
 pub mod Openings
 pub mod HistoryText
 pub mod inner
+pub mod Telling
+pub mod Completing
+pub mod Wholes

@@ -65,17 +65,21 @@ abbrev pub requests_of : List line → List Request
 requests_of lines = map (λ l. l.request) lines
 
 -- the lines that a wish and the texts behind it give
-abbrev pub GivesLines : Plan → (IdleTable → ℕ → ℕ → ℕ → Type 0) → (ScaleKind → ℕ → ℕ → ℕ → ℕ → Type 0) → List Request → ℕ → Result (Option Wish) LineWhy
+abbrev pub GivesLines : Plan → (IdleTable → ℕ → ℕ → ℕ → Type 0) → (ScaleKind → ℕ → ℕ → ℕ → ℕ → Type 0) → List Request → ℕ
+    → Result (Option Wish) LineWhy
     → (List Request → List line → Type 0) → List line → Type 0
 GivesLines P chooses answers before n (Err why) behind lines = ⊥
 GivesLines P chooses answers before n (Ok None) behind lines = behind before lines
 GivesLines P chooses answers before n (Ok (Some wish)) behind lines =
-    (q : Request) × IsAsked P chooses answers before wish q × (more : List line) × (lines ≡ record { number = n; request = q } ∷ more) × behind (before ++ q ∷ []) more
+    (q : Request) × IsAsked P chooses answers before wish q × (more : List line) × (lines ≡ record { number = n; request = q } ∷ more)
+    × behind (before ++ q ∷ []) more
 
 -- Each text asks for nothing, or for the next line.
-abbrev pub AreLines : Plan → (IdleTable → ℕ → ℕ → ℕ → Type 0) → (ScaleKind → ℕ → ℕ → ℕ → ℕ → Type 0) → List Request → ℕ → List (List ℕ) → List line → Type 0
+abbrev pub AreLines : Plan → (IdleTable → ℕ → ℕ → ℕ → Type 0) → (ScaleKind → ℕ → ℕ → ℕ → ℕ → Type 0) → List Request → ℕ → List (List ℕ)
+    → List line → Type 0
 AreLines P chooses answers before n [] lines = lines ≡ []
-AreLines P chooses answers before n (text ∷ texts) lines = GivesLines P chooses answers before n (wish_in P text) (λ b l. AreLines P chooses answers b (suc n) texts l) lines
+AreLines P chooses answers before n (text ∷ texts) lines = GivesLines P chooses answers before n (wish_in P text)
+    (λ b l. AreLines P chooses answers b (suc n) texts l) lines
 
 -- # The whole script
 

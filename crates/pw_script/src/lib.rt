@@ -18,6 +18,8 @@ mod parsing;
 mod paths;
 mod printing;
 mod script;
+mod text_laws;
+mod text_values;
 mod wish;
 mod words;
 
@@ -36,5 +38,10 @@ pub use parsing::{parse, too_long};
 pub use paths::PathTexts;
 pub use printing::print_history;
 pub use script::{Line, LineWhy, MOST_BYTES, MOST_LINES, MOST_OPERATIONS, Script, ScriptFault};
+pub use text_laws::{
+    beginnings_are_starts, beginnings_complete, lines_follow, texts_of_scripts_tell,
+    texts_tell_histories,
+};
+pub use text_values::{entries_are_narrow, plans_have_segments, text_tells_history};
 pub use wish::{Verb, Wish};
 pub use words::{put_asker, put_fault, put_labelled};

@@ -151,7 +151,8 @@ pub(crate) fn wish_in(
 ) -> Result<Result<Option<Wish>, LineWhy>, Memory>
     requires { LeadsTo segs_of 0 plan.now.cpus index.now }
     ensures wish { IfOk result (λ wish. wish ≡ wish_in plan.now line.now) }
-    ensures exists { IfOk result (λ wish. IfOk wish (λ some. IfSome some (λ w. asker w < length plan.now.cpus))) }
+    ensures exists { IfOk result
+        (λ wish. IfOk wish (λ some. IfSome some (λ w. asker w < length plan.now.cpus))) }
 {
     let (path, rest) = first_field(line);
     if path.is_empty() || path[0] == b'#' {

@@ -42,7 +42,8 @@ fn put_labelled_hex<K: Sink>(
 /// Puts the fields of a register, with commas between.
 fn put_fields<K: Sink>(page: &mut Page, sink: &mut K, register: &Register) -> Result<(), Failed>
     ensures { PutsText K.Sink sink.old sink.new page.old page.new
-        (join_with_byte 44 (decimal register.now.space ∷ decimal register.now.width ∷ decimal register.now.offset
+        (join_with_byte 44 (decimal register.now.space ∷ decimal register.now.width
+        ∷ decimal register.now.offset
         ∷ decimal register.now.access ∷ hex_text register.now.address ∷ [])) (is_ok result) }
 {
     put_decimal(page, sink, u64::from(register.space))?;
@@ -90,7 +91,8 @@ fn put_set<K: Sink>(
     value: u64,
 ) -> Result<(), Failed>
     ensures { PutsText K.Sink sink.old sink.new page.old page.new
-        ((codes "  set " ++ (text_at paths.now cpu ++ (32 ∷ register_text register.now))) ++ (32 ∷ hex_text value))
+        ((codes "  set " ++ (text_at paths.now cpu ++ (32 ∷ register_text register.now)))
+        ++ (32 ∷ hex_text value))
         (is_ok result) }
 {
     put_target(page, sink, paths, b"  set ", cpu, register)?;

@@ -116,7 +116,8 @@ fn states_of(chain: &Chain) -> &[u8]
 /// Puts the states that a processor entered.
 fn put_chain<K: Sink>(page: &mut Page, sink: &mut K, chain: &Chain) -> Result<(), Failed>
     ensures { PutsText K.Sink sink.old sink.new page.old page.new
-        (codes " entered" ++ flat_map (λ s. 32 ∷ decimal s) (take chain.now.len chain.now.states)) (is_ok result) }
+        (codes " entered" ++ flat_map (λ s. 32 ∷ decimal s) (take chain.now.len chain.now.states))
+        (is_ok result) }
 {
     page.put(sink, b" entered")?;
     put_states(page, sink, states_of(chain))
@@ -125,7 +126,8 @@ fn put_chain<K: Sink>(page: &mut Page, sink: &mut K, chain: &Chain) -> Result<()
 /// Puts that a domain can't be coordinated.
 fn put_unfit<K: Sink>(page: &mut Page, sink: &mut K, domain: u32, why: u8) -> Result<(), Failed>
     ensures { PutsText K.Sink sink.old sink.new page.old page.new
-        ((codes " refused unfit domain " ++ decimal domain) ++ (codes " why " ++ decimal why)) (is_ok result) }
+        ((codes " refused unfit domain " ++ decimal domain) ++ (codes " why " ++ decimal why))
+        (is_ok result) }
 {
     put_labelled(page, sink, b" refused unfit domain ", domain)?;
     put_labelled(page, sink, b" why ", u32::from(why))

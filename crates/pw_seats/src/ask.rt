@@ -22,7 +22,7 @@ fn hear(heard: &mut Vec<Heard>, seat: &Seat, reply: pw_model::Reply) -> Option<(
 }
 
 /// Tells what a request is told that doesn't wait.
-pub fn try_ask(
+pub(crate) fn try_ask(
     text: &mut String,
     heard: &mut Vec<Heard>,
     shared: &Shared,
@@ -44,7 +44,7 @@ pub fn try_ask(
 }
 
 /// Makes a request that waits, and notes its reply.
-pub fn ask<W: Wait>(
+pub(crate) fn ask<W: Wait>(
     rt: &W,
     heard: &mut Vec<Heard>,
     shared: &Shared,
@@ -66,7 +66,7 @@ pub fn ask<W: Wait>(
 }
 
 /// Tells what a request is told that waits.
-pub fn wait_ask<W: Wait>(
+pub(crate) fn wait_ask<W: Wait>(
     rt: &W,
     text: &mut String,
     heard: &mut Vec<Heard>,
@@ -83,7 +83,7 @@ pub fn wait_ask<W: Wait>(
 }
 
 /// Splits a part off and joins it back, so often. It ends earlier where no seat is made, and tells why.
-pub fn rounds(
+pub(crate) fn rounds(
     text: &mut String,
     alloc: Global,
     shared: &Shared,

@@ -15,7 +15,7 @@ use std::thread::{Threads, join};
 /// A seat, and what its threads heard, each in the order of its requests; None where one was told
 /// something else than a reply, or for want of memory.
 #[derive(Drop)]
-pub struct Crew {
+pub(crate) struct Crew {
     pub seat: Seat,
     pub heard: Option<Vec<Heard>>,
 }
@@ -84,7 +84,7 @@ fn both(one: Option<Vec<Heard>>, other: Option<Vec<Heard>>) -> Option<Vec<Heard>
 
 /// Makes the requests of so many rounds for each of these processors, each in a thread of its own and
 /// by a seat of its own, and joins the seats.
-pub fn ask_in_threads<R: Threads + Wait + Sync>(
+pub(crate) fn ask_in_threads<R: Threads + Wait + Sync>(
     rt: &R,
     alloc: Global,
     shared: &Shared,

@@ -175,7 +175,7 @@ fn join(text: &mut String, shared: &Shared, seats: &mut Vec<Seat>, line: &str) -
 }
 
 /// Makes the call of a line, and tells what it is told.
-pub fn play<R: Threads + Wait + Sync>(
+pub(crate) fn play<R: Threads + Wait + Sync>(
     rt: &R,
     text: &mut String,
     alloc: Global,

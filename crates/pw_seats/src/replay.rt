@@ -3,8 +3,8 @@ ghost use Rattle.pw_model.specs.States.{IsState};
 use pw_core::State;
 use pw_machines::{put_reply, request_in};
 use pw_model::{HistoryEntry, Reply};
-use pw_ops::Ops;
 use pw_plan::{Plan, Request};
+use pw_regs::Ops;
 use std::alloc::Global;
 
 /// As many operations as a request of these machines has at most.
@@ -12,7 +12,7 @@ const ROOM: u32 = 300;
 
 /// A reply that a seat was told.
 #[derive(Clone, Copy)]
-pub struct Heard {
+pub(crate) struct Heard {
     pub seat: u32,
     pub reply: Reply,
 }
@@ -48,7 +48,7 @@ fn heard_last(entries: &[HistoryEntry], seat: u32, heard: &[Heard]) -> Option<Re
 
 /// Whether each entry but a fault was answered what one caller alone is answered who makes the same
 /// requests in this order. Each seat heard its replies in the order of its entries.
-pub fn all_agree(
+pub(crate) fn all_agree(
     alloc: Global,
     plan: &Plan,
     entries: &[HistoryEntry],

@@ -9,7 +9,7 @@ use pw_turns::{Coordinator, Seat};
 pub type Shared = Coordinator<FailingRegisters>;
 
 /// Takes out the seat with this number, if it is among these.
-pub fn taken(_shared: &Shared, seats: &mut Vec<Seat>, number: u32) -> Option<Seat>
+pub(crate) fn taken(_shared: &Shared, seats: &mut Vec<Seat>, number: u32) -> Option<Seat>
     requires all { All (Owns _shared.now.table.shared.table_id) seats.old.items }
     ensures all { All (Owns _shared.now.table.shared.table_id) seats.new.items }
     ensures seat { IfSome result (Owns _shared.now.table.shared.table_id) }
@@ -24,7 +24,7 @@ pub fn taken(_shared: &Shared, seats: &mut Vec<Seat>, number: u32) -> Option<Sea
 }
 
 /// Puts a seat among the others.
-pub fn put(_shared: &Shared, seats: &mut Vec<Seat>, seat: Seat)
+pub(crate) fn put(_shared: &Shared, seats: &mut Vec<Seat>, seat: Seat)
     requires all { All (Owns _shared.now.table.shared.table_id) seats.old.items }
     requires seat { Owns _shared.now.table.shared.table_id seat }
     requires room { vec_len seats.old < vec_capacity seats.old }
@@ -37,7 +37,7 @@ pub fn put(_shared: &Shared, seats: &mut Vec<Seat>, seat: Seat)
 }
 
 /// All seats joined into one.
-pub fn gathered(shared: &Shared, mut seats: Vec<Seat>) -> Seat
+pub(crate) fn gathered(shared: &Shared, mut seats: Vec<Seat>) -> Seat
     requires { AreSeats shared.now.table.shared.table_id seats.items 65536 }
     ensures owns { Owns shared.now.table.shared.table_id result }
     ensures alone { parts_of result ≡ 65536 }

@@ -4,7 +4,7 @@ use pw_regs::FailingRegisters;
 use pw_turns::{Done, OpenFault, Seat, SplitFault, Try};
 
 /// What a request was told that doesn't wait.
-pub fn put_try(text: &mut String, told: &Try) -> Option<()> {
+pub(crate) fn put_try(text: &mut String, told: &Try) -> Option<()> {
     match told {
         Try::Answer(reply) => put_reply(text, reply),
         Try::Busy { turn, holder } => write!(text, "busy turn {turn} seat {holder}").ok(),
@@ -15,7 +15,7 @@ pub fn put_try(text: &mut String, told: &Try) -> Option<()> {
 }
 
 /// What a request was told that waited.
-pub fn put_done(text: &mut String, told: &Done) -> Option<()> {
+pub(crate) fn put_done(text: &mut String, told: &Done) -> Option<()> {
     match told {
         Done::Answer(reply) => put_reply(text, reply),
         Done::Full { capacity } => write!(text, "full {capacity}").ok(),
@@ -25,13 +25,13 @@ pub fn put_done(text: &mut String, told: &Done) -> Option<()> {
 }
 
 /// A seat's number and parts.
-pub fn put_seat(text: &mut String, seat: &Seat) -> Option<()> {
+pub(crate) fn put_seat(text: &mut String, seat: &Seat) -> Option<()> {
     let (number, parts) = (seat.number(), seat.parts());
     write!(text, "seat {number} has {parts}").ok()
 }
 
 /// Why no seat was made.
-pub fn put_split_fault(text: &mut String, why: &SplitFault) -> Option<()> {
+pub(crate) fn put_split_fault(text: &mut String, why: &SplitFault) -> Option<()> {
     match why {
         SplitFault::Many { made } => write!(text, "many {made}").ok(),
         SplitFault::Memory => None,
@@ -39,7 +39,7 @@ pub fn put_split_fault(text: &mut String, why: &SplitFault) -> Option<()> {
 }
 
 /// Why there is no coordinator, with what is given back.
-pub fn put_open_fault(text: &mut String, why: &OpenFault<FailingRegisters>) -> Option<()> {
+pub(crate) fn put_open_fault(text: &mut String, why: &OpenFault<FailingRegisters>) -> Option<()> {
     match why {
         OpenFault::RegisterFault { done, plan, regs } => {
             let cpus = plan.cpus.as_slice().len();
@@ -55,7 +55,7 @@ pub fn put_open_fault(text: &mut String, why: &OpenFault<FailingRegisters>) -> O
 }
 
 /// A line for each entry: the seat, the request, and where a register failed.
-pub fn put_entries(text: &mut String, entries: &[HistoryEntry]) -> Option<()> {
+pub(crate) fn put_entries(text: &mut String, entries: &[HistoryEntry]) -> Option<()> {
     for entry in entries {
         let seat = entry.seat;
         write!(text, "\n    seat {seat} ").ok()?;

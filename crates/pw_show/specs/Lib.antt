@@ -1,3 +1,4 @@
 pub mod inner
 pub mod Values
 pub mod Show
+pub mod Json

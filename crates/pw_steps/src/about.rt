@@ -9,7 +9,7 @@ use std::alloc::Global;
 /// What a line that is no request asks for: `plan`; `bound REQUEST`, `has REQUEST`, `opening bound`; of the
 /// plan `domains`, `domain N`, `groups`, `group N`, `children N`; of a record `node record N`,
 /// `domain record N`, `group record N`.
-pub fn put_about(
+pub(crate) fn put_about(
     text: &mut String,
     alloc: Global,
     plan: &Plan,

@@ -4,8 +4,8 @@ use crate::records::Note;
 use crate::run::is_told;
 use pw_core::State;
 use pw_machines::{ANSWER, NoPlan, plan_of};
-use pw_ops::Ops;
 use pw_plan::{Plan, PlanFault};
+use pw_regs::Ops;
 use std::alloc::Global;
 
 /// As many operations as a request of these machines has at most.
@@ -54,7 +54,7 @@ fn refused(alloc: Global, why: &str, lines: &str) -> Option<String> {
 }
 
 /// What comes of the lines of a case: `as it must be`, or the first that is told something else.
-pub fn came(alloc: Global, lines: &str) -> Option<String> {
+pub(crate) fn came(alloc: Global, lines: &str) -> Option<String> {
     match plan_of(alloc, lines) {
         Ok(plan) => first_other(alloc, &plan, lines),
         Err(why) => refused(alloc, refusal(alloc, why)?.as_str(), lines),

@@ -7,7 +7,7 @@ use pw_core::chain_composite;
 use pw_plan::Plan;
 
 /// The chain of this state alone.
-pub fn alone(state: u8) -> Chain
+pub(crate) fn alone(state: u8) -> Chain
     ensures { IsChain result }
 {
     Chain {
@@ -17,7 +17,7 @@ pub fn alone(state: u8) -> Chain
 }
 
 /// The chain with one more state, if there is a place for it.
-pub fn extended(mut chain: Chain, state: u8) -> Option<Chain>
+pub(crate) fn extended(mut chain: Chain, state: u8) -> Option<Chain>
     requires { IsChain chain }
     ensures { IfSome result IsChain }
 {
@@ -48,7 +48,7 @@ fn are_states(plan: &Plan, next: Option<u32>, states: &[u8]) -> bool
 }
 
 /// What a processor enters in this chain, if it is one of its states and of its containers'.
-pub fn entered(plan: &Plan, cpu: u32, chain: &Chain) -> Option<Composite>
+pub(crate) fn entered(plan: &Plan, cpu: u32, chain: &Chain) -> Option<Composite>
     requires cpu { cpu < length plan.now.cpus }
     requires chain { IsChain chain.now }
 {

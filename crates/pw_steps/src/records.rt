@@ -1,7 +1,7 @@
 ghost use Rattle.std.specs.Prelude.{◌≡◌, ◌<◌, false, length, IfSome};
 ghost use Rattle.pw_plan.specs.Groups.{is_idle};
 ghost use Rattle.pw_plan.specs.Places.{children_at, domain_at};
-ghost use Rattle.pw_parts.specs.Holding.{table_at};
+ghost use Rattle.pw_model.specs.Holding.{table_at};
 ghost use Rattle.pw_domain.specs.Domains.{IsDomainOf};
 ghost use Rattle.pw_domain.specs.Groups.{IsGroupOf};
 ghost use Rattle.pw_idle.specs.Nodes.{IsNodeOf};
@@ -13,7 +13,7 @@ use std::alloc::Global;
 
 /// What a record was told: a child's vote, a member's ask or limit, or a member's vote.
 #[derive(Clone, Copy)]
-pub enum Note {
+pub(crate) enum Note {
     Child {
         node: u32,
         child: u32,
@@ -47,7 +47,7 @@ fn states_of(plan: &Plan, node: u32, child: u32) -> usize
 
 /// Votes for a child in the record of this container, where it has this state.
 #[tactic(auto, unfolding(pw_model::specs::States::any_latency))]
-pub fn vote(
+pub(crate) fn vote(
     plan: &Plan,
     node: u32,
     held: &mut NodeRec,
@@ -73,7 +73,7 @@ pub fn vote(
 }
 
 /// The record of this container, which was told these notes.
-pub fn node_record(alloc: Global, plan: &Plan, notes: &[Note], node: u32) -> Option<NodeRec>
+pub(crate) fn node_record(alloc: Global, plan: &Plan, notes: &[Note], node: u32) -> Option<NodeRec>
     requires { node < length plan.now.containers }
     ensures of { IfSome result (λ r. IsNodeOf plan.now r) }
     ensures node { IfSome result (λ r. r.node ≡ node) }
@@ -126,7 +126,12 @@ fn ask(
 }
 
 /// The record of this domain, which was told these notes.
-pub fn domain_record(alloc: Global, plan: &Plan, notes: &[Note], domain: u32) -> Option<DomainRec>
+pub(crate) fn domain_record(
+    alloc: Global,
+    plan: &Plan,
+    notes: &[Note],
+    domain: u32,
+) -> Option<DomainRec>
     requires exists { domain < length plan.now.domains }
     requires scaled { is_idle (domain_at plan.now domain).kind ≡ false }
     ensures of { IfSome result (λ r. IsDomainOf plan.now r) }
@@ -168,7 +173,12 @@ fn join(plan: &Plan, group: u32, held: &mut GroupRec, member: u32, state: u8) ->
 }
 
 /// The record of this group, which was told these notes.
-pub fn group_record(alloc: Global, plan: &Plan, notes: &[Note], group: u32) -> Option<GroupRec>
+pub(crate) fn group_record(
+    alloc: Global,
+    plan: &Plan,
+    notes: &[Note],
+    group: u32,
+) -> Option<GroupRec>
     requires { group < length plan.now.groups }
     ensures of { IfSome result (λ r. IsGroupOf plan.now r) }
     ensures group { IfSome result (λ r. r.group ≡ group) }

@@ -5,8 +5,8 @@ use crate::records::Note;
 use crate::walk::walked;
 use pw_core::State;
 use pw_machines::{put_ops, put_outcome, request_of};
-use pw_ops::Ops;
 use pw_plan::{Plan, Request};
+use pw_regs::Ops;
 use std::alloc::Global;
 
 /// Tells what a request is answered by `step`, and what it operates.
@@ -86,7 +86,7 @@ fn tell_again(
 
 /// Whether a line is told what it must be, of a request by the coordinator and by the records. The text is
 /// what it is told.
-pub fn is_told(
+pub(crate) fn is_told(
     text: &mut String,
     alloc: Global,
     plan: &Plan,

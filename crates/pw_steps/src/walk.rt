@@ -7,8 +7,8 @@ use crate::records::{Note, domain_record, group_record, node_record, vote};
 use acpi_values::{Chain, IdleKind, Op};
 use pw_core::fixed_answer;
 use pw_model::Reply;
-use pw_ops::Ops;
 use pw_plan::{Child, DomainKind, Plan, Request};
+use pw_regs::Ops;
 use std::alloc::Global;
 
 /// Containers nest so deep at most, and one step more finds that there is none around the outermost.
@@ -337,7 +337,7 @@ fn wake(alloc: Global, plan: &Plan, notes: &mut Vec<Note>, cpu: u32) -> Option<R
 
 /// What the records answer to a request, which were told these notes. It appends the operations, and
 /// notes what a record is told.
-pub fn walked(
+pub(crate) fn walked(
     alloc: Global,
     plan: &Plan,
     notes: &mut Vec<Note>,

@@ -8,7 +8,7 @@ use std::thread::Threads;
 use std::{env, fs, io};
 
 /// The words behind the program's name.
-pub fn words(rt: &HostRuntime) -> io::Result<Vec<String>> {
+pub(crate) fn words(rt: &HostRuntime) -> io::Result<Vec<String>> {
     let mut all = env::args(rt)?;
     let _ = all.next();
     let mut words = Vec::new(rt.alloc());
@@ -33,7 +33,7 @@ fn left<T: Threads + Wait + Sync>(
 }
 
 /// Prints the text that is left so.
-pub fn print_left<T: Threads + Wait + Sync>(
+pub(crate) fn print_left<T: Threads + Wait + Sync>(
     rt: &HostRuntime,
     threads: &T,
     containers: u32,
@@ -45,7 +45,12 @@ pub fn print_left<T: Threads + Wait + Sync>(
 }
 
 /// Prints what is said of the text in a file.
-pub fn print_part(rt: &HostRuntime, containers: u32, file: &str, picked: Picked) -> Option<()> {
+pub(crate) fn print_part(
+    rt: &HostRuntime,
+    containers: u32,
+    file: &str,
+    picked: Picked,
+) -> Option<()> {
     let whole = fs::read_to_string(rt, file).ok()?;
     let mut text = String::new(rt.alloc());
     put_part(&mut text, rt.alloc(), containers, whole.as_str(), picked)?;

@@ -2,7 +2,7 @@ use crate::lines::put_line;
 
 /// What is done to a line of a text.
 #[derive(Clone, Copy)]
-pub enum Change {
+pub(crate) enum Change {
     Deleted,
     Doubled,
     /// It changes places with the next.
@@ -11,7 +11,7 @@ pub enum Change {
 
 /// What is done to a byte of a text.
 #[derive(Clone, Copy)]
-pub enum Turn {
+pub(crate) enum Turn {
     /// It becomes a line feed, or is one and becomes a space.
     Broken,
     /// Its lowest bit is turned.
@@ -37,7 +37,12 @@ fn source_of(change: Change, at: usize, place: usize) -> usize {
 }
 
 /// The text of these lines, of which the one at `at` is changed.
-pub fn change_line(out: &mut Vec<u8>, lines: &[&str], change: Change, at: usize) -> Option<()> {
+pub(crate) fn change_line(
+    out: &mut Vec<u8>,
+    lines: &[&str],
+    change: Change,
+    at: usize,
+) -> Option<()> {
     out.clear();
     for place in 0..lines.len() {
         let line = lines.get(source_of(change, at, place))?;
@@ -47,7 +52,7 @@ pub fn change_line(out: &mut Vec<u8>, lines: &[&str], change: Change, at: usize)
 }
 
 /// The number of the line at which the audit must stop, at the earliest, when the one at `at` is changed.
-pub fn line_of(change: Change, at: usize) -> usize {
+pub(crate) fn line_of(change: Change, at: usize) -> usize {
     match change {
         Change::Doubled => at.saturating_add(2),
         Change::Deleted | Change::Exchanged => at.saturating_add(1),
@@ -55,7 +60,7 @@ pub fn line_of(change: Change, at: usize) -> usize {
 }
 
 /// What becomes of a byte.
-pub fn turned(turn: Turn, byte: u8) -> u8 {
+pub(crate) fn turned(turn: Turn, byte: u8) -> u8 {
     match turn {
         Turn::Broken if byte == b'\n' => b' ',
         Turn::Broken => b'\n',

@@ -59,8 +59,8 @@ fn put_edited(out: &mut Vec<u8>, edits: &str, number: usize, line: &str) -> Opti
     out.extend_from_slice(end.as_bytes()).ok()
 }
 
-/// A text as edits change it: `put LINE TEXT`, `drop FROM TO`, `returns` for a carriage return before each line feed,
-/// and `unended` without the last line feed.
+/// A text as edits change it: `put LINE TEXT`, `drop FROM TO`, `returns` for a carriage return before
+/// each line feed, and `unended` without the last line feed.
 fn edited(alloc: Global, text: &str, edits: &str) -> Option<Vec<u8>> {
     let mut out = Vec::new(alloc);
     let mut number = 0usize;
@@ -75,7 +75,7 @@ fn edited(alloc: Global, text: &str, edits: &str) -> Option<Vec<u8>> {
 }
 
 /// What the audit says of the text of one caller, after these edits.
-pub fn tell_edited(alloc: Global, edits: &str) -> Option<String> {
+pub(crate) fn tell_edited(alloc: Global, edits: &str) -> Option<String> {
     let played = left_alone(alloc, CONTAINERS)?;
     let changed = edited(alloc, from_utf8(played.text.written()).ok()?, edits)?;
     let mut text = String::new(alloc);

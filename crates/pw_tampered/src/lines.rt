@@ -1,7 +1,7 @@
 use std::alloc::Global;
 
 /// The lines of a text, each with its line feed.
-pub fn lines_of<'a>(alloc: Global, text: &'a str) -> Option<Vec<&'a str>> {
+pub(crate) fn lines_of<'a>(alloc: Global, text: &'a str) -> Option<Vec<&'a str>> {
     let mut lines = Vec::new(alloc);
     for line in text.split_inclusive("\n") {
         lines.push(line).ok()?;
@@ -10,7 +10,7 @@ pub fn lines_of<'a>(alloc: Global, text: &'a str) -> Option<Vec<&'a str>> {
 }
 
 /// Appends a line so many times.
-pub fn put_line(out: &mut Vec<u8>, line: &str, times: u32) -> Option<()> {
+pub(crate) fn put_line(out: &mut Vec<u8>, line: &str, times: u32) -> Option<()> {
     for _time in 0..times {
         out.extend_from_slice(line.as_bytes()).ok()?;
     }

@@ -1,13 +1,13 @@
 /// Which lines or bytes of a text are changed: the one at this place, and of those behind it each of so many.
 #[derive(Clone, Copy)]
-pub struct Picked {
+pub(crate) struct Picked {
     first: usize,
     step: usize,
 }
 
 impl Picked {
     /// Of so many one, from the first on.
-    pub fn each(step: u32) -> Picked {
+    pub(crate) fn each(step: u32) -> Picked {
         Picked {
             first: 0,
             step: step as usize,
@@ -15,7 +15,7 @@ impl Picked {
     }
 
     /// Those that two words pick, of which the first is less than the second.
-    pub fn read(first: &str, step: &str) -> Option<Picked> {
+    pub(crate) fn read(first: &str, step: &str) -> Option<Picked> {
         let (first, step) = (first.parse::<u32>().ok()?, step.parse::<u32>().ok()?);
         if first < step {
             Some(Picked {
@@ -28,7 +28,7 @@ impl Picked {
     }
 
     /// Whether the one at this place is changed.
-    pub fn has(&self, at: usize) -> bool {
+    pub(crate) fn has(&self, at: usize) -> bool {
         match at.checked_sub(self.first) {
             None => false,
             Some(behind) => behind.checked_rem(self.step) == Some(0),

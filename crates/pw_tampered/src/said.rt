@@ -20,7 +20,12 @@ fn put_answer(text: &mut String, answer: &Result<Audit, AuditFault>) -> Option<(
 }
 
 /// Tells what the audit says of a text of the load for so many containers.
-pub fn put_said(text: &mut String, alloc: Global, containers: u32, history: &[u8]) -> Option<()> {
+pub(crate) fn put_said(
+    text: &mut String,
+    alloc: Global,
+    containers: u32,
+    history: &[u8],
+) -> Option<()> {
     let (plan, script) = machine_of(alloc, containers)?;
     let answer = audit(alloc, &plan, &script, history);
     put_answer(text, &answer)

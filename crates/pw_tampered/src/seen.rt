@@ -2,7 +2,7 @@ use pw_audit::{Audit, AuditFault};
 
 /// What the audit said of texts, by the line at which it must stop at the earliest.
 #[derive(Clone, Copy)]
-pub struct Seen {
+pub(crate) struct Seen {
     /// It stopped at that line.
     there: u64,
     /// It stopped at a later line.
@@ -16,7 +16,7 @@ pub struct Seen {
 }
 
 impl Seen {
-    pub fn none() -> Seen {
+    pub(crate) fn none() -> Seen {
         Seen {
             there: 0,
             later: 0,
@@ -27,12 +27,12 @@ impl Seen {
     }
 
     /// How many texts were accepted.
-    pub fn accepted(&self) -> u64 {
+    pub(crate) fn accepted(&self) -> u64 {
         self.whole
     }
 
     /// Counts an answer.
-    pub fn note(&mut self, answer: &Result<Audit, AuditFault>, line: usize) {
+    pub(crate) fn note(&mut self, answer: &Result<Audit, AuditFault>, line: usize) {
         let line = line as u64;
         let count = match answer {
             Ok(_) => &mut self.whole,
@@ -45,7 +45,7 @@ impl Seen {
     }
 
     /// Tells how often what was said, of texts that were changed so.
-    pub fn put(&self, text: &mut String, name: &str) -> Option<()> {
+    pub(crate) fn put(&self, text: &mut String, name: &str) -> Option<()> {
         let Seen {
             there,
             later,

@@ -117,13 +117,13 @@ fn registers(alloc: Global) -> Option<FailingRegisters> {
 }
 
 /// What one caller leaves of the load for so many containers.
-pub fn left_alone(alloc: Global, containers: u32) -> Option<Played> {
+pub(crate) fn left_alone(alloc: Global, containers: u32) -> Option<Played> {
     let (plan, script) = machine_of(alloc, containers)?;
     play_alone(alloc, plan, &script, registers(alloc)?)
 }
 
 /// What workers leave of it.
-pub fn left_by_workers<R: Threads + Wait + Sync>(
+pub(crate) fn left_by_workers<R: Threads + Wait + Sync>(
     rt: &R,
     alloc: Global,
     containers: u32,
@@ -154,7 +154,7 @@ fn tamper(
 }
 
 /// What is said of the text of one caller.
-pub fn put_alone(
+pub(crate) fn put_alone(
     text: &mut String,
     alloc: Global,
     containers: u32,
@@ -182,7 +182,7 @@ pub fn put_alone(
 }
 
 /// What is said of the text of workers.
-pub fn put_workers<R: Threads + Wait + Sync>(
+pub(crate) fn put_workers<R: Threads + Wait + Sync>(
     rt: &R,
     text: &mut String,
     alloc: Global,
@@ -210,7 +210,7 @@ pub fn put_workers<R: Threads + Wait + Sync>(
 }
 
 /// What is said of a text of the load, as it is and where the lines and bytes that are picked are changed.
-pub fn put_part(
+pub(crate) fn put_part(
     text: &mut String,
     alloc: Global,
     containers: u32,

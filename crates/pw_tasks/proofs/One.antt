@@ -12,12 +12,12 @@ use Rattle.pw_plan.specs.declared.plan.Plan.{Plan}
 use Rattle.acpi_build.proofs.Planned.{same_plan}
 use Rattle.pw_check.specs.CheckText.{check_text}
 use Rattle.pw_check.specs.Refusals.{refusal_line}
-use Rattle.pw_blocks.specs.Held.{name_at}
-use Rattle.pw_blocks.proofs.OneReading.{same_blocks, same_first_fault, blocks_not_fault}
+use Rattle.aml_block.specs.Held.{name_at}
+use Rattle.aml_block.proofs.OneReading.{same_blocks, same_first_fault, blocks_not_fault}
 use Rattle.pw_words.specs.declared.command.Task.{Task}
 use Rattle.pw_words.specs.declared.command.Task.TheVariants.{Show, ShowAsJson, Rewrite, Check}
-use Rattle.pw_ends.specs.Seen.{NoneFailed}
-use Rattle.pw_ends.proofs.Completeness.{IsOne}
+use Rattle.pw_load.specs.Seen.{NoneFailed}
+use Rattle.pw_load.proofs.Completeness.{IsOne}
 use Rattle.pw_load.specs.Lines.{blocks_line, twice_line}
 use Rattle.pw_load.specs.Steps.{IsGivenTwice, IsOneUnread, IsUnplanned}
 use Rattle.pw_tasks.specs.Tasks.{IsCheckText, IsTextOf, IsRefusalOf, IsTextOn, IsRefusalOn, work_on}

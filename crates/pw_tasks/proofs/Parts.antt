@@ -6,10 +6,10 @@ use Rattle.aml_block.specs.declared.block.Block.{Block}
 use Rattle.acpi_space.specs.Distinct.{IsDistinct}
 use Rattle.acpi_space.specs.Namespace.{Entry, entries_in, places_of}
 use Rattle.pw_show.specs.Show.{show_text}
-use Rattle.pw_json.specs.Json.{json_text}
+use Rattle.pw_show.specs.Json.{json_text}
 use Rattle.pw_words.specs.declared.command.Task.{Task}
 use Rattle.pw_words.specs.declared.command.Task.TheVariants.{Show, ShowAsJson, Check}
-use Rattle.pw_ends.proofs.Outcomes.{IsWithin}
+use Rattle.pw_load.proofs.Outcomes.{IsWithin}
 use Rattle.pw_load.specs.Steps.{AreHeldBy, IsGivenTwice, loading, placing, planning}
 use Rattle.pw_tasks.specs.Tasks.{IsRefusalOf, IsTextOf, checking, work_on, work_over}
 use Rattle.pw_tasks.specs.Tasks.IsRefusalOn.{unspelled, unusable}

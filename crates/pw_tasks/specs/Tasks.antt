@@ -10,11 +10,11 @@ use Rattle.acpi_build.specs.declared.note.Note.{Note}
 use Rattle.acpi_build.specs.Planning.{IsPlanFrom}
 use Rattle.pw_plan.specs.declared.plan.Plan.{Plan}
 use Rattle.pw_show.specs.Show.{show_text}
-use Rattle.pw_json.specs.Json.{json_text}
+use Rattle.pw_show.specs.Json.{json_text}
 use Rattle.pw_check.specs.CheckText.{check_text}
 use Rattle.pw_words.specs.declared.command.Task.{Task}
 use Rattle.pw_words.specs.declared.command.Task.TheVariants.{Show, ShowAsJson, Rewrite, Check}
-use Rattle.pw_ends.specs.Ends.{Work}
+use Rattle.pw_load.specs.Ends.{Work}
 use Rattle.pw_load.specs.Steps.{AreHeldBy, IsGivenTwice, IsNoPlanOf, IsOneUnread, IsUnplanned, IsUnspelled}
 
 -- # Over objects

@@ -2,14 +2,13 @@ ghost use Rattle.std.specs.Prelude.{All};
 ghost use Rattle.pw_base.specs.Outside.{KeepsSink};
 ghost use Rattle.aml_block.specs.Written.{IsWritableBlock};
 ghost use Rattle.pw_words.specs.declared.command.Task.TheVariants as tasks;
-ghost use Rattle.pw_ends.specs.Seen.{outputs_seen};
-ghost use Rattle.pw_ends.specs.Ends.{Did};
+ghost use Rattle.pw_load.specs.Seen.{outputs_seen};
+ghost use Rattle.pw_load.specs.Ends.{Did};
 ghost use Rattle.pw_tasks.specs.Tasks.{work_over};
 
-use aml_block::Block;
+use aml_block::{Block, encode_blocks};
 use pw_base::{Sink, put_all};
-use pw_blocks::encode_blocks;
-use pw_ends::{unwritten, without_memory};
+use pw_load::{unwritten, without_memory};
 use std::alloc::Global;
 
 /// Does `rewrite` over blocks: their shortest spelling, one after the other. All of them are spelled before

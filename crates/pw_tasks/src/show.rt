@@ -1,14 +1,13 @@
 ghost use Rattle.std.specs.Prelude.{◌≡◌, []};
 ghost use Rattle.pw_base.specs.Outside.{KeepsSink};
 ghost use Rattle.pw_words.specs.declared.command.Task.TheVariants as tasks;
-ghost use Rattle.pw_ends.specs.Seen.{outputs_seen};
-ghost use Rattle.pw_ends.specs.Ends.{Did};
+ghost use Rattle.pw_load.specs.Seen.{outputs_seen};
+ghost use Rattle.pw_load.specs.Ends.{Did};
 ghost use Rattle.pw_tasks.specs.Tasks.{work_over};
 
 use aml_block::Block;
 use pw_base::Sink;
-use pw_ends::printed;
-use pw_load::place;
+use pw_load::{place, printed};
 use pw_show::print_space;
 use pw_text::Page;
 use std::alloc::Global;

@@ -1,6 +1,6 @@
 ghost use Rattle.std.specs.Prelude.{◌≡◌, ◌<◌, ◌++◌, ◌∷◌, [], true, None, Some, MatchResult};
 ghost use Rattle.atomic_table.specs.Table.{rest};
-ghost use Rattle.pw_parts.specs.Records.{record_count};
+ghost use Rattle.pw_model.specs.Records.{record_count};
 ghost use Rattle.pw_model.specs.History.{replay};
 ghost use Rattle.pw_machine.specs.Steps.{Asks, HoldsAs, entered, find_journal_held, find_record_held, freed};
 ghost use Rattle.pw_machine.specs.Steps.{let_go, release_with_entry, release_without_entry, take_journal};
@@ -100,7 +100,8 @@ impl<R: Registers> Coordinator<R> {
             let promise = promise_of R.Registers self.now.table.shared.key in
             let last = record_count self.now.plan in
             MatchResult result
-            (λ journal. LedOut R.Registers promise given _request last (mine raw.old.me) journal (mine raw.new.me))
+            (λ journal. LedOut R.Registers promise given _request last (mine raw.old.me) journal
+            (mine raw.new.me))
             (λ holder. Met Q.gives_up _request (mine raw.old.me) last holder (mine raw.new.me)) }
         ensures own { MatchResult result
             (λ _. OneMore raw.old.me.0.own (take_journal _request) raw.new.me.0.own)
@@ -137,7 +138,8 @@ impl<R: Registers> Coordinator<R> {
             let promise = promise_of R.Registers self.now.table.shared.key in
             let last = record_count self.now.plan in
             MatchResult result
-            (λ journal. LedOut R.Registers promise given request last (mine raw.old.me) journal (mine raw.new.me))
+            (λ journal. LedOut R.Registers promise given request last (mine raw.old.me) journal
+            (mine raw.new.me))
             (λ holder. Met true request (mine raw.old.me) last holder (mine raw.new.me)) }
         ensures own { MatchResult result
             (λ _. OneMore raw.old.me.0.own (take_journal request) raw.new.me.0.own)

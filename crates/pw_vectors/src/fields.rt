@@ -7,7 +7,7 @@ use std::alloc::Global;
 const WHOLE: Place = Place { outer: 0, inner: 0 };
 
 /// The bytes of a register as they stand in a resource template, and written again where they are one.
-pub fn put_template(text: &mut String, bytes: &[u8]) -> Option<Option<[u8; 17]>> {
+pub(crate) fn put_template(text: &mut String, bytes: &[u8]) -> Option<Option<[u8; 17]>> {
     match Register::from_bytes(bytes) {
         Ok(register) => {
             put_register(text, &register)?;
@@ -21,7 +21,11 @@ pub fn put_template(text: &mut String, bytes: &[u8]) -> Option<Option<[u8; 17]>>
 }
 
 /// A register in a buffer, and the object that is written of it.
-pub fn put_register_at(text: &mut String, alloc: Global, object: &Data) -> Option<Option<Data>> {
+pub(crate) fn put_register_at(
+    text: &mut String,
+    alloc: Global,
+    object: &Data,
+) -> Option<Option<Data>> {
     match register_at(object, WHOLE) {
         Ok(register) => {
             put_register(text, &register)?;
@@ -35,7 +39,7 @@ pub fn put_register_at(text: &mut String, alloc: Global, object: &Data) -> Optio
 }
 
 /// An integer below 2^32.
-pub fn put_integer(text: &mut String, object: &Data, width: Width) -> Option<()> {
+pub(crate) fn put_integer(text: &mut String, object: &Data, width: Width) -> Option<()> {
     match integer_at(object, width, u64::from(u32::MAX), WHOLE) {
         Ok(number) => write!(text, "{number}").ok(),
         Err(shape) => put_refused(text, shape),
@@ -43,7 +47,7 @@ pub fn put_integer(text: &mut String, object: &Data, width: Width) -> Option<()>
 }
 
 /// How many elements a package has.
-pub fn put_elements(text: &mut String, object: &Data) -> Option<()> {
+pub(crate) fn put_elements(text: &mut String, object: &Data) -> Option<()> {
     match elements_at(object, WHOLE) {
         Ok(elements) => {
             let count = elements.len();
@@ -54,7 +58,7 @@ pub fn put_elements(text: &mut String, object: &Data) -> Option<()> {
 }
 
 /// The two fields of element 4.
-pub fn put_two_fields(text: &mut String, object: &Data) -> Option<()> {
+pub(crate) fn put_two_fields(text: &mut String, object: &Data) -> Option<()> {
     match fields_of(object, 4, 2) {
         Ok(_) => text.push_str("two").ok(),
         Err(shape) => put_refused(text, shape),

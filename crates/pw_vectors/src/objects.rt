@@ -11,7 +11,7 @@ const TEMPLATE: [u8; 17] = [
 
 /// What stands at a place of an object, an element and a field, both counted from 1; 0 and 0 are the whole.
 #[derive(Clone, Copy)]
-pub struct Change<'a> {
+pub(crate) struct Change<'a> {
     pub outer: usize,
     pub inner: usize,
     pub part: &'a str,
@@ -174,7 +174,7 @@ fn put_elements(
 }
 
 /// A good object, but for what is changed.
-pub fn object_of(alloc: Global, good: &str, changes: &[Change]) -> Option<Data> {
+pub(crate) fn object_of(alloc: Global, good: &str, changes: &[Change]) -> Option<Data> {
     let whole = changed(changes, 0, 0).unwrap_or("");
     let (key, count) = whole.split_once(":").unwrap_or((whole, ""));
     if key != "" && key != "variable" && key != "first" {

@@ -105,7 +105,7 @@ fn other_fault<'a>(
 }
 
 /// What comes of the lines of a table: `as it must be`, or the first that is read otherwise.
-pub fn table_came(alloc: Global, kind: &str, lines: &str) -> Option<String> {
+pub(crate) fn table_came(alloc: Global, kind: &str, lines: &str) -> Option<String> {
     let (good, lines) = lines.strip_prefix("good ")?.split_once("\n")?;
     let (places, faults) = lines.split_once("\nfaults\n")?;
     let mut text = String::new(alloc);

@@ -276,7 +276,7 @@ fn cpc(text: &mut String, alloc: Global, object: &Data, width: Width) -> Option<
 }
 
 /// Tells what an object of this kind is read as, and gives the object that is written of it.
-pub fn put_told(
+pub(crate) fn put_told(
     text: &mut String,
     alloc: Global,
     kind: &str,

@@ -1,7 +1,7 @@
 use acpi_values::{ReadFault, Register, Shape, Why};
 
 /// `refused 1.2 range`: the first place without a meaning, and why.
-pub fn put_refused(text: &mut String, shape: Shape) -> Option<()> {
+pub(crate) fn put_refused(text: &mut String, shape: Shape) -> Option<()> {
     let (outer, inner) = (shape.place.outer, shape.place.inner);
     let why = match shape.why {
         Why::Kind => "kind",
@@ -14,14 +14,14 @@ pub fn put_refused(text: &mut String, shape: Shape) -> Option<()> {
 }
 
 /// The same of a reader that takes memory.
-pub fn put_fault(text: &mut String, fault: ReadFault) -> Option<()> {
+pub(crate) fn put_fault(text: &mut String, fault: ReadFault) -> Option<()> {
     match fault {
         ReadFault::Shape { place, why } => put_refused(text, Shape { place, why }),
         ReadFault::Memory => None,
     }
 }
 
-pub fn put_register(text: &mut String, register: &Register) -> Option<()> {
+pub(crate) fn put_register(text: &mut String, register: &Register) -> Option<()> {
     let Register {
         space,
         width,
@@ -33,7 +33,7 @@ pub fn put_register(text: &mut String, register: &Register) -> Option<()> {
 }
 
 /// Puts what stands between one state and the next.
-pub fn separate(text: &mut String) -> Option<()> {
+pub(crate) fn separate(text: &mut String) -> Option<()> {
     if text.is_empty() {
         Some(())
     } else {

@@ -94,7 +94,7 @@ fn compared(alloc: Global, kind: &str, words: &str, wanted: &str, again: bool) -
 }
 
 /// What comes of a vector: `KIND/WIDTH BYTES = VALUE`, or `->` where the value is written otherwise.
-pub fn came(alloc: Global, vector: &str) -> Option<String> {
+pub(crate) fn came(alloc: Global, vector: &str) -> Option<String> {
     let (kind, rest) = vector.split_once(" ")?;
     match rest.split_once(" = ") {
         Some((words, wanted)) => compared(alloc, kind, words, wanted, true),

@@ -22,9 +22,9 @@ use Rattle.pw_model.specs.Refusals.{fixed_refusal}
 use Rattle.pw_model.proofs.Accepting.{idle_from}
 use Rattle.pw_core.specs.Chains.{states_in}
 use Rattle.pw_core.proofs.Climbing.{states_in-chain_of}
-use Rattle.pw_parts.specs.Effects.{enter_c}
-use Rattle.pw_walk.specs.Standing.{own_vote}
-use Rattle.pw_walk.specs.Walk.{begins_at, climb_on, grouped, over, scaled, vote_begins, vote_reply}
+use Rattle.pw_model.specs.Effects.{enter_c}
+use Rattle.pw_machine.specs.Standing.{own_vote}
+use Rattle.pw_machine.specs.Walk.{begins_at, climb_on, grouped, over, scaled, vote_begins, vote_reply}
 use Rattle.pw_walker.specs.declared.place.Place.TheVariants.{Scaled}
 use Rattle.pw_walker.specs.Places.{AreStatesUpTo, IsPlace}
 use Rattle.pw_walker.specs.inner.Going.{IsVote}

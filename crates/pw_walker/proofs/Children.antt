@@ -8,11 +8,11 @@ use Rattle.pw_plan.specs.declared.plan.Plan.{Plan}
 use Rattle.pw_plan.specs.Places.{IsChildPlace, children_at, parent_of, table_of}
 use Rattle.pw_model.specs.declared.state.Vote.{Vote}
 use Rattle.pw_model.specs.Containers.{node_vote}
-use Rattle.pw_parts.specs.Calls.{node_state, node_tolerance, with_vote}
-use Rattle.pw_parts.specs.Effects.{child_place, votes_in, votes_with}
-use Rattle.pw_parts.specs.Holding.{table_at}
-use Rattle.pw_parts.specs.Records.{Part, votes}
-use Rattle.pw_parts.proofs.Calls.{calls_serve}
+use Rattle.pw_model.specs.Calls.{node_state, node_tolerance, with_vote}
+use Rattle.pw_model.specs.Effects.{child_place, votes_in, votes_with}
+use Rattle.pw_model.specs.Holding.{table_at}
+use Rattle.pw_model.specs.Records.{Part, votes}
+use Rattle.pw_model.proofs.Calls.{calls_serve}
 use Rattle.pw_walker.proofs.Counts.{children_few}
 
 module _ (P : Plan) (c : Child) (n k m : ℕ) (number : m ≡ n) (parent : parent_of P c ≡ Some n) (place : IsChildPlace P c k) where

@@ -19,8 +19,8 @@ use Rattle.pw_model.specs.Refusals.{fixed_refusal}
 use Rattle.pw_core.specs.Chains.{AreStates, AreStatesOf, IsChain, states_in}
 use Rattle.pw_core.proofs.Climbing.{is_chain, line-Some, states_in-chain_of}
 use Rattle.pw_idle.proofs.Nodes.{vote_fits, vote_proper}
-use Rattle.pw_walk.specs.Standing.{MayVote}
-use Rattle.pw_walk.specs.Walk.{Walk, climb_on, climbed, risen}
+use Rattle.pw_machine.specs.Standing.{MayVote}
+use Rattle.pw_machine.specs.Walk.{Walk, climb_on, climbed, risen}
 use Rattle.pw_walker.specs.declared.place.Climb.{Climb}
 use Rattle.pw_walker.specs.Places.{AreStatesUpTo, IsClimb, ahead}
 use Rattle.pw_walker.specs.inner.Going.{HandsOn, past}

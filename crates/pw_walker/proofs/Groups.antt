@@ -11,15 +11,15 @@ use Rattle.pw_plan.specs.Groups.{no_group}
 use Rattle.pw_plan.specs.Places.{cpu_at, group_at, group_of}
 use Rattle.pw_plan.specs.Requests.{cpu_of, group_bound}
 use Rattle.pw_model.specs.Operations.{own_entry}
-use Rattle.pw_parts.specs.Calls.{group_c_state, group_ops, with_state}
-use Rattle.pw_parts.specs.Effects.{c_state_by, drawn_ops, enter_c, member_place, states_in, states_with}
-use Rattle.pw_parts.specs.Holding.{member_in}
-use Rattle.pw_parts.specs.Records.{Part}
-use Rattle.pw_parts.proofs.Calls.{calls_serve}
-use Rattle.pw_parts.proofs.Gathered.{group_member}
-use Rattle.pw_parts.proofs.Plans.{wired}
-use Rattle.pw_walk.specs.Standing.{own_vote}
-use Rattle.pw_walk.specs.Walk.{group_with, grouped, left, own_c_state}
+use Rattle.pw_model.specs.Calls.{group_c_state, group_ops, with_state}
+use Rattle.pw_model.specs.Effects.{c_state_by, drawn_ops, enter_c, member_place, states_in, states_with}
+use Rattle.pw_model.specs.Holding.{member_in}
+use Rattle.pw_model.specs.Records.{Part}
+use Rattle.pw_model.proofs.Calls.{calls_serve}
+use Rattle.pw_model.proofs.Gathered.{group_member}
+use Rattle.pw_model.proofs.Plans.{wired}
+use Rattle.pw_machine.specs.Standing.{own_vote}
+use Rattle.pw_machine.specs.Walk.{group_with, grouped, left, own_c_state}
 use Rattle.pw_walker.specs.inner.Going.{IsVote}
 
 module _ (P : Plan) (p : ℕ) (lt : group_of P p < length P.groups) where

@@ -12,12 +12,12 @@ use Rattle.pw_plan.specs.Groups.{is_idle, no_domain}
 use Rattle.pw_plan.specs.Parts.{count_of, scale_of}
 use Rattle.pw_plan.specs.Places.{cpu_at, domain_at, domain_of}
 use Rattle.pw_model.specs.States.{IsIndex, capped}
-use Rattle.pw_parts.specs.Calls.{level_ops, own_limit}
-use Rattle.pw_parts.specs.Effects.{ask_effect, level_effect, limit_effect, member_place, refused_above, with_ask, with_limit}
-use Rattle.pw_parts.specs.Holding.{member_in}
-use Rattle.pw_parts.specs.Records.{Part, domain, scaled_count}
-use Rattle.pw_parts.proofs.Calls.{calls_serve}
-use Rattle.pw_parts.proofs.Levels.{has_domain}
+use Rattle.pw_model.specs.Calls.{level_ops, own_limit}
+use Rattle.pw_model.specs.Effects.{ask_effect, level_effect, limit_effect, member_place, refused_above, with_ask, with_limit}
+use Rattle.pw_model.specs.Holding.{member_in}
+use Rattle.pw_model.specs.Records.{Part, domain, scaled_count}
+use Rattle.pw_model.proofs.Calls.{calls_serve}
+use Rattle.pw_model.proofs.Levels.{has_domain}
 
 -- a list of operations with more
 abbrev pub with_ops : Bounded Op → List Op → Bounded Op

@@ -9,13 +9,13 @@ use Rattle.pw_plan.specs.Parts.{scale_of}
 use Rattle.pw_plan.specs.Places.{cpu_at, domain_at, group_at}
 use Rattle.pw_model.specs.declared.state.Vote.{Vote}
 use Rattle.pw_model.specs.States.{capped, running}
-use Rattle.pw_parts.specs.Calls.{with_state, with_vote}
-use Rattle.pw_parts.specs.Effects.{ask_effect, child_place, level_effect, limit_effect, member_place, refused_above, votes_with, with_ask, with_limit}
-use Rattle.pw_parts.specs.Holding.{HoldsLevels, HoldsStates}
-use Rattle.pw_parts.specs.Records.{Part, domain, levels, states, votes}
+use Rattle.pw_model.specs.Calls.{with_state, with_vote}
+use Rattle.pw_model.specs.Effects.{ask_effect, child_place, level_effect, limit_effect, member_place, refused_above, votes_with, with_ask, with_limit}
+use Rattle.pw_model.specs.Holding.{HoldsLevels, HoldsStates}
+use Rattle.pw_model.specs.Records.{Part, domain, levels, states, votes}
 use Rattle.pw_domain.specs.declared.domain.DomainRec.{DomainRec}
 use Rattle.pw_domain.specs.declared.group.GroupRec.{GroupRec}
-use Rattle.pw_walk.specs.Walk.{first_left}
+use Rattle.pw_machine.specs.Walk.{first_left}
 use Rattle.pw_walker.specs.Records.{IsDomain, IsGroup}
 use Rattle.pw_walker.specs.Undoing.{FitsState, IsMemberIndex}
 

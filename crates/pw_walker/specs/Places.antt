@@ -10,8 +10,8 @@ use Rattle.pw_plan.specs.Requests.{Has}
 use Rattle.pw_plan.specs.Tree.{line_from}
 use Rattle.pw_model.specs.States.{IsProper}
 use Rattle.pw_core.specs.Chains.{AreStates, AreStatesOf, IsChain, states_in}
-use Rattle.pw_walk.specs.Walk.{Walk, climbing, grouped, over, scaled}
-use Rattle.pw_walk.specs.Standing.{Stands}
+use Rattle.pw_machine.specs.Walk.{Walk, climbing, grouped, over, scaled}
+use Rattle.pw_machine.specs.Standing.{Stands}
 use Rattle.pw_walker.specs.declared.place.Climb.{Climb}
 use Rattle.pw_walker.specs.declared.place.Place.{Place}
 use Rattle.pw_walker.specs.declared.place.Place.TheVariants.{Over, Scaled, Grouped, Climbing}

@@ -5,10 +5,10 @@ use Rattle.pw_plan.specs.declared.plan.Plan.{Plan}
 use Rattle.pw_plan.specs.Parts.{scale_of}
 use Rattle.pw_plan.specs.Places.{children_at, cpu_at, domain_at, group_at}
 use Rattle.pw_model.specs.States.{IsIndex, IsProper}
-use Rattle.pw_parts.specs.Calls.{with_state, with_vote}
-use Rattle.pw_parts.specs.Effects.{with_ask, with_limit}
-use Rattle.pw_parts.specs.Holding.{member_in, table_at}
-use Rattle.pw_parts.specs.Records.{Part}
+use Rattle.pw_model.specs.Calls.{with_state, with_vote}
+use Rattle.pw_model.specs.Effects.{with_ask, with_limit}
+use Rattle.pw_model.specs.Holding.{member_in, table_at}
+use Rattle.pw_model.specs.Records.{Part}
 use Rattle.pw_walker.specs.declared.place.OldLevel.{OldLevel}
 use Rattle.pw_walker.specs.declared.place.OldLevel.TheVariants.{Ask, Limit}
 use Rattle.pw_walker.specs.declared.place.OldState.{OldState}

@@ -3,9 +3,9 @@ ghost use Rattle.pw_plan.specs.Parts.{scale_of};
 ghost use Rattle.pw_plan.specs.Places.{cpu_at, domain_of};
 ghost use Rattle.pw_plan.specs.Requests.{Has, ops_bound};
 ghost use Rattle.pw_model.specs.Refusals.{fixed_refusal};
-ghost use Rattle.pw_ops.specs.Rooms.{HasRoom};
-ghost use Rattle.pw_walk.specs.Standing.{own_vote};
-ghost use Rattle.pw_walk.specs.Walk.{begins_at, start};
+ghost use Rattle.pw_regs.specs.Rooms.{HasRoom};
+ghost use Rattle.pw_machine.specs.Standing.{own_vote};
+ghost use Rattle.pw_machine.specs.Walk.{begins_at, start};
 ghost use Rattle.pw_walker.specs.Places.{IsPlace, walk_of};
 ghost use Rattle.pw_walker.specs.inner.Going.{Comes, IsReady, IsVote};
 

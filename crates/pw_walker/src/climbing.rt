@@ -4,12 +4,12 @@ ghost use Rattle.pw_plan.specs.Requests.{ops_bound};
 ghost use Rattle.pw_plan.specs.Tree.{line_from};
 ghost use Rattle.pw_model.specs.Refusals.{fixed_refusal};
 ghost use Rattle.pw_model.specs.States.{running};
-ghost use Rattle.pw_parts.specs.Effects.{child_place, votes_in};
+ghost use Rattle.pw_model.specs.Effects.{child_place, votes_in};
 ghost use Rattle.pw_core.specs.Chains.{IsChain, states_in};
 ghost use Rattle.pw_idle.specs.Nodes.{IsNodeOf, node_part};
-ghost use Rattle.pw_ops.specs.Rooms.{HasRoom};
-ghost use Rattle.pw_walk.specs.Standing.{MayVote};
-ghost use Rattle.pw_walk.specs.Walk.{climb_on, climbed, left, step};
+ghost use Rattle.pw_regs.specs.Rooms.{HasRoom};
+ghost use Rattle.pw_machine.specs.Standing.{MayVote};
+ghost use Rattle.pw_machine.specs.Walk.{climb_on, climbed, left, step};
 ghost use Rattle.pw_walker.specs.Places.{AreStatesUpTo, IsClimb, IsPlace, walk_of};
 ghost use Rattle.pw_walker.specs.Records.{IsNode};
 ghost use Rattle.pw_walker.specs.Undoing.{FitsVote, IsOldVote, vote_back};
@@ -63,7 +63,8 @@ pub fn climb_on(plan: &Plan, request: &Request, climb: Climb, ops: &mut Ops) -> 
     requires ready { IsReady plan.now request.now ops.old }
     requires hands { HandsOn plan.now request.now climb }
     ensures walk { walk_of result ops.new.elements
-        ≡ climb_on plan.now request.now climb.child climb.vote (states_in climb.chain) climb.rising (parent_of plan.now climb.child) }
+        ≡ climb_on plan.now request.now climb.child climb.vote (states_in climb.chain) climb.rising
+        (parent_of plan.now climb.child) }
     ensures comes { Comes plan.now request.now result ops.old ops.new }
 {
     match parent_of(plan, climb.child) {
@@ -88,7 +89,8 @@ fn go_past(
     requires climb { IsClimb plan.now request.now climb }
     requires room { length (states_in climb.chain) + length (line_from plan.now.containers (Some node)) ≤ 9 }
     requires voted { MayVote plan.now request.now (Child.Container node) turned.vote }
-    ensures walk { walk_of result ops.new.elements ≡ past plan.now request.now node climb turned.vote turned.runs }
+    ensures walk { walk_of result ops.new.elements
+        ≡ past plan.now request.now node climb turned.vote turned.runs }
     ensures comes { Comes plan.now request.now result ops.old ops.new }
 {
     let rising = rises(climb.rising, turned.vote.state);
@@ -142,10 +144,12 @@ pub fn step_node(
     requires of { IsNode plan.now node held.old }
     requires room { HasRoom ops.old (ops_bound plan.now request.now) }
     ensures walk { walk_of result.0 ops.new.elements
-        ≡ step plan.now request.now (walk_of (Place.Climbing node climb) ops.old.elements) (node_part held.old) }
+        ≡ step plan.now request.now (walk_of (Place.Climbing node climb) ops.old.elements)
+        (node_part held.old) }
     ensures place { IsPlace plan.now request.now result.0 ops.new.elements }
     ensures part { node_part held.new
-        ≡ left plan.now request.now (walk_of (Place.Climbing node climb) ops.old.elements) (node_part held.old) }
+        ≡ left plan.now request.now (walk_of (Place.Climbing node climb) ops.old.elements)
+        (node_part held.old) }
     ensures of { IsNode plan.now node held.new }
     ensures old { IsOldVote plan.now node result.1 (node_part held.old) (node_part held.new) }
     ensures capacity { ops.new.capacity ≡ ops.old.capacity }

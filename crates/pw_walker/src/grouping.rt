@@ -2,10 +2,10 @@ ghost use Rattle.std.specs.Prelude.{◌≡◌, ◌<◌, ◌++◌, None, length};
 ghost use Rattle.pw_plan.specs.Places.{group_at, group_of};
 ghost use Rattle.pw_plan.specs.Requests.{cpu_of, ops_bound};
 ghost use Rattle.pw_model.specs.Refusals.{fixed_refusal};
-ghost use Rattle.pw_parts.specs.Effects.{member_place};
+ghost use Rattle.pw_model.specs.Effects.{member_place};
 ghost use Rattle.pw_domain.specs.Groups.{IsGroupOf, group_part};
-ghost use Rattle.pw_ops.specs.Rooms.{HasRoom};
-ghost use Rattle.pw_walk.specs.Walk.{grouped, grouped_effect, left, step};
+ghost use Rattle.pw_regs.specs.Rooms.{HasRoom};
+ghost use Rattle.pw_machine.specs.Walk.{grouped, grouped_effect, left, step};
 ghost use Rattle.pw_walker.specs.Places.{IsPlace, walk_of};
 ghost use Rattle.pw_walker.specs.Records.{IsGroup};
 ghost use Rattle.pw_walker.specs.Undoing.{FitsState, IsOldState, state_back};
@@ -74,10 +74,12 @@ pub fn step_group(
     requires of { IsGroupOf plan.now held.old }
     requires room { HasRoom ops.old (ops_bound plan.now request.now) }
     ensures walk { walk_of result.0 ops.new.elements
-        ≡ step plan.now request.now (walk_of (Place.Grouped held.old.group) ops.old.elements) (group_part held.old) }
+        ≡ step plan.now request.now (walk_of (Place.Grouped held.old.group) ops.old.elements)
+        (group_part held.old) }
     ensures place { IsPlace plan.now request.now result.0 ops.new.elements }
     ensures part { group_part held.new
-        ≡ left plan.now request.now (walk_of (Place.Grouped held.old.group) ops.old.elements) (group_part held.old) }
+        ≡ left plan.now request.now (walk_of (Place.Grouped held.old.group) ops.old.elements)
+        (group_part held.old) }
     ensures of { IsGroup plan.now held.old.group held.new }
     ensures old { IsOldState plan.now held.old.group result.1 (group_part held.old) (group_part held.new) }
     ensures capacity { ops.new.capacity ≡ ops.old.capacity }

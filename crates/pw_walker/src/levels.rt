@@ -4,10 +4,10 @@ ghost use Rattle.pw_plan.specs.Index.{member_place};
 ghost use Rattle.pw_plan.specs.Parts.{count_of, scale_of};
 ghost use Rattle.pw_plan.specs.Places.{cpu_at, domain_at, domain_of};
 ghost use Rattle.pw_plan.specs.Requests.{domain_bound};
-ghost use Rattle.pw_parts.specs.Effects.{ask_effect, limit_effect};
-ghost use Rattle.pw_parts.specs.Records.{domain as scaled};
+ghost use Rattle.pw_model.specs.Effects.{ask_effect, limit_effect};
+ghost use Rattle.pw_model.specs.Records.{domain as scaled};
 ghost use Rattle.pw_domain.specs.Domains.{domain_part};
-ghost use Rattle.pw_ops.specs.Rooms.{HasRoom};
+ghost use Rattle.pw_regs.specs.Rooms.{HasRoom};
 ghost use Rattle.pw_walker.specs.Records.{IsDomain};
 
 use pw_core::{Ops, capped};

@@ -3,10 +3,10 @@ ghost use Rattle.pw_plan.specs.Parts.{count_of, scale_of};
 ghost use Rattle.pw_plan.specs.Places.{cpu_at, domain_at, domain_of};
 ghost use Rattle.pw_plan.specs.Requests.{domain_bound, ops_bound};
 ghost use Rattle.pw_plan.specs.Index.{member_place};
-ghost use Rattle.pw_parts.specs.Effects.{ask_effect, limit_effect};
+ghost use Rattle.pw_model.specs.Effects.{ask_effect, limit_effect};
 ghost use Rattle.pw_domain.specs.Domains.{IsDomainOf, domain_part};
-ghost use Rattle.pw_ops.specs.Rooms.{HasRoom};
-ghost use Rattle.pw_walk.specs.Walk.{first_left, left, scaled, scaled_effect, step};
+ghost use Rattle.pw_regs.specs.Rooms.{HasRoom};
+ghost use Rattle.pw_machine.specs.Walk.{first_left, left, scaled, scaled_effect, step};
 ghost use Rattle.pw_walker.specs.Places.{IsPlace, walk_of};
 ghost use Rattle.pw_walker.specs.Records.{IsDomain};
 ghost use Rattle.pw_walker.specs.Undoing.{FitsLevel, IsOldLevel, level_back};
@@ -48,12 +48,15 @@ fn ask(
     ensures reply { let d = domain_of plan.now kind cpu in
         result.0 ≡ (ask_effect plan.now kind cpu index d (domain_part held.old)).reply }
     ensures part { let d = domain_of plan.now kind cpu in
-        domain_part held.new ≡ first_left (domain_part held.old) (ask_effect plan.now kind cpu index d (domain_part held.old)).takes }
+        domain_part held.new
+        ≡ first_left (domain_part held.old)
+        (ask_effect plan.now kind cpu index d (domain_part held.old)).takes }
     ensures list { let d = domain_of plan.now kind cpu in
         ops.new ≡ record ops.old {
           elements = ops.old.elements ++ (ask_effect plan.now kind cpu index d (domain_part held.old)).ops;
         } }
-    ensures old { IsOldLevel plan.now (domain_of plan.now kind cpu) result.1 (domain_part held.old) (domain_part held.new) }
+    ensures old { IsOldLevel plan.now (domain_of plan.now kind cpu) result.1 (domain_part held.old)
+        (domain_part held.new) }
 {
     let member = member_of(plan, kind, cpu);
     let old = OldLevel::Ask {
@@ -81,12 +84,15 @@ fn limit(
     ensures reply { let d = domain_of plan.now kind cpu in
         result.0 ≡ (limit_effect plan.now kind cpu n d (domain_part held.old)).reply }
     ensures part { let d = domain_of plan.now kind cpu in
-        domain_part held.new ≡ first_left (domain_part held.old) (limit_effect plan.now kind cpu n d (domain_part held.old)).takes }
+        domain_part held.new
+        ≡ first_left (domain_part held.old)
+        (limit_effect plan.now kind cpu n d (domain_part held.old)).takes }
     ensures list { let d = domain_of plan.now kind cpu in
         ops.new ≡ record ops.old {
           elements = ops.old.elements ++ (limit_effect plan.now kind cpu n d (domain_part held.old)).ops;
         } }
-    ensures old { IsOldLevel plan.now (domain_of plan.now kind cpu) result.1 (domain_part held.old) (domain_part held.new) }
+    ensures old { IsOldLevel plan.now (domain_of plan.now kind cpu) result.1 (domain_part held.old)
+        (domain_part held.new) }
 {
     let member = member_of(plan, kind, cpu);
     let old = OldLevel::Limit {
@@ -103,10 +109,13 @@ fn level(plan: &Plan, request: &Request, held: &mut DomainRec, ops: &mut Ops) ->
     requires of { IsDomainOf plan.now held.old }
     requires room { HasRoom ops.old (ops_bound plan.now request.now) }
     ensures of { IsDomain plan.now held.old.domain held.new }
-    ensures reply { result.0 ≡ (scaled_effect plan.now request.now held.old.domain (domain_part held.old)).reply }
-    ensures part { domain_part held.new ≡ left plan.now request.now (scaled held.old.domain) (domain_part held.old) }
+    ensures reply { result.0
+        ≡ (scaled_effect plan.now request.now held.old.domain (domain_part held.old)).reply }
+    ensures part { domain_part held.new
+        ≡ left plan.now request.now (scaled held.old.domain) (domain_part held.old) }
     ensures list { ops.new ≡ record ops.old {
-      elements = ops.old.elements ++ (scaled_effect plan.now request.now held.old.domain (domain_part held.old)).ops;
+      elements = ops.old.elements
+          ++ (scaled_effect plan.now request.now held.old.domain (domain_part held.old)).ops;
     } }
     ensures old { IsOldLevel plan.now held.old.domain result.1 (domain_part held.old) (domain_part held.new) }
 {
@@ -133,10 +142,12 @@ pub fn step_domain(
     requires of { IsDomainOf plan.now held.old }
     requires room { HasRoom ops.old (ops_bound plan.now request.now) }
     ensures walk { walk_of result.0 ops.new.elements
-        ≡ step plan.now request.now (walk_of (Place.Scaled held.old.domain) ops.old.elements) (domain_part held.old) }
+        ≡ step plan.now request.now (walk_of (Place.Scaled held.old.domain) ops.old.elements)
+        (domain_part held.old) }
     ensures place { IsPlace plan.now request.now result.0 ops.new.elements }
     ensures part { domain_part held.new
-        ≡ left plan.now request.now (walk_of (Place.Scaled held.old.domain) ops.old.elements) (domain_part held.old) }
+        ≡ left plan.now request.now (walk_of (Place.Scaled held.old.domain) ops.old.elements)
+        (domain_part held.old) }
     ensures of { IsDomain plan.now held.old.domain held.new }
     ensures old { IsOldLevel plan.now held.old.domain result.1 (domain_part held.old) (domain_part held.new) }
     ensures capacity { ops.new.capacity ≡ ops.old.capacity }

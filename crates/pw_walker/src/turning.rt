@@ -5,8 +5,8 @@ ghost use Rattle.pw_plan.specs.Places.{IsIn, parent_of, table_of};
 ghost use Rattle.pw_model.specs.Containers.{node_vote};
 ghost use Rattle.pw_model.specs.States.{IsProper};
 ghost use Rattle.pw_model.specs.Answers.{chain_of};
-ghost use Rattle.pw_parts.specs.Effects.{both_run, votes_in, votes_with};
-ghost use Rattle.pw_parts.specs.Records.{votes};
+ghost use Rattle.pw_model.specs.Effects.{both_run, votes_in, votes_with};
+ghost use Rattle.pw_model.specs.Records.{votes};
 ghost use Rattle.pw_core.specs.Chains.{IsChain, states_in};
 ghost use Rattle.pw_idle.specs.Nodes.{node_part};
 ghost use Rattle.pw_walker.specs.Records.{IsNode};
@@ -55,9 +55,12 @@ pub fn turn(held: &mut NodeRec, plan: &Plan, node: u32, child: Child, vote: Vote
     requires state { vote.state ≤ length (rows_of (table_of plan.now child)) }
     requires proper { IsProper vote }
     ensures of { IsNode plan.now node held.new }
-    ensures part { node_part held.new ≡ votes (votes_with plan.now node child vote (votes_in (node_part held.old))) }
-    ensures vote { result.vote ≡ node_vote plan.now node (votes_with plan.now node child vote (votes_in (node_part held.old))) }
-    ensures runs { result.runs ≡ both_run (node_vote plan.now node (votes_in (node_part held.old))) result.vote }
+    ensures part { node_part held.new
+        ≡ votes (votes_with plan.now node child vote (votes_in (node_part held.old))) }
+    ensures vote { result.vote
+        ≡ node_vote plan.now node (votes_with plan.now node child vote (votes_in (node_part held.old))) }
+    ensures runs { result.runs
+        ≡ both_run (node_vote plan.now node (votes_in (node_part held.old))) result.vote }
 {
     let Some(place) = plan.place_of(child) else {
         unreachable!()

@@ -1,8 +1,8 @@
 ghost use Rattle.std.specs.Prelude.{◌≡◌, List};
 ghost use Rattle.acpi_values.specs.declared.operation.Op.{Op as operation};
 ghost use Rattle.pw_plan.specs.Orderly.{is_scaled};
-ghost use Rattle.pw_parts.specs.Records.{record_count, scaled_count};
-ghost use Rattle.pw_walk.specs.Walk.{next_turn};
+ghost use Rattle.pw_model.specs.Records.{record_count, scaled_count};
+ghost use Rattle.pw_machine.specs.Walk.{next_turn};
 ghost use Rattle.pw_walker.specs.Places.{IsSomePlace, walk_of};
 
 use crate::place::Place;

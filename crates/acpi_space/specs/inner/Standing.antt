@@ -43,7 +43,8 @@ StandsIn b steps = Stands b.tree b.placed.items b.index.items steps
 -- what was done to what stood after any steps is a turn, or the fault of the turn
 abbrev pub Does : {A : Type 0} → Building → Result A SpaceFault → Building → (List Step → List Step) → Type 0
 Does old result new turn =
-    (before : List Step) → StandsIn old before → MatchResult result (λ _. StandsIn new (before ++ turn before)) (λ f. IsFaultOf f (before ++ turn before))
+    (before : List Step) → StandsIn old before → MatchResult result (λ _. StandsIn new (before ++ turn before))
+    (λ f. IsFaultOf f (before ++ turn before))
 
 -- this object stands at this place of the list from now on, and all others where they stood
 pub record IsNoted (old new : List (Option ℕ)) (place number : ℕ) : Type 0 where

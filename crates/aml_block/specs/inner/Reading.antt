@@ -3,8 +3,8 @@ use Rattle.std.specs.Prelude.{ℕ, ◌%◌, ◌==◌, List, length, drop, slice_
 use Rattle.std.specs.Str.{bytes_eq}
 use Rattle.pw_base.specs.Answers as answers
 use Rattle.pw_base.specs.Answers.{◌>>=◌}
-use Rattle.aml_terms.specs.declared.fault.TermFault.{TermFault}
-use Rattle.aml_terms.specs.inner.Reading.{terms_at}
+use Rattle.aml_block.specs.declared.term_fault.TermFault.{TermFault}
+use Rattle.aml_block.specs.inner.TermReading.{terms_at}
 use Rattle.aml_block.specs.declared.block.Signature.{Signature}
 use Rattle.aml_block.specs.declared.block.Signature.TheVariants.{Dsdt, Ssdt}
 use Rattle.aml_block.specs.declared.block.Header.{Header}

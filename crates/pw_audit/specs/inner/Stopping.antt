@@ -12,7 +12,7 @@ use Rattle.pw_text.specs.Lines.{text_of, with_feed}
 use Rattle.pw_script.specs.HistoryText.{fault_words, op_line, reply_words}
 use Rattle.pw_script.specs.Lawful.{Begins}
 use Rattle.pw_script.specs.inner.Openings.{opened, opening_line}
-use Rattle.pw_texts.specs.Wholes.{entry_line, pieces_of}
+use Rattle.pw_script.specs.Wholes.{entry_line, pieces_of}
 use Rattle.pw_audit.specs.declared.answer.AuditFault.{AuditFault}
 use Rattle.pw_audit.specs.declared.answer.AuditFault.TheVariants.{TooLong, Wrong, Unfinished, Memory}
 use Rattle.pw_audit.specs.Audited.{IsUnfinished, IsWrong}

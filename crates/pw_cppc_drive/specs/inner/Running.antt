@@ -2,14 +2,14 @@
 use Rattle.std.specs.Prelude.{◌≡◌, ◌++◌, ◌∷◌, [], ℕ, List}
 use Rattle.std.specs.List.{AllByRecursion, sum_by}
 use Rattle.pw_regs.specs.Seen.{RegistersSeen}
-use Rattle.pw_doing.specs.Doing.{Did}
+use Rattle.pw_regs.specs.Doing.{Did}
 use Rattle.pw_cppc.specs.declared.plan.CppcPlan.{CppcPlan}
 use Rattle.pw_cppc.specs.declared.request.CppcRequest.{CppcRequest}
 use Rattle.pw_cppc.specs.Requests.{ops_bound}
-use Rattle.pw_cppc_state.specs.declared.entry.CppcEntry.{CppcEntry}
-use Rattle.pw_cppc_state.specs.History.{IsSerialRunOf, Legal, entry_ops, fault_at, history_ops, replay, request_of}
-use Rattle.pw_cppc_script.specs.declared.script.CppcLine.{CppcLine as line}
-use Rattle.pw_cppc_script.specs.Reading.{requests_of}
+use Rattle.pw_cppc.specs.declared.entry.CppcEntry.{CppcEntry}
+use Rattle.pw_cppc.specs.History.{IsSerialRunOf, Legal, entry_ops, fault_at, history_ops, replay, request_of}
+use Rattle.pw_cppc_drive.specs.declared.script.CppcLine.{CppcLine as line}
+use Rattle.pw_cppc_drive.specs.Reading.{requests_of}
 
 -- A request was made: its entry follows, and its operations were done.
 pub record Turned (P : CppcPlan) (q : CppcRequest) (es fs : List CppcEntry) (old new : RegistersSeen) : Type 0 where

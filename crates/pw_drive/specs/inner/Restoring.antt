@@ -13,10 +13,10 @@ use Rattle.pw_plan.specs.declared.request.Request.TheVariants.{Idle, Wake, Perf,
 use Rattle.pw_plan.specs.Parts.{scale_of}
 use Rattle.pw_plan.specs.Places.{cpu_at, domain_at, domain_of, group_at, group_of}
 use Rattle.pw_model.specs.States.{IsIndex, IsProper, running}
-use Rattle.pw_parts.specs.Calls.{own_ask, own_limit, own_vote, with_state}
-use Rattle.pw_parts.specs.Effects.{Taken, child_place, member_place, rung_taken, rungs, votes_in, with_ask, with_limit}
-use Rattle.pw_parts.specs.Holding.{member_in}
-use Rattle.pw_parts.specs.Records.{Part, Record, container, domain, group, scaled_count}
+use Rattle.pw_model.specs.Calls.{own_ask, own_limit, own_vote, with_state}
+use Rattle.pw_model.specs.Effects.{Taken, child_place, member_place, rung_taken, rungs, votes_in, with_ask, with_limit}
+use Rattle.pw_model.specs.Holding.{member_in}
+use Rattle.pw_model.specs.Records.{Part, Record, container, domain, group, scaled_count}
 use Rattle.pw_drive.specs.declared.restoring.Old.{Old}
 use Rattle.pw_drive.specs.declared.restoring.Old.TheVariants as olds
 

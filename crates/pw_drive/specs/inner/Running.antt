@@ -8,13 +8,13 @@ use Rattle.pw_plan.specs.Requests.{ops_bound}
 use Rattle.pw_model.specs.declared.entry.HistoryEntry.{HistoryEntry}
 use Rattle.pw_model.specs.History.{Faultless, Legal, entry_ops, fault_at, history_ops, replay, request_of}
 use Rattle.pw_model.specs.Operations.{opening_ops}
-use Rattle.pw_parts.specs.Locality.{AllTold}
+use Rattle.pw_model.specs.Locality.{AllTold}
 use Rattle.pw_regs.specs.Seen.{RegistersSeen}
 use Rattle.pw_script.specs.declared.script.Line.{Line as line}
 use Rattle.pw_script.specs.Lawful.{IsSerialRunOf}
 use Rattle.pw_script.specs.Reading.{requests_of}
 use Rattle.pw_drive.specs.declared.records.Records.{Records}
-use Rattle.pw_doing.specs.Doing.{Did}
+use Rattle.pw_regs.specs.Doing.{Did}
 use Rattle.pw_drive.specs.Keeping.{AreRecordsOf, part_in}
 
 -- the operations at the start: of those that a fault ended the ones before it

@@ -13,8 +13,8 @@ use Rattle.pw_regs.specs.Seen.{RegistersSeen}
 use Rattle.pw_script.specs.declared.script.Line.{Line as line}
 use Rattle.pw_script.specs.declared.script.ScriptFault.{ScriptFault}
 use Rattle.pw_script.specs.declared.script.ScriptFault.TheVariants.{Memory}
-use Rattle.pw_ends.specs.Seen.{Outputs}
-use Rattle.pw_ends.specs.Ends.{Work}
+use Rattle.pw_load.specs.Seen.{Outputs}
+use Rattle.pw_load.specs.Ends.{Work}
 use Rattle.pw_load.specs.Steps.{AreHeldBy, IsNoPlanOf, IsOneUnread, IsUnspelled}
 use Rattle.pw_runs.specs.declared.script.Missing.{Missing}
 use Rattle.pw_runs.specs.declared.script.Missing.TheVariants.{Unread, Fault}

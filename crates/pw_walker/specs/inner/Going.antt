@@ -12,9 +12,9 @@ use Rattle.pw_plan.specs.Tree.{line_from}
 use Rattle.pw_model.specs.declared.state.Vote.{Vote}
 use Rattle.pw_model.specs.Refusals.{fixed_refusal}
 use Rattle.pw_core.specs.Chains.{states_in}
-use Rattle.pw_ops.specs.Rooms.{HasRoom}
-use Rattle.pw_walk.specs.Standing.{MayVote}
-use Rattle.pw_walk.specs.Walk.{Walk, climb_on, climbed, risen}
+use Rattle.pw_regs.specs.Rooms.{HasRoom}
+use Rattle.pw_machine.specs.Standing.{MayVote}
+use Rattle.pw_machine.specs.Walk.{Walk, climb_on, climbed, risen}
 use Rattle.pw_walker.specs.declared.place.Climb.{Climb}
 use Rattle.pw_walker.specs.declared.place.Place.{Place}
 use Rattle.pw_walker.specs.Places.{IsClimb, IsPlace}

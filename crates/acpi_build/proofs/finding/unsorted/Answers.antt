@@ -11,7 +11,8 @@ loop-number-preserved c =
     let here : n < length c.args.space.now = omega (arith, c.loop-number-test.true, c.count-number-end.ensures) in
     elim c.if-is_container_device.branch [
       | then-is_container_device+in_ok-push w ↦ record {
-        order = ap (λ v. v.items) w.found-is ∙ w.in_ok-push.ensures.items ∙ ap (λ xs. xs ++ n ∷ []) c.loop-number.invariant.order ∙ sym (filter_yes p n (sym w.if-is_container_device.true ∙ c.is_container_device.ensures));
+        order = ap (λ v. v.items) w.found-is ∙ w.in_ok-push.ensures.items ∙ ap (λ xs. xs ++ n ∷ []) c.loop-number.invariant.order
+            ∙ sym (filter_yes p n (sym w.if-is_container_device.true ∙ c.is_container_device.ensures));
         within = rw (w.found-is, w.in_ok-push.ensures.items) (all_push (λ k. k < length c.args.space.now) c.loop-number.found.items n c.loop-number.invariant.within here);
       }
       | else-is_container_device w ↦ record {

@@ -21,5 +21,6 @@ loop-index-preserved c =
       value = rw c.in_ok-push.ensures.items (step ∙ before.invariant.value);
       count = ap length c.in_ok-push.ensures.items ∙ length_push front y ∙ ap (λ n. n + 1) before.invariant.count;
       parents = rw c.in_ok-push.ensures.items (index_push (λ n c'. c'.parent ≡ parent_of space (slice_index order n)) front y no_container before.invariant.parents
-          (c.in_ok-container.ensures.parent ∙ c.requires.parents.each (get_or order i 0) (c.requires.within i 0 c.loop-index-test.true) ∙ ap (λ n. parent_of space (slice_index order n)) (sym before.invariant.count)));
+          (c.in_ok-container.ensures.parent ∙ c.requires.parents.each (get_or order i 0) (c.requires.within i 0 c.loop-index-test.true) ∙ ap
+          (λ n. parent_of space (slice_index order n)) (sym before.invariant.count)));
     }

@@ -23,7 +23,8 @@ loop-index-preserved c =
       value = rw c.in_ok-push.ensures.items (step ∙ before.invariant.value);
       count = ap length c.in_ok-push.ensures.items ∙ length_push front y ∙ ap (λ n. n + 1) before.invariant.count;
       parents = rw c.in_ok-push.ensures.items (index_push (λ n c'. c'.parent ≡ parent_of space (slice_index order n)) front y no_cpu before.invariant.parents
-          (c.in_ok-cpu.ensures.parent ∙ c.requires.parents.each (get_or order i 0) (c.requires.within i 0 c.loop-index-test.true) ∙ ap (λ n. parent_of space (slice_index order n)) (sym before.invariant.count)));
+          (c.in_ok-cpu.ensures.parent ∙ c.requires.parents.each (get_or order i 0) (c.requires.within i 0 c.loop-index-test.true) ∙ ap
+          (λ n. parent_of space (slice_index order n)) (sym before.invariant.count)));
       paths = rw c.in_ok-push.ensures.items (index_push (λ n c'. c'.path ≡ record { segs = path_in space (slice_index order n) }) front y no_cpu before.invariant.paths
           (c.in_ok-cpu.ensures.path ∙ ap (λ n. record { segs = path_in space (slice_index order n) }) (sym before.invariant.count)));
       fit = rw c.in_ok-push.ensures.items (index_push (λ n c'. FitsAlone c') front y no_cpu before.invariant.fit c.in_ok-cpu.ensures.fit);

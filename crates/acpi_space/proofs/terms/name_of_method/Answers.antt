@@ -16,7 +16,8 @@ pub returns-else-is_empty : goal.returns-else-is_empty
 returns-else-is_empty c =
     read_there c.args.body.now c.steps_up-ups.result.1.now c.steps_up-ups.result.0 _ (c.in-Ok.path, c.in-Ok.field-0-1.now)
     (bytes_behind c.args.body.now c.steps_up-ups.result.1.now c.steps_up-ups.result.0 (λ i. omega (arith, c.type_inv.body i)) c.steps_up-ups.ensures.parts)
-    c.steps_up-ups.ensures.parts c.steps_up-ups.ensures.end (c.is_root_behind.ensures.no c.if-is_root_behind.false) (rw c.front_of-front.ensures.value at c.in-Ok.ensures.value) (some_is c.in-Ok.path.segs c.is_empty.result (c.is_empty.ensures ∙ ap (λ l. length l == 0) c.as_slice.ensures) c.if-is_empty.false)
+    c.steps_up-ups.ensures.parts c.steps_up-ups.ensures.end (c.is_root_behind.ensures.no c.if-is_root_behind.false) (rw c.front_of-front.ensures.value at c.in-Ok.ensures.value)
+    (some_is c.in-Ok.path.segs c.is_empty.result (c.is_empty.ensures ∙ ap (λ l. length l == 0) c.as_slice.ensures) c.if-is_empty.false)
 
 pub returns-in_ok-unless_memory-in-Err : goal.returns-in_ok-unless_memory-in-Err
 returns-in_ok-unless_memory-in-Err c path =

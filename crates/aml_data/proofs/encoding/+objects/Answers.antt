@@ -112,7 +112,8 @@ fill_package-returns t c =
     let count = c.fill-content.ensures.reach in
     rw (written-Package c.args.count c.args.elements.now)
     (Fills-sized c.args.room.now c.fill_elements-body.new.room c.fill-content.new.room c.fill_head.new.room c.fill_head.result c.fill-content.result c.fill_elements-body.result c.args.end 18
-    (c.args.end - c.fill-content.result) (c.args.count ∷ []) elements (omega (arith, length-append (c.args.count ∷ []) elements)) c.fill_elements-body.ensures c.fill-content.ensures c.fill_head.ensures)
+    (c.args.end - c.fill-content.result) (c.args.count ∷ []) elements (omega (arith, length-append (c.args.count ∷ []) elements)) c.fill_elements-body.ensures c.fill-content.ensures
+    c.fill_head.ensures)
 
 pub fill_var_package-fill_elements-body-requires : goal.fill_var_package-fill_elements-body-requires
 fill_var_package-fill_elements-body-requires t c =

@@ -16,7 +16,8 @@ is_within-returns-in-Text t c = rw (c.in-Text.is, within-Text c.args.depth c.in-
 
 pub is_within-returns-in-Buffer : goal.is_within-returns-in-Buffer
 is_within-returns-in-Buffer t c =
-    rw (c.in-Buffer.is, within-Buffer c.args.depth c.in-Buffer.buffer.size c.in-Buffer.buffer.bytes, ← c.get.ensures) (λ _. c.is_number-in-Buffer.ensures.bound, λ _. c.is_number-in-Buffer.ensures.value)
+    rw (c.in-Buffer.is, within-Buffer c.args.depth c.in-Buffer.buffer.size c.in-Buffer.buffer.bytes, ← c.get.ensures)
+    (λ _. c.is_number-in-Buffer.ensures.bound, λ _. c.is_number-in-Buffer.ensures.value)
 
 pub is_within-returns-in-Package : goal.is_within-returns-in-Package
 is_within-returns-in-Package t c =

@@ -7,7 +7,7 @@ use Rattle.pw_model.specs.declared.entry.HistoryEntry.{HistoryEntry}
 use Rattle.pw_model.specs.Operations.{ops_of}
 use Rattle.pw_text.specs.Lines.{text_of}
 use Rattle.pw_script.specs.HistoryText.{entry_lines, op_line}
-use Rattle.pw_texts.specs.Wholes.{entry_line}
+use Rattle.pw_script.specs.Wholes.{entry_line}
 use Rattle.pw_audit.specs.inner.Stopping.{MayCome, entry_with}
 use Rattle.pw_audit.proofs.Entries.{counted, done_of, line_read, lines_count, lines_read, may_come, no_end, no_head, stops_behind}
 use Rattle.pw_audit.proofs.entry.read_entry.Goals as goal

@@ -58,6 +58,8 @@ measures_spec 𝓤 𝓛 𝓜 𝓡 wired T L =
     sets ! (agg ! (and_then ! (size_word !) (and_then ! (align_word !) (no_more !)))) refl (tt, (record { fits = capped_fits (size τ) }, (record { fits = capped_fits (align τ) }, tt))) $
     returns ! (look_at ! 0 refl) $ free_all ! refl $
     flt_i ! al (2 ^ 64) (capped_fits (align τ)) $ feq_i ! (List Val) (vint w64 al ∷ []) (vint w64 al ∷ []) refl $ fjoin ! $
-    flt_i ! n (2 ^ 64) (capped_fits (size τ)) $ feq_i ! (List Val) (vint w64 n ∷ []) (vint w64 n ∷ []) refl $ fjoin ! $ use2 𝓛 (‵ ((Tuple (usize ∷ usize ∷ [])).own_val (n, al) (pair_val (vint w64 n) (vint w64 al) ∷ []))) (pair_of 𝓛 (usize) (usize) (n) (al) (vint w64 n) (vint w64 al)) $ use0 𝓛 (raw (fact 𝓤 (al ≡ align τ))) (fact_i 𝓤 (al ≡ align τ) (emp 𝓤) (align_as_told τ)) $
+    flt_i ! n (2 ^ 64) (capped_fits (size τ)) $ feq_i ! (List Val) (vint w64 n ∷ []) (vint w64 n ∷ []) refl $ fjoin ! $ use2 𝓛
+    (‵ ((Tuple (usize ∷ usize ∷ [])).own_val (n, al) (pair_val (vint w64 n) (vint w64 al) ∷ []))) (pair_of 𝓛 (usize) (usize) (n) (al) (vint w64 n) (vint w64 al)) $ use0 𝓛
+    (raw (fact 𝓤 (al ≡ align τ))) (fact_i 𝓤 (al ≡ align τ) (emp 𝓤) (align_as_told τ)) $
     use0 𝓛 (raw (fact 𝓤 Sized)) (fact_i 𝓤 Sized (emp 𝓤) (size_as_told τ)) $ join ! $ nothing ! $ move ! (3 ∷ 0 ∷ 2 ∷ 1 ∷ []) $
     by ! (leaves 𝓛 En₀ hs c z (pair_val (vint w64 n) (vint w64 al)) (n, al) tt tt))))

@@ -68,7 +68,8 @@ module _ (R R' : RattleType) (h : R.Denot → R'.Denot) (a : Alike R R' h) where
 
   owns_at_placed : (t : Ty → Ptr → Fml) (p : Ptr) (n : ℕ) (xs : List R.Denot) → thin_owns_at R' p n (map h xs) t ≡ thin_owns_at R p n xs t
   owns_at_placed t p n xs = λ i. fsep (size_same n i) (fsep
-      (fsep (fsep (lies_at usize full_share p n) (lies_placed (Array R n) (Array R' n) (map h) (Array-places R R' h a n) full_share (p +ₚ 8) xs i))
+      (fsep (fsep (lies_at usize full_share p n) (lies_placed (Array R n) (Array R' n) (map h) (Array-places R R' h a n) full_share
+      (p +ₚ 8) xs i))
       (fsep (fwand (fsep (room_for (ty_int w64) p) (room_for (elements n i) (p +ₚ 8))) (room_for (block n i) p)) (t (block n i) p)))
       (flt (align (lone (a.mir_same i))) 9))
 
@@ -76,7 +77,9 @@ module _ (R R' : RattleType) (h : R.Denot → R'.Denot) (a : Alike R R' h) where
   owns_placed t p xs = (λ i. thin_owns_at R' p (length-map xs h i) (map h xs) t) ∙ owns_at_placed t p (length xs) xs
 
   shares_at_placed : (p : Ptr) (n : ℕ) (xs : List R.Denot) → thin_shares_at R' p n (map h xs) ≡ thin_shares_at R p n xs
-  shares_at_placed p n xs = λ i. beside (said (size_same n i)) (beside (lent_at usize p n) (lent_at_placed (Array R n) (Array R' n) (map h) (Array-places R R' h a n) (p +ₚ 8) xs i))
+  shares_at_placed p n xs = λ
+      i. beside (said (size_same n i))
+      (beside (lent_at usize p n) (lent_at_placed (Array R n) (Array R' n) (map h) (Array-places R R' h a n) (p +ₚ 8) xs i))
 
   shares_placed : (p : Ptr) (xs : List R.Denot) → thin_shares R' p (map h xs) ≡ thin_shares R p xs
   shares_placed p xs = (λ i. thin_shares_at R' p (length-map xs h i) (map h xs)) ∙ shares_at_placed p (length xs) xs
@@ -85,8 +88,10 @@ module _ (A : RattleType) (G : Ghosts A.Denot) (R R' : RattleType) (h : R.Denot 
   pub the_places : Alike R R' h → Alike (C.the_row R A G) (C.the_row R' A G) ((the_former this A.Denot).map R.Denot R'.Denot h)
   the_places a = record {
     mir_same = refl;
-    own_same = λ t i vs. fsep ((Struct (shape (C.the_type R A G))).own_val (to (C.the_type R A G) t) vs) (owns_placed R R' h a (G.dealloc_token t.heap) t.ptr t.items i);
-    shr_same = λ t i b o. beside ((Struct (shape (C.the_type R A G))).shr_at (to (C.the_type R A G) t) b o) (shares_placed R R' h a t.ptr t.items i);
+    own_same = λ t i vs. fsep ((Struct (shape (C.the_type R A G))).own_val (to (C.the_type R A G) t) vs)
+        (owns_placed R R' h a (G.dealloc_token t.heap) t.ptr t.items i);
+    shr_same = λ t i b o. beside ((Struct (shape (C.the_type R A G))).shr_at (to (C.the_type R A G) t) b o)
+        (shares_placed R R' h a t.ptr t.items i);
   }
 
   pub the_codes_placed : ((y : R.Denot) → R'.coded.code (h y) ≡ R.coded.code y) → (t : Thin R.Denot A.Denot)

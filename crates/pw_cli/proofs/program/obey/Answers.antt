@@ -1,5 +1,5 @@
 use Rattle.std.proofs.Common.{refl}
-use Rattle.pw_ends.proofs.Outcomes.{ended_as}
+use Rattle.pw_load.proofs.Outcomes.{ended_as}
 use Rattle.pw_cli.proofs.program.obey.Goals as goal
 
 pub returns-in-OnBlocks-clause-obeyed : goal.returns-in-OnBlocks-clause-obeyed

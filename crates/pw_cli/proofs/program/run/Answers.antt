@@ -1,8 +1,8 @@
 use Rattle.std.proofs.Common.{None, refl}
 use Rattle.pw_words.specs.Command.{asked_of}
 use Rattle.pw_words.specs.Words.{texts}
-use Rattle.pw_ends.proofs.Outcomes.{ended_as, ended_saying}
-use Rattle.pw_ends.specs.Seen.{all_seen}
+use Rattle.pw_load.proofs.Outcomes.{ended_as, ended_saying}
+use Rattle.pw_load.specs.Seen.{all_seen}
 use Rattle.pw_cli.specs.Runs.{EndsBy, words_line}
 use Rattle.pw_cli.specs.Runs.EndsBy.{commanded}
 use Rattle.pw_cli.proofs.Complete.{complete_of, refused_so}

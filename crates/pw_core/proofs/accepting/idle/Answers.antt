@@ -24,7 +24,8 @@ draw_along-requires-clause-room c =
     let chain = c.chain_under-chain.result in
     let mid : c.if-chain-gt0.ops ≡ with_more ops (own_ops P T p) =
     elim c.if-chain-gt0.branch [
-      | then-chain-gt0 w ↦ own_pushed P T p chain c.requires.cpu c.requires.fits c.chain_under-chain.ensures c.requires.table ops c.if-chain-gt0.ops w.enter.result w.if-chain-gt0.true w.enter.ensures (w.ops-is ∙ w.push.ensures)
+      | then-chain-gt0 w ↦ own_pushed P T p chain c.requires.cpu c.requires.fits c.chain_under-chain.ensures c.requires.table ops c.if-chain-gt0.ops w.enter.result w.if-chain-gt0.true w.enter.ensures
+          (w.ops-is ∙ w.push.ensures)
       | else-chain-gt0 w ↦ own_kept P T p chain c.requires.cpu c.requires.fits c.chain_under-chain.ensures c.requires.table ops c.if-chain-gt0.ops c.requires.idles w.if-chain-gt0.false w.ops-is
     ] in
     let members : c.as_slice-members.result.now ≡ (group_at P (group_of P p)).members =
@@ -41,7 +42,8 @@ returns-in-Some-clause-list c =
     let chain = c.chain_under-chain.result in
     let mid : c.if-chain-gt0.ops ≡ with_more ops (own_ops P T p) =
     elim c.if-chain-gt0.branch [
-      | then-chain-gt0 w ↦ own_pushed P T p chain c.requires.cpu c.requires.fits c.chain_under-chain.ensures c.requires.table ops c.if-chain-gt0.ops w.enter.result w.if-chain-gt0.true w.enter.ensures (w.ops-is ∙ w.push.ensures)
+      | then-chain-gt0 w ↦ own_pushed P T p chain c.requires.cpu c.requires.fits c.chain_under-chain.ensures c.requires.table ops c.if-chain-gt0.ops w.enter.result w.if-chain-gt0.true w.enter.ensures
+          (w.ops-is ∙ w.push.ensures)
       | else-chain-gt0 w ↦ own_kept P T p chain c.requires.cpu c.requires.fits c.chain_under-chain.ensures c.requires.table ops c.if-chain-gt0.ops c.requires.idles w.if-chain-gt0.false w.ops-is
     ] in
     let members : c.as_slice-members.result.now ≡ (group_at P (group_of P p)).members =
@@ -58,7 +60,8 @@ returns-in_default-clause-list c =
     let chain = c.chain_under-chain.result in
     let mid : c.if-chain-gt0.ops ≡ with_more ops (own_ops P T p) =
     elim c.if-chain-gt0.branch [
-      | then-chain-gt0 w ↦ own_pushed P T p chain c.requires.cpu c.requires.fits c.chain_under-chain.ensures c.requires.table ops c.if-chain-gt0.ops w.enter.result w.if-chain-gt0.true w.enter.ensures (w.ops-is ∙ w.push.ensures)
+      | then-chain-gt0 w ↦ own_pushed P T p chain c.requires.cpu c.requires.fits c.chain_under-chain.ensures c.requires.table ops c.if-chain-gt0.ops w.enter.result w.if-chain-gt0.true w.enter.ensures
+          (w.ops-is ∙ w.push.ensures)
       | else-chain-gt0 w ↦ own_kept P T p chain c.requires.cpu c.requires.fits c.chain_under-chain.ensures c.requires.table ops c.if-chain-gt0.ops c.requires.idles w.if-chain-gt0.false w.ops-is
     ] in
     let e : group_of P p ≡ length P.groups = rw c.in_default.is at c.group_of.ensures.place in

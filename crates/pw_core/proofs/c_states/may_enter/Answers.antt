@@ -11,17 +11,20 @@ loop-membership-init c = rw c.idle_domains_of-membership-items.ensures (all_gove
 
 pub domain-domain-requires : goal.domain-domain-requires
 domain-domain-requires c =
-    rw c.idle_domains_of-membership-items.ensures (idle_within c.args.plan.now.domains c.args.cpu c.loop-membership.membership-index (record { place = 0; member = 0 }) (rw c.idle_domains_of-membership-items.ensures at c.loop-membership-test.true))
+    rw c.idle_domains_of-membership-items.ensures (idle_within c.args.plan.now.domains c.args.cpu c.loop-membership.membership-index (record { place = 0; member = 0 })
+    (rw c.idle_domains_of-membership-items.ensures at c.loop-membership-test.true))
 
 pub is_gathered-requires : goal.is_gathered-requires
 is_gathered-requires c =
     let P = c.args.plan.now in
     let k = (get_or c.idle_domains_of-membership-items.result.now c.loop-membership.membership-index (record { place = 0; member = 0 })).place in
     let lt : k < length P.domains =
-    rw c.idle_domains_of-membership-items.ensures (idle_within P.domains c.args.cpu c.loop-membership.membership-index (record { place = 0; member = 0 }) (rw c.idle_domains_of-membership-items.ensures at c.loop-membership-test.true)) in
+    rw c.idle_domains_of-membership-items.ensures (idle_within P.domains c.args.cpu c.loop-membership.membership-index (record { place = 0; member = 0 })
+    (rw c.idle_domains_of-membership-items.ensures at c.loop-membership-test.true)) in
     rw (c.domain-domain.ensures, c.requires.votes) (P.sound.domains.members k no_domain lt)
 
 pub governs-requires : goal.governs-requires
 governs-requires c =
-    let covered = idle_covers c.args.plan.now c.args.cpu c.loop-membership.membership-index (record { place = 0; member = 0 }) (rw c.idle_domains_of-membership-items.ensures at c.loop-membership-test.true) in
+    let covered = idle_covers c.args.plan.now c.args.cpu c.loop-membership.membership-index (record { place = 0; member = 0 })
+    (rw c.idle_domains_of-membership-items.ensures at c.loop-membership-test.true) in
     rw (c.domain-domain.ensures, c.idle_domains_of-membership-items.ensures) covered

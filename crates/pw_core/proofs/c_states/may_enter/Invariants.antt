@@ -8,5 +8,6 @@ use Rattle.pw_core.proofs.c_states.may_enter.Given as goal
 
 abbrev pub invariant-loop-membership : goal.invariant-loop-membership
 invariant-loop-membership l =
-    list_all (λ (s : Membership). not (governs l.cpu l.level (domain_at l.plan s.place)) || is_gathered (with_change l.state l.change) (domain_at l.plan s.place)) (drop l.membership-index l.membership-items)
+    list_all (λ (s : Membership). not (governs l.cpu l.level (domain_at l.plan s.place)) || is_gathered (with_change l.state l.change) (domain_at l.plan s.place))
+    (drop l.membership-index l.membership-items)
     ≡ may_enter l.plan (with_change l.state l.change) l.cpu l.level

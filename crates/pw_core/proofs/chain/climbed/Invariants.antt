@@ -9,7 +9,8 @@ use Rattle.pw_core.proofs.chain.climbed.Given as goal
 
 abbrev pub invariant-loop-next : goal.invariant-loop-next
 invariant-loop-next l = record {
-  climbs : Climbs l.plan (with_change l.state l.change) ((vote_of (with_change l.state l.change) l.cpu).state ∷ states_along l.plan (with_change l.state l.change) (ancestors l.plan l.cpu)) l.chain l.next;
+  climbs : Climbs l.plan (with_change l.state l.change) ((vote_of (with_change l.state l.change) l.cpu).state ∷ states_along l.plan (with_change l.state l.change) (ancestors l.plan l.cpu)) l.chain
+      l.next;
   known : IsKnown l.plan (with_change l.state l.change) l.known;
 }
 

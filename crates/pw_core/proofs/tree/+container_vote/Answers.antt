@@ -79,7 +79,8 @@ returns t c =
     ap (λ ds. fold min c.loop-child.least.state (map (λ d. enables_to (table_of P d) (child_vote P S d)) ds)) (sym all) ∙ c.loop-child.invariant.state in
     let bearing : c.loop-child.least.tolerance ≡ least_bearing P S n =
     ap (λ ds. fold min c.loop-child.least.tolerance (map (λ d. (child_vote P S d).tolerance) ds)) (sym all) ∙ c.loop-child.invariant.tolerance in
-    let is : c.deepest.result ≡ greatest (λ i. (row_at (container_at P n).idle i).enabled && (nat_le i (least_reach P S n) && nat_le (row_at (container_at P n).idle i).latency (least_bearing P S n))) (length (rows_of (container_at P n).idle)) =
+    let is : c.deepest.result ≡ greatest (λ i. (row_at (container_at P n).idle i).enabled && (nat_le i (least_reach P S n) && nat_le (row_at (container_at P n).idle i).latency (least_bearing P S n)))
+    (length (rows_of (container_at P n).idle)) =
     rw (← reach, ← bearing, ← c.container-2.ensures) c.deepest.ensures in
     c.vote_in.ensures
     ∙ ap (λ x. cond (c.deepest.result == 0) running (idling c.deepest.result x)) bearing

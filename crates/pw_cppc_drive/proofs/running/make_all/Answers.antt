@@ -1,6 +1,6 @@
 use Rattle.std.proofs.Common.{◌≤◌, ◌+◌, ◌∙◌, Ok, Err, ap, arith, length, length-append, sym, take_all}
 use Rattle.pw_regs.specs.Seen.{registers_seen}
-use Rattle.pw_cppc_state.specs.declared.reply.CppcReply.{CppcReply}
+use Rattle.pw_cppc.specs.declared.reply.CppcReply.{CppcReply}
 use Rattle.pw_cppc_drive.proofs.Lining.{ran_all, ran_so_far, runs_further, runs_none}
 use Rattle.pw_cppc_drive.proofs.Requesting.{goes_on, stops, turned}
 use Rattle.pw_cppc_drive.proofs.running.make_all.Goals as goal

@@ -1,6 +1,6 @@
 use Rattle.std.proofs.Common.{◌≡◌, ◌≤◌, length, take}
 use Rattle.pw_regs.specs.Seen.{registers_seen}
-use Rattle.pw_cppc_work.specs.Worked.{IsWorkOf}
+use Rattle.pw_cppc_desk.specs.Worked.{IsWorkOf}
 use Rattle.pw_cppc_drive.proofs.Lining.{Runs}
 use Rattle.pw_cppc_drive.proofs.running.make_all.Given as goal
 

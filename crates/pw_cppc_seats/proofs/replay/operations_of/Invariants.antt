@@ -1,4 +1,4 @@
-use Rattle.pw_cppc_state.specs.States.{AreNumbers}
+use Rattle.pw_cppc.specs.States.{AreNumbers}
 use Rattle.pw_cppc_seats.proofs.replay.operations_of.Given as goal
 
 abbrev pub invariant-loop-entry : goal.invariant-loop-entry

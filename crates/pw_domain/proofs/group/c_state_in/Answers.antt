@@ -1,6 +1,6 @@
 use Rattle.std.proofs.Common.{◌∙◌, sym, arith, set}
 use Rattle.pw_model.proofs.Greatest.{greatest-step}
-use Rattle.pw_parts.specs.Effects.{enters_by}
+use Rattle.pw_model.specs.Effects.{enters_by}
 use Rattle.pw_domain.proofs.group.c_state_in.Goals as goal
 
 pub loop-level-preserved : goal.loop-level-preserved

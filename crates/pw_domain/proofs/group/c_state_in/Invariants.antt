@@ -1,6 +1,6 @@
 use Rattle.std.proofs.Common.{◌≡◌, set}
 use Rattle.pw_model.specs.Containers.{greatest}
-use Rattle.pw_parts.specs.Effects.{c_state_by, enters_by}
+use Rattle.pw_model.specs.Effects.{c_state_by, enters_by}
 use Rattle.pw_domain.proofs.group.c_state_in.Given as goal
 
 abbrev pub invariant-loop-level : goal.invariant-loop-level

@@ -1,7 +1,7 @@
 use Rattle.std.proofs.Common.{◌≡◌, ◌<◌, ◌==◌, ◌&&◌, ◌∷◌, ◌++◌, [], ℕ, true, false, not, length, get_or, set, ap, sym, ◌∙◌}
 use Rattle.pw_plan.specs.declared.domain.Group.{Group}
 use Rattle.pw_plan.specs.Places.{group_at}
-use Rattle.pw_parts.specs.Effects.{c_state_by, drawn_by, drawn_ops, enter_c}
+use Rattle.pw_model.specs.Effects.{c_state_by, drawn_by, drawn_ops, enter_c}
 use Rattle.pw_core.proofs.Drawing.{passed, pushed, room_passed, room_pushed}
 use Rattle.pw_domain.proofs.Groups.{c_state_le}
 use Rattle.pw_domain.proofs.group.draw_along.Goals as goal

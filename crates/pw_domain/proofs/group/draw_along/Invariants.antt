@@ -1,6 +1,6 @@
 use Rattle.std.proofs.Common.{◌≡◌, ◌≤◌, ◌+◌, ◌++◌, ◌==◌, ◌&&◌, not, length, map, drop, set}
 use Rattle.std.specs.Prelude.{filter}
-use Rattle.pw_parts.specs.Effects.{c_state_by, drawn_by, drawn_ops, enter_c}
+use Rattle.pw_model.specs.Effects.{c_state_by, drawn_by, drawn_ops, enter_c}
 use Rattle.pw_domain.proofs.group.draw_along.Given as goal
 
 abbrev pub invariant-loop-member : goal.invariant-loop-member

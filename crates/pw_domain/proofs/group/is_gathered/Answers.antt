@@ -1,6 +1,6 @@
 use Rattle.std.proofs.Common.{◌∙◌, sym, ℕ, nat_le, set}
 use Rattle.pw_model.specs.Domains.{state_of}
-use Rattle.pw_parts.specs.Effects.{gathered_by, state_by}
+use Rattle.pw_model.specs.Effects.{gathered_by, state_by}
 use Rattle.pw_domain.proofs.Tests.{all_failed, all_passed}
 use Rattle.pw_domain.proofs.group.is_gathered.Goals as goal
 

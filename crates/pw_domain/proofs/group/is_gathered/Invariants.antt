@@ -1,7 +1,7 @@
 use Rattle.std.proofs.Common.{◌≡◌, drop, nat_le, set}
 use Rattle.std.specs.List.{list_all}
 use Rattle.pw_model.specs.Domains.{state_of}
-use Rattle.pw_parts.specs.Effects.{gathered_by, state_by}
+use Rattle.pw_model.specs.Effects.{gathered_by, state_by}
 use Rattle.pw_domain.proofs.group.is_gathered.Given as goal
 
 abbrev pub invariant-loop-member : goal.invariant-loop-member

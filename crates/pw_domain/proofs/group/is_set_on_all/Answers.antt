@@ -9,9 +9,11 @@ loop-membership-init c = rw c.idle_domains_of-membership-items.ensures (any_gove
 
 pub domain-domain-requires : goal.domain-domain-requires
 domain-domain-requires c =
-    rw c.idle_domains_of-membership-items.ensures (idle_within c.args.plan.now.domains c.args.cpu c.loop-membership.membership-index (record { place = 0; member = 0 }) (rw c.idle_domains_of-membership-items.ensures at c.loop-membership-test.true))
+    rw c.idle_domains_of-membership-items.ensures (idle_within c.args.plan.now.domains c.args.cpu c.loop-membership.membership-index (record { place = 0; member = 0 })
+    (rw c.idle_domains_of-membership-items.ensures at c.loop-membership-test.true))
 
 pub governs-requires : goal.governs-requires
 governs-requires c =
-    let covered = idle_covers c.args.plan.now c.args.cpu c.loop-membership.membership-index (record { place = 0; member = 0 }) (rw c.idle_domains_of-membership-items.ensures at c.loop-membership-test.true) in
+    let covered = idle_covers c.args.plan.now c.args.cpu c.loop-membership.membership-index (record { place = 0; member = 0 })
+    (rw c.idle_domains_of-membership-items.ensures at c.loop-membership-test.true) in
     rw (c.domain-domain.ensures, c.idle_domains_of-membership-items.ensures) covered

@@ -1,17 +1,20 @@
 use Rattle.std.proofs.Common.{set}
 use Rattle.pw_plan.proofs.Indexing.{idle_within}
-use Rattle.pw_parts.specs.Effects.{gathered_by}
+use Rattle.pw_model.specs.Effects.{gathered_by}
 use Rattle.pw_core.proofs.Owning.{all_governing, idle_covers}
 use Rattle.pw_domain.proofs.group.may_enter.Goals as goal
 
 pub loop-membership-init : goal.loop-membership-init
-loop-membership-init c = rw c.idle_domains_of-membership-items.ensures (all_governing c.args.plan.now c.args.cpu c.args.level (gathered_by c.args.members.now (set c.args.states.now c.args.place c.args.own)))
+loop-membership-init c = rw c.idle_domains_of-membership-items.ensures (all_governing c.args.plan.now c.args.cpu c.args.level
+    (gathered_by c.args.members.now (set c.args.states.now c.args.place c.args.own)))
 
 pub domain-domain-requires : goal.domain-domain-requires
 domain-domain-requires c =
-    rw c.idle_domains_of-membership-items.ensures (idle_within c.args.plan.now.domains c.args.cpu c.loop-membership.membership-index (record { place = 0; member = 0 }) (rw c.idle_domains_of-membership-items.ensures at c.loop-membership-test.true))
+    rw c.idle_domains_of-membership-items.ensures (idle_within c.args.plan.now.domains c.args.cpu c.loop-membership.membership-index (record { place = 0; member = 0 })
+    (rw c.idle_domains_of-membership-items.ensures at c.loop-membership-test.true))
 
 pub governs-requires : goal.governs-requires
 governs-requires c =
-    let covered = idle_covers c.args.plan.now c.args.cpu c.loop-membership.membership-index (record { place = 0; member = 0 }) (rw c.idle_domains_of-membership-items.ensures at c.loop-membership-test.true) in
+    let covered = idle_covers c.args.plan.now c.args.cpu c.loop-membership.membership-index (record { place = 0; member = 0 })
+    (rw c.idle_domains_of-membership-items.ensures at c.loop-membership-test.true) in
     rw (c.domain-domain.ensures, c.idle_domains_of-membership-items.ensures) covered

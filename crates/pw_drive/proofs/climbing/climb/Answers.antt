@@ -6,13 +6,15 @@ use Rattle.pw_drive.proofs.Turns.{Went, ends_chain, ends_parts, falls, some_room
 use Rattle.pw_drive.proofs.climbing.climb.Goals as goal
 
 pub risen-chain-requires-clause-room : goal.risen-chain-requires-clause-room
-risen-chain-requires-clause-room c = some_room c.args.plan.now (node_parts c.args.nodes.now.items) c.args.cpu c.args.own c.loop-next.nodes.items c.loop-next.below c.loop-next.vote c.in-Some.node c.loop-next.chain c.loop-next.rising (rw c.in-Some.is at c.loop-next.invariant)
+risen-chain-requires-clause-room c = some_room c.args.plan.now (node_parts c.args.nodes.now.items) c.args.cpu c.args.own c.loop-next.nodes.items c.loop-next.below c.loop-next.vote c.in-Some.node
+    c.loop-next.chain c.loop-next.rising (rw c.in-Some.is at c.loop-next.invariant)
 
 pub returns-then-turned-clause-parts : goal.returns-then-turned-clause-parts
 returns-then-turned-clause-parts c =
     let h = rw c.in-Some.is at c.loop-next.invariant in
     let lt : c.in-Some.node < length c.loop-next.nodes.items = subst (λ k. c.in-Some.node < k) (sym h.nodes.count) (h.within c.in-Some.node refl) in
-    let w : Went c.args.plan.now c.loop-next.nodes.items c.in-Some.node c.loop-next.below c.loop-next.vote c.loop-next.chain c.loop-next.rising c.index_mut.result.now c.turn-turned.new.held c.turn-turned.result.runs c.turn-turned.result.vote c.rises-rising.result c.risen-chain.result = record {
+    let w : Went c.args.plan.now c.loop-next.nodes.items c.in-Some.node c.loop-next.below c.loop-next.vote c.loop-next.chain c.loop-next.rising c.index_mut.result.now c.turn-turned.new.held
+    c.turn-turned.result.runs c.turn-turned.result.vote c.rises-rising.result c.risen-chain.result = record {
       at = c.index_mut.ensures.value ∙ get_or_default c.loop-next.nodes.items c.in-Some.node c.index_mut.result.now no_node_record lt;
       is = c.turn-turned.ensures.of;
       part = c.turn-turned.ensures.part;
@@ -21,14 +23,16 @@ returns-then-turned-clause-parts c =
       rose = c.rises-rising.ensures;
       chained = c.risen-chain.ensures;
     } in
-    went_parts c.args.plan.now (node_parts c.args.nodes.now.items) c.args.cpu c.args.own c.loop-next.nodes.items c.loop-next.below c.loop-next.vote c.in-Some.node c.loop-next.chain c.loop-next.rising h
+    went_parts c.args.plan.now (node_parts c.args.nodes.now.items) c.args.cpu c.args.own c.loop-next.nodes.items c.loop-next.below c.loop-next.vote c.in-Some.node c.loop-next.chain c.loop-next.rising
+    h
     c.index_mut.result.now c.turn-turned.new.held c.turn-turned.result.runs c.turn-turned.result.vote c.rises-rising.result c.risen-chain.result w c.if-turned.true
 
 pub returns-then-turned-clause-chain : goal.returns-then-turned-clause-chain
 returns-then-turned-clause-chain c =
     let h = rw c.in-Some.is at c.loop-next.invariant in
     let lt : c.in-Some.node < length c.loop-next.nodes.items = subst (λ k. c.in-Some.node < k) (sym h.nodes.count) (h.within c.in-Some.node refl) in
-    let w : Went c.args.plan.now c.loop-next.nodes.items c.in-Some.node c.loop-next.below c.loop-next.vote c.loop-next.chain c.loop-next.rising c.index_mut.result.now c.turn-turned.new.held c.turn-turned.result.runs c.turn-turned.result.vote c.rises-rising.result c.risen-chain.result = record {
+    let w : Went c.args.plan.now c.loop-next.nodes.items c.in-Some.node c.loop-next.below c.loop-next.vote c.loop-next.chain c.loop-next.rising c.index_mut.result.now c.turn-turned.new.held
+    c.turn-turned.result.runs c.turn-turned.result.vote c.rises-rising.result c.risen-chain.result = record {
       at = c.index_mut.ensures.value ∙ get_or_default c.loop-next.nodes.items c.in-Some.node c.index_mut.result.now no_node_record lt;
       is = c.turn-turned.ensures.of;
       part = c.turn-turned.ensures.part;
@@ -37,17 +41,20 @@ returns-then-turned-clause-chain c =
       rose = c.rises-rising.ensures;
       chained = c.risen-chain.ensures;
     } in
-    went_chain c.args.plan.now (node_parts c.args.nodes.now.items) c.args.cpu c.args.own c.loop-next.nodes.items c.loop-next.below c.loop-next.vote c.in-Some.node c.loop-next.chain c.loop-next.rising h
+    went_chain c.args.plan.now (node_parts c.args.nodes.now.items) c.args.cpu c.args.own c.loop-next.nodes.items c.loop-next.below c.loop-next.vote c.in-Some.node c.loop-next.chain c.loop-next.rising
+    h
     c.index_mut.result.now c.turn-turned.new.held c.turn-turned.result.runs c.turn-turned.result.vote c.rises-rising.result c.risen-chain.result w c.if-turned.true
 
 pub loop-next-smaller : goal.loop-next-smaller
-loop-next-smaller c = rw (c.in-Some.is, c.container.ensures) (falls c.args.plan.now (node_parts c.args.nodes.now.items) c.args.cpu c.args.own c.loop-next.nodes.items c.loop-next.below c.loop-next.vote c.in-Some.node c.loop-next.chain c.loop-next.rising (rw c.in-Some.is at c.loop-next.invariant))
+loop-next-smaller c = rw (c.in-Some.is, c.container.ensures) (falls c.args.plan.now (node_parts c.args.nodes.now.items) c.args.cpu c.args.own c.loop-next.nodes.items c.loop-next.below c.loop-next.vote
+    c.in-Some.node c.loop-next.chain c.loop-next.rising (rw c.in-Some.is at c.loop-next.invariant))
 
 pub loop-next-preserved : goal.loop-next-preserved
 loop-next-preserved c =
     let h = rw c.in-Some.is at c.loop-next.invariant in
     let lt : c.in-Some.node < length c.loop-next.nodes.items = subst (λ k. c.in-Some.node < k) (sym h.nodes.count) (h.within c.in-Some.node refl) in
-    let w : Went c.args.plan.now c.loop-next.nodes.items c.in-Some.node c.loop-next.below c.loop-next.vote c.loop-next.chain c.loop-next.rising c.index_mut.result.now c.turn-turned.new.held c.turn-turned.result.runs c.turn-turned.result.vote c.rises-rising.result c.risen-chain.result = record {
+    let w : Went c.args.plan.now c.loop-next.nodes.items c.in-Some.node c.loop-next.below c.loop-next.vote c.loop-next.chain c.loop-next.rising c.index_mut.result.now c.turn-turned.new.held
+    c.turn-turned.result.runs c.turn-turned.result.vote c.rises-rising.result c.risen-chain.result = record {
       at = c.index_mut.ensures.value ∙ get_or_default c.loop-next.nodes.items c.in-Some.node c.index_mut.result.now no_node_record lt;
       is = c.turn-turned.ensures.of;
       part = c.turn-turned.ensures.part;
@@ -57,10 +64,13 @@ loop-next-preserved c =
       chained = c.risen-chain.ensures;
     } in
     went_on c.args.plan.now (node_parts c.args.nodes.now.items) c.args.cpu c.args.own c.loop-next.nodes.items c.loop-next.below c.loop-next.vote c.in-Some.node c.loop-next.chain c.loop-next.rising h
-    c.index_mut.result.now c.turn-turned.new.held c.turn-turned.result.runs c.turn-turned.result.vote c.rises-rising.result c.risen-chain.result w c.if-turned.false c.container.result.now.parent (ap (λ (x : ContainerParts). x.parent) c.container.ensures)
+    c.index_mut.result.now c.turn-turned.new.held c.turn-turned.result.runs c.turn-turned.result.vote c.rises-rising.result c.risen-chain.result w c.if-turned.false c.container.result.now.parent (ap
+    (λ (x : ContainerParts). x.parent) c.container.ensures)
 
 pub returns-clause-parts : goal.returns-clause-parts
-returns-clause-parts c = ends_parts c.args.plan.now (node_parts c.args.nodes.now.items) c.args.cpu c.args.own c.loop-next.nodes.items c.loop-next.below c.loop-next.vote c.loop-next.chain c.loop-next.rising (rw c.in_default.is at c.loop-next.invariant)
+returns-clause-parts c = ends_parts c.args.plan.now (node_parts c.args.nodes.now.items) c.args.cpu c.args.own c.loop-next.nodes.items c.loop-next.below c.loop-next.vote c.loop-next.chain
+    c.loop-next.rising (rw c.in_default.is at c.loop-next.invariant)
 
 pub returns-clause-chain : goal.returns-clause-chain
-returns-clause-chain c = ends_chain c.args.plan.now (node_parts c.args.nodes.now.items) c.args.cpu c.args.own c.loop-next.nodes.items c.loop-next.below c.loop-next.vote c.loop-next.chain c.loop-next.rising (rw c.in_default.is at c.loop-next.invariant)
+returns-clause-chain c = ends_chain c.args.plan.now (node_parts c.args.nodes.now.items) c.args.cpu c.args.own c.loop-next.nodes.items c.loop-next.below c.loop-next.vote c.loop-next.chain
+    c.loop-next.rising (rw c.in_default.is at c.loop-next.invariant)

@@ -4,9 +4,9 @@ use Rattle.pw_base.specs.Room.{Bounded}
 use Rattle.pw_model.specs.Operations.{opening_ops}
 use Rattle.pw_plan.specs.Requests.{opening_bound}
 use Rattle.pw_regs.specs.Seen.{registers_seen}
-use Rattle.pw_doing.specs.Doing.{Did}
+use Rattle.pw_regs.specs.Doing.{Did}
 use Rattle.pw_drive.specs.inner.Running.{opening_done}
-use Rattle.pw_doing.proofs.Operating.{did_by}
+use Rattle.pw_regs.proofs.Operating.{did_by}
 use Rattle.pw_drive.proofs.Requesting.{opening_did, opening_few}
 use Rattle.pw_drive.proofs.driving.open.Goals as goal
 

@@ -5,7 +5,7 @@ use Rattle.pw_model.specs.History.{replay}
 use Rattle.pw_model.specs.Operations.{ops_of}
 use Rattle.pw_regs.specs.Seen.{registers_seen}
 use Rattle.pw_drive.proofs.Elements.{old_fits}
-use Rattle.pw_doing.proofs.Operating.{did_by}
+use Rattle.pw_regs.proofs.Operating.{did_by}
 use Rattle.pw_drive.proofs.Requesting.{few_ops, keeps_after, served_ops, stands_after, stopped_after, turned}
 use Rattle.pw_drive.proofs.running.make.Goals as goal
 

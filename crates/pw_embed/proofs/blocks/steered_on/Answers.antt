@@ -1,5 +1,5 @@
 use Rattle.std.proofs.Common.{sym, subst}
-use Rattle.pw_cppc_parts.specs.Planning.{IsPlanOver}
+use Rattle.pw_cppc.specs.SpacePlan.{IsPlanOver}
 use Rattle.pw_embed.proofs.Refusing.{if_ok}
 use Rattle.pw_embed.proofs.blocks.steered_on.Goals as goal
 

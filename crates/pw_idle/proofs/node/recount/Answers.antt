@@ -21,7 +21,8 @@ changed-requires-clause-some c =
     let was : c.allows-was.result ≡ allows_state P n (a + 1) child (get_or vs k running) =
     allows_is P n c.allows-was.result c.table_of-table.result.now c.container.result.now.idle c.vote_at-old.result (get_or vs k running) c.row-latency.result child (a + 1)
     c.allows-was.ensures c.table_of-table.ensures c.vote_at-old.ensures c.row-latency.ensures own in
-    let count : get_or c.as_slice.result.now a 0 ≡ counted (allows_state P n (a + 1)) (children_at P n) vs = ap (λ xs. get_or xs a 0) c.as_slice.ensures ∙ c.loop-at.invariant.left a (omega arith) lt in
+    let count : get_or c.as_slice.result.now a 0 ≡ counted (allows_state P n (a + 1)) (children_at P n) vs = ap (λ xs. get_or xs a 0) c.as_slice.ensures ∙ c.loop-at.invariant.left a (omega arith) lt
+    in
     count_some P n vs k c.args.vote c.as_slice.result.now a 0 c.allows-was.result c.allows-now.result c.requires.holds c.requires.place was count
 
 pub changed-requires-clause-room : goal.changed-requires-clause-room
@@ -37,7 +38,8 @@ changed-requires-clause-room c =
     let was : c.allows-was.result ≡ allows_state P n (a + 1) child (get_or vs k running) =
     allows_is P n c.allows-was.result c.table_of-table.result.now c.container.result.now.idle c.vote_at-old.result (get_or vs k running) c.row-latency.result child (a + 1)
     c.allows-was.ensures c.table_of-table.ensures c.vote_at-old.ensures c.row-latency.ensures own in
-    let count : get_or c.as_slice.result.now a 0 ≡ counted (allows_state P n (a + 1)) (children_at P n) vs = ap (λ xs. get_or xs a 0) c.as_slice.ensures ∙ c.loop-at.invariant.left a (omega arith) lt in
+    let count : get_or c.as_slice.result.now a 0 ≡ counted (allows_state P n (a + 1)) (children_at P n) vs = ap (λ xs. get_or xs a 0) c.as_slice.ensures ∙ c.loop-at.invariant.left a (omega arith) lt
+    in
     count_lt P n vs k c.args.vote c.as_slice.result.now a 0 c.allows-was.result c.allows-now.result c.requires.holds c.requires.place was count
 
 pub loop-at-preserved : goal.loop-at-preserved
@@ -53,11 +55,13 @@ loop-at-preserved c =
     let was : c.allows-was.result ≡ allows_state P n (a + 1) child (get_or vs k running) =
     allows_is P n c.allows-was.result c.table_of-table.result.now c.container.result.now.idle c.vote_at-old.result (get_or vs k running) c.row-latency.result child (a + 1)
     c.allows-was.ensures c.table_of-table.ensures c.vote_at-old.ensures c.row-latency.ensures own in
-    let count : get_or c.as_slice.result.now a 0 ≡ counted (allows_state P n (a + 1)) (children_at P n) vs = ap (λ xs. get_or xs a 0) c.as_slice.ensures ∙ c.loop-at.invariant.left a (omega arith) lt in
+    let count : get_or c.as_slice.result.now a 0 ≡ counted (allows_state P n (a + 1)) (children_at P n) vs = ap (λ xs. get_or xs a 0) c.as_slice.ensures ∙ c.loop-at.invariant.left a (omega arith) lt
+    in
     let now : c.allows-now.result ≡ allows_state P n (a + 1) child c.args.vote =
     allows_is P n c.allows-now.result c.table_of-table.result.now c.container.result.now.idle c.args.vote c.args.vote c.row-latency.result child (a + 1)
     c.allows-now.ensures c.table_of-table.ensures refl c.row-latency.ensures own in
-    let changed = count_changed P n vs k c.args.vote c.as_slice.result.now a c.changed.result c.allows-was.result c.allows-now.result c.requires.holds c.requires.place was count now c.changed.ensures in
+    let changed = count_changed P n vs k c.args.vote c.as_slice.result.now a c.changed.result c.allows-was.result c.allows-now.result c.requires.holds c.requires.place was count now c.changed.ensures
+    in
     let ks = c.loop-at.allowing in
     let rows : length ks ≡ length (rows_of (container_at P n).idle) = c.loop-at.invariant.rows in
     record {

@@ -1,7 +1,7 @@
 use Rattle.std.proofs.Common.{◌≡◌, length, sym}
 use Rattle.std.proofs.lemmas.List.{length-map}
 use Rattle.pw_base.specs.Seen.{files_seen}
-use Rattle.pw_blocks.specs.Held.{names_of}
+use Rattle.aml_block.specs.Held.{names_of}
 use Rattle.pw_load.specs.Lines.{blocks_line}
 use Rattle.pw_load.proofs.Stopping.{stops_loading}
 use Rattle.pw_load.proofs.loading.load.Goals as goal

@@ -1,5 +1,5 @@
 use Rattle.std.proofs.Common.{◌≡◌, codes, refl}
-use Rattle.pw_ends.specs.Ends.Stops.{refused, without_memory}
+use Rattle.pw_load.specs.Ends.Stops.{refused, without_memory}
 use Rattle.pw_load.specs.Lines.{twice_line}
 use Rattle.pw_load.proofs.placing.place.Goals as goal
 

@@ -9,4 +9,5 @@ pub loop-number-preserved : goal.loop-number-preserved
 loop-number-preserved c =
     rw c.in_ok-push.ensures.items (pushed_map c.loop-number.places.items (container_places c.args.children.now c.args.containers.now)
     c.loop-number.number (length c.args.containers.now) c.loop-number-test.true (container_place c.args.children.now c.args.containers.now)
-    c.child_place.result (c.child_place.ensures ∙ ap (λ (x : ContainerParts). child_place c.args.children.now x.parent (Container c.loop-number.number)) c.container_in.ensures) c.loop-number.invariant)
+    c.child_place.result (c.child_place.ensures ∙ ap (λ (x : ContainerParts). child_place c.args.children.now x.parent (Container c.loop-number.number)) c.container_in.ensures)
+    c.loop-number.invariant)

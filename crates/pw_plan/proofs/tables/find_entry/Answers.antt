@@ -8,7 +8,8 @@ use Rattle.pw_plan.proofs.tables.find_entry.Goals as goal
 pub returns-then-is_entry : goal.returns-then-is_entry
 returns-then-is_entry c =
     let place = c.place_of-place in
-    sym (ap (option_map as_dependency) (found_there c.args.table.now c.args.name c.requires place.result place.ensures.below place.ensures.above _ c.if-place-table.true (sym c.is_entry.ensures ∙ c.if-is_entry.true)))
+    sym (ap (option_map as_dependency) (found_there c.args.table.now c.args.name c.requires place.result place.ensures.below place.ensures.above _ c.if-place-table.true (sym c.is_entry.ensures
+    ∙ c.if-is_entry.true)))
 
 pub returns-else-is_entry : goal.returns-else-is_entry
 returns-else-is_entry c =

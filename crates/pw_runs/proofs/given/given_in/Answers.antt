@@ -1,6 +1,6 @@
 use Rattle.pw_base.specs.Seen.{files_seen}
-use Rattle.pw_blocks.specs.Held.{names_of}
-use Rattle.pw_ends.proofs.Outcomes.{stopped_within}
+use Rattle.aml_block.specs.Held.{names_of}
+use Rattle.pw_load.proofs.Outcomes.{stopped_within}
 use Rattle.pw_runs.proofs.Steps.{given_by, if_err, readying_within, scripting_within}
 use Rattle.pw_runs.proofs.given.given_in.Goals as goal
 

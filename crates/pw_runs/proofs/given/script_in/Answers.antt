@@ -1,6 +1,6 @@
 use Rattle.std.proofs.Common.{codes}
 use Rattle.pw_base.specs.Seen.{files_seen}
-use Rattle.pw_ends.specs.Ends.Stops.{unread}
+use Rattle.pw_load.specs.Ends.Stops.{unread}
 use Rattle.pw_runs.specs.Scripts.{script_line}
 use Rattle.pw_runs.proofs.Steps.{stops_scripting}
 use Rattle.pw_runs.proofs.given.script_in.Goals as goal

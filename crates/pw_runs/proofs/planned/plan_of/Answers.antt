@@ -1,4 +1,4 @@
-use Rattle.pw_ends.proofs.Outcomes.{stopped_within}
+use Rattle.pw_load.proofs.Outcomes.{stopped_within}
 use Rattle.pw_runs.proofs.Steps.{if_err, if_ok, placing_within, plan_by, planning_within}
 use Rattle.pw_runs.proofs.planned.plan_of.Goals as goal
 

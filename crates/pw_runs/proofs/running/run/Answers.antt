@@ -2,7 +2,7 @@ use Rattle.std.proofs.Common.{ap, codes}
 use Rattle.pw_regs.specs.Seen.{registers_seen}
 use Rattle.pw_script.specs.Reading.{requests_of}
 use Rattle.pw_script.proofs.Orders.{serial_lawful}
-use Rattle.pw_ends.proofs.Outcomes.{ended_as, ended_saying}
+use Rattle.pw_load.proofs.Outcomes.{ended_as, ended_saying}
 use Rattle.pw_runs.specs.Runs.{IsSerialRun}
 use Rattle.pw_runs.specs.inner.Parts.RunsSerially.{ran, undone}
 use Rattle.pw_runs.proofs.Histories.{entries_state}

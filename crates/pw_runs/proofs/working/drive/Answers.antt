@@ -1,9 +1,9 @@
 use Rattle.std.proofs.Common.{codes, refl}
 use Rattle.pw_base.specs.Seen.{files_seen}
-use Rattle.pw_blocks.specs.Held.{names_of}
-use Rattle.pw_ends.specs.Ends.Stops.{without_memory}
-use Rattle.pw_ends.specs.Seen.{all_seen}
-use Rattle.pw_ends.proofs.Outcomes.{ended_as, ended_saying}
+use Rattle.aml_block.specs.Held.{names_of}
+use Rattle.pw_load.specs.Ends.Stops.{without_memory}
+use Rattle.pw_load.specs.Seen.{all_seen}
+use Rattle.pw_load.proofs.Outcomes.{ended_as, ended_saying}
 use Rattle.pw_runs.specs.Workers.Drives.{stopped}
 use Rattle.pw_runs.proofs.Steps.{stops_working, works_drive}
 use Rattle.pw_runs.proofs.working.drive.Goals as goal

@@ -1,9 +1,9 @@
 use Rattle.std.proofs.Common.{◌≡◌, [], None, ap, codes, subst, sym, ◌∙◌}
-use Rattle.pw_ends.specs.Seen.{outputs_seen}
+use Rattle.pw_load.specs.Seen.{outputs_seen}
 use Rattle.pw_regs.specs.Seen.{registers_seen}
 use Rattle.pw_turns.specs.declared.close.Sealed.{Sealed}
-use Rattle.pw_workers.specs.Drives.{Runs}
-use Rattle.pw_ends.proofs.Outcomes.{ended_as, ended_saying}
+use Rattle.pw_drive.specs.Drives.{Runs}
+use Rattle.pw_load.proofs.Outcomes.{ended_as, ended_saying}
 use Rattle.pw_runs.specs.inner.Works.Works.{worked}
 use Rattle.pw_runs.proofs.Many.{seals_closed, seals_none}
 use Rattle.pw_runs.proofs.Steps.{works_none}

@@ -5,10 +5,13 @@ use Rattle.pw_script.proofs.Printed.{opened_text}
 use Rattle.pw_script.proofs.openings.put_opened.Goals as goal
 
 pub returns-in_err-put_open_line : goal.returns-in_err-put_open_line
-returns-in_err-put_open_line g c = PutsText-as _ (opened_text (op_line_by (text_at c.args.paths.now)) c.args.ops.now c.args.opening) (PutsText-stop _ c.from_residual.result c.from_residual.ensures.0 c.in_err-put_open_line.ensures)
+returns-in_err-put_open_line g c = PutsText-as _ (opened_text (op_line_by (text_at c.args.paths.now)) c.args.ops.now c.args.opening)
+    (PutsText-stop _ c.from_residual.result c.from_residual.ensures.0 c.in_err-put_open_line.ensures)
 
 pub returns-in_err-put : goal.returns-in_err-put
-returns-in_err-put g c = PutsText-as _ (opened_text (op_line_by (text_at c.args.paths.now)) c.args.ops.now c.args.opening) (PutsText-then c.in_ok-put_open_line.ensures (PutsText-stop _ c.from_residual-in_err-put.result c.from_residual-in_err-put.ensures.0 c.in_err-put.ensures))
+returns-in_err-put g c = PutsText-as _ (opened_text (op_line_by (text_at c.args.paths.now)) c.args.ops.now c.args.opening) (PutsText-then c.in_ok-put_open_line.ensures
+    (PutsText-stop _ c.from_residual-in_err-put.result c.from_residual-in_err-put.ensures.0 c.in_err-put.ensures))
 
 pub returns : goal.returns
-returns g c = PutsText-as _ (opened_text (op_line_by (text_at c.args.paths.now)) c.args.ops.now c.args.opening) (PutsText-then c.in_ok-put_open_line.ensures (PutsText-then c.in_ok-put.ensures (rw c.opened.ensures at c.put_ops.ensures)))
+returns g c = PutsText-as _ (opened_text (op_line_by (text_at c.args.paths.now)) c.args.ops.now c.args.opening) (PutsText-then c.in_ok-put_open_line.ensures
+    (PutsText-then c.in_ok-put.ensures (rw c.opened.ensures at c.put_ops.ensures)))

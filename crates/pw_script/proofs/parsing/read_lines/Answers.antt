@@ -22,7 +22,8 @@ loop-left-preserved g c =
     let w : wish_in P c.first_line.result.0.now ≡ Ok (Some c.in-Ok-Some.wish) = grind (arith, common_steps, c.in_ok-why.ensures.wish, c.in-Ok-Some.is, c.in-Ok-Some.field-0-is) in
     let is = c.in_ok-push-in-Ok-Some.ensures.items in
     record {
-      reads = reads_on P chooses moves (AreLines P chooses moves [] 1 (lines_of c.args.bytes.now)) items _ c.loop-left.number _ _ _ c.in-Ok-Some.wish q e w (c.request_of-request.ensures.asked (requests_of items) c.loop-left.invariant.state) is c.loop-left.invariant.reads;
+      reads = reads_on P chooses moves (AreLines P chooses moves [] 1 (lines_of c.args.bytes.now)) items _ c.loop-left.number _ _ _ c.in-Ok-Some.wish q e w
+          (c.request_of-request.ensures.asked (requests_of items) c.loop-left.invariant.state) is c.loop-left.invariant.reads;
       bad = rw add-one (sym (bad_past (wish_in P) (suc c.loop-left.number) _ _ _ (Some c.in-Ok-Some.wish) e w) ∙ c.loop-left.invariant.bad);
       room = omega arith;
       state = made_on P (opening P) c.loop-left.state c.apply.new.self items _ _ q is c.loop-left.invariant.state c.apply.ensures.after;

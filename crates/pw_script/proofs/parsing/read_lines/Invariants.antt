@@ -8,7 +8,8 @@ use Rattle.pw_script.proofs.parsing.read_lines.Given as goal
 
 abbrev pub invariant-loop-left : goal.invariant-loop-left
 invariant-loop-left g l = record {
-  reads : (more : List line) → AreLines l.plan (LawfullyChosen (goal.F-post g l.governor)) (AnsweredBy (goal.P-post g l.handlers.0) (goal.T-post g l.handlers.1)) (requests_of l.lines.items) (suc l.number) (lines_of l.left) more
+  reads : (more : List line) → AreLines l.plan (LawfullyChosen (goal.F-post g l.governor)) (AnsweredBy (goal.P-post g l.handlers.0) (goal.T-post g l.handlers.1)) (requests_of l.lines.items)
+      (suc l.number) (lines_of l.left) more
       → AreLines l.plan (LawfullyChosen (goal.F-post g l.governor)) (AnsweredBy (goal.P-post g l.handlers.0) (goal.T-post g l.handlers.1)) [] 1 (lines_of l.bytes) (l.lines.items ++ more);
   bad : first_bad l.plan (suc l.number) (lines_of l.left) ≡ first_bad l.plan 1 (lines_of l.bytes);
   room : l.number + length (lines_of l.left) ≡ length (lines_of l.bytes);

@@ -1,6 +1,6 @@
 use Rattle.std.proofs.Common.{inl}
 use Rattle.pw_words.specs.declared.command.Task.TheVariants.{Check}
-use Rattle.pw_ends.proofs.Outcomes.{did_stop, did_within}
+use Rattle.pw_load.proofs.Outcomes.{did_stop, did_within}
 use Rattle.pw_tasks.proofs.Parts.{checking_within, placing_within}
 use Rattle.pw_tasks.proofs.check.check.Goals as goal
 

@@ -1,7 +1,7 @@
 use Rattle.std.proofs.Common.{inl, refl}
 use Rattle.pw_words.specs.declared.command.Task.TheVariants.{ShowAsJson}
-use Rattle.pw_json.specs.Json.{json_text}
-use Rattle.pw_ends.proofs.Outcomes.{did_print, did_stop, did_within}
+use Rattle.pw_show.specs.Json.{json_text}
+use Rattle.pw_load.proofs.Outcomes.{did_print, did_stop, did_within}
 use Rattle.pw_tasks.specs.Tasks.{work_over}
 use Rattle.pw_tasks.proofs.Parts.{placing_within, shows_as_json}
 use Rattle.pw_tasks.proofs.json.show_as_json.Goals as goal

@@ -1,8 +1,8 @@
 use Rattle.std.proofs.Common.{◌∙◌, codes}
-use Rattle.pw_ends.specs.Ends.Stops.{without_memory}
-use Rattle.pw_ends.specs.Ends.Prints.{whole, unwritten}
-use Rattle.pw_ends.specs.Ends.Does.{stopped, printed}
-use Rattle.pw_ends.proofs.Outcomes.{ended_printing, ended_saying, ended_within}
+use Rattle.pw_load.specs.Ends.Stops.{without_memory}
+use Rattle.pw_load.specs.Ends.Prints.{whole, unwritten}
+use Rattle.pw_load.specs.Ends.Does.{stopped, printed}
+use Rattle.pw_load.proofs.Outcomes.{ended_printing, ended_saying, ended_within}
 use Rattle.pw_tasks.proofs.rewrite.rewrite.Goals as goal
 
 pub returns-in_default-clause-did : goal.returns-in_default-clause-did

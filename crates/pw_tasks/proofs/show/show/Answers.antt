@@ -1,7 +1,7 @@
 use Rattle.std.proofs.Common.{inr}
 use Rattle.pw_words.specs.declared.command.Task.TheVariants.{Show}
 use Rattle.pw_show.specs.Show.{show_text}
-use Rattle.pw_ends.proofs.Outcomes.{did_print, did_stop, did_within}
+use Rattle.pw_load.proofs.Outcomes.{did_print, did_stop, did_within}
 use Rattle.pw_tasks.specs.Tasks.{work_over}
 use Rattle.pw_tasks.proofs.Parts.{placing_within, shows}
 use Rattle.pw_tasks.proofs.show.show.Goals as goal

@@ -1,9 +1,9 @@
 use Rattle.std.proofs.Common.{codes}
 use Rattle.pw_base.specs.Seen.{files_seen}
-use Rattle.pw_blocks.specs.Held.{names_of}
-use Rattle.pw_ends.specs.Ends.Stops.{without_memory}
-use Rattle.pw_ends.specs.Ends.Does.{stopped}
-use Rattle.pw_ends.proofs.Outcomes.{did_stop, did_within, ended_saying}
+use Rattle.aml_block.specs.Held.{names_of}
+use Rattle.pw_load.specs.Ends.Stops.{without_memory}
+use Rattle.pw_load.specs.Ends.Does.{stopped}
+use Rattle.pw_load.proofs.Outcomes.{did_stop, did_within, ended_saying}
 use Rattle.pw_tasks.proofs.Parts.{loading_within, over_within}
 use Rattle.pw_tasks.proofs.tasks.do_on_blocks.Goals as goal
 

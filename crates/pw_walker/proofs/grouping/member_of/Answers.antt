@@ -1,6 +1,6 @@
 use Rattle.std.proofs.Common.{◌≡◌, arith, subst}
 use Rattle.pw_plan.specs.Places.{group_at}
-use Rattle.pw_parts.specs.Effects.{member_place}
+use Rattle.pw_model.specs.Effects.{member_place}
 use Rattle.pw_walker.proofs.Groups.{member_few}
 use Rattle.pw_walker.proofs.grouping.member_of.Goals as goal
 

@@ -1,10 +1,10 @@
 use Rattle.std.proofs.Common.{◌<◌, ◌∙◌, ap, length, refl, subst, sym}
 use Rattle.pw_plan.specs.Places.{group_at, group_of}
 use Rattle.pw_plan.specs.Requests.{cpu_of}
-use Rattle.pw_parts.specs.Calls.{with_state}
-use Rattle.pw_parts.specs.Effects.{member_place}
+use Rattle.pw_model.specs.Calls.{with_state}
+use Rattle.pw_model.specs.Effects.{member_place}
 use Rattle.pw_domain.specs.Groups.{group_part}
-use Rattle.pw_walk.specs.Standing.{own_vote}
+use Rattle.pw_machine.specs.Standing.{own_vote}
 use Rattle.pw_walker.specs.Records.{IsGroup}
 use Rattle.pw_walker.proofs.Beginnings.{at_group}
 use Rattle.pw_walker.proofs.Groups.{left_is, member_below}

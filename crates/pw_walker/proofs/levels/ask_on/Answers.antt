@@ -1,6 +1,6 @@
 use Rattle.std.proofs.Common.{◌<◌, ◌≤◌, ap, sym, subst, ◌∙◌}
 use Rattle.pw_domain.specs.Domains.{domain_part}
-use Rattle.pw_parts.specs.Calls.{own_limit}
+use Rattle.pw_model.specs.Calls.{own_limit}
 use Rattle.pw_walker.proofs.Members.{asked_index, asked_ops, place_within, with_ops}
 use Rattle.pw_walker.proofs.levels.ask_on.Goals as goal
 

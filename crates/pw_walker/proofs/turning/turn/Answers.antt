@@ -1,6 +1,6 @@
 use Rattle.std.proofs.Common.{◌∙◌, arith}
 use Rattle.pw_idle.specs.Nodes.{node_part}
-use Rattle.pw_parts.specs.Effects.{votes_in, votes_with}
+use Rattle.pw_model.specs.Effects.{votes_in, votes_with}
 use Rattle.pw_walker.proofs.Children.{child_fits, child_small, child_voted, child_within, voted_is}
 use Rattle.pw_walker.proofs.turning.turn.Goals as goal
 

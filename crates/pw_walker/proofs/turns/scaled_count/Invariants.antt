@@ -1,5 +1,5 @@
 use Rattle.std.proofs.Common.{◌-◌, ◌≤◌, length}
-use Rattle.pw_parts.specs.Records.{scaled_count}
+use Rattle.pw_model.specs.Records.{scaled_count}
 use Rattle.pw_walker.proofs.turns.scaled_count.Given as goal
 
 abbrev pub invariant-loop-low : goal.invariant-loop-low

@@ -23,7 +23,8 @@ returns-clause-done c before stands =
     let old = c.args.self.now in
     let place = get_or old.tree c.args.start [] ++ c.args.segs.now in
     let name = c.in_ok-name.name in
-    let free = none_there (told_at old.index.items name) (ap is_some (ap (λ l. told_at l name) (sym c.as_slice.ensures.value) ∙ sym c.number_at.ensures) ∙ sym c.is_some.ensures ∙ c.if-is_some.false) in
+    let free = none_there (told_at old.index.items name) (ap is_some (ap (λ l. told_at l name) (sym c.as_slice.ensures.value) ∙ sym c.number_at.ensures) ∙ sym c.is_some.ensures ∙ c.if-is_some.false)
+    in
     let count = c.len-index.ensures ∙ old.placed.ok.0 in
     let noted = subst (λ n. IsNoted old.index.items c.note.new.index.items name n) count c.in_ok-note.ensures in
     rw (c.in_ok-push.ensures.items, count)

@@ -2,7 +2,7 @@ use Rattle.std.proofs.Common.{◌≡◌, ◌<◌, ◌++◌, [], List, length, ta
 use Rattle.std.specs.Option.{unwrap_or}
 use Rattle.std.proofs.lemmas.Result.{err_from_is_err_and}
 use Rattle.aml_data.specs.declared.data.Width.{Width}
-use Rattle.aml_terms.specs.declared.term.Term.{Term}
+use Rattle.aml_block.specs.declared.term.Term.{Term}
 use Rattle.aml_block.specs.declared.block.Block.{Block}
 use Rattle.acpi_space.specs.Places.{Place}
 use Rattle.acpi_space.specs.Steps.{Step, in_order, steps_in}

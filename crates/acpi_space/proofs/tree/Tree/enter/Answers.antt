@@ -46,7 +46,8 @@ invariant_of-self-in-Err c =
     let count = c.self.inside.names.ok.0 in
     let pushed = c.in_ok-push.ensures.len in
     same_map ns c.pop-in-Err.new.self.items c.self.inside.numbers c.tell.new.map c.self.invariant
-    (popped ns c.push.new.self.items c.pop-in-Err.new.self.items c.next_name-name.result (vec_len c.push.new.self - 1) (omega (arith, count, pushed)) c.in_ok-push.ensures.items c.pop-in-Err.ensures.rest)
+    (popped ns c.push.new.self.items c.pop-in-Err.new.self.items c.next_name-name.result (vec_len c.push.new.self - 1) (omega (arith, count, pushed)) c.in_ok-push.ensures.items
+    c.pop-in-Err.ensures.rest)
     c.in-Err.ensures.err
 
 pub returns-in-Ok-None : goal.returns-in-Ok-None
@@ -71,9 +72,11 @@ returns-in-Ok-Some c =
     let place = below now c.args.at c.args.seg in
     let count = c.self.inside.names.ok.0 in
     let pushed = c.in_ok-push.ensures.len in
-    let left = popped ns c.push.new.self.items c.pop.new.self.items c.next_name-name.result (vec_len c.push.new.self - 1) (omega (arith, count, pushed)) c.in_ok-push.ensures.items c.pop.ensures.rest in
+    let left = popped ns c.push.new.self.items c.pop.new.self.items c.next_name-name.result (vec_len c.push.new.self - 1) (omega (arith, count, pushed)) c.in_ok-push.ensures.items c.pop.ensures.rest
+    in
     subst (λ places. Reaches now places c.in-Ok-Some.known place) (sym (ap places_in left ∙ c.self.view_is))
-    (reached_there now c.in-Ok-Some.known place (child_answer ns c.self.inside.numbers c.args.at c.args.seg now c.self.invariant c.self.view_is c.requires (Some c.in-Ok-Some.known) (sym (subst (IsTold c.self.inside.numbers c.tell.new.map (key c.args.seg c.args.at) c.len-number.result) c.in-Ok-Some.field-0-is c.in-Ok-Some.ensures.told).0)))
+    (reached_there now c.in-Ok-Some.known place (child_answer ns c.self.inside.numbers c.args.at c.args.seg now c.self.invariant c.self.view_is c.requires (Some c.in-Ok-Some.known)
+    (sym (subst (IsTold c.self.inside.numbers c.tell.new.map (key c.args.seg c.args.at) c.len-number.result) c.in-Ok-Some.field-0-is c.in-Ok-Some.ensures.told).0)))
 
 pub next_name-name-requires-clause-within : goal.next_name-name-requires-clause-within
 next_name-name-requires-clause-within c =
@@ -86,4 +89,5 @@ next_name-name-requires-clause-within c =
 pub next_name-name-requires-clause-small : goal.next_name-name-requires-clause-small
 next_name-name-requires-clause-small c =
     subst (λ names. length (get_or (places_in names) c.args.at []) ≤ c.args.at) (sym c.as_slice.ensures.value)
-    (subst (λ t. length (get_or t c.args.at []) ≤ c.args.at) (sym c.self.view_is) (short c.self.inside.names.items c.self.inside.numbers c.args.self.now c.args.at c.self.invariant c.self.view_is c.requires))
+    (subst (λ t. length (get_or t c.args.at []) ≤ c.args.at) (sym c.self.view_is) (short c.self.inside.names.items c.self.inside.numbers c.args.self.now c.args.at c.self.invariant c.self.view_is
+    c.requires))

@@ -73,7 +73,8 @@ close_spec 𝓤 𝓛 𝓜 𝓡 wired T A LT LA g d dd met md =
     let t = g.dealloc_token x.heap in
     let First : Type 0 = (r.ptr ≡ x.ptr +ₚ 8) × (n ≡ x.len) in
     let Second : Type 0 = Filled r.filled 0 n in
-    qed 𝓛 (((‵ (flft κT qT) ⊛ ‵ (flft κA z.0.1.1.0) ⊛ ‵ ftrue) ⊛ ‵ (owns (types_at ps z.0.0) a vss)) ∷ (raw (fact 𝓤 (κT ⊑ T.lives)) ⊛ raw (fact 𝓤 (κA ⊑ A.lives)) ⊛ raw (fact 𝓤 First) ⊛ raw (fact 𝓤 Second)) ∷ []) ∵
+    qed 𝓛 (((‵ (flft κT qT) ⊛ ‵ (flft κA z.0.1.1.0) ⊛ ‵ ftrue) ⊛ ‵ (owns (types_at ps z.0.0) a vss))
+    ∷ (raw (fact 𝓤 (κT ⊑ T.lives)) ⊛ raw (fact 𝓤 (κA ⊑ A.lives)) ⊛ raw (fact 𝓤 First) ⊛ raw (fact 𝓤 Second)) ∷ []) ∵
     move ! (1 ∷ []) $ split3 ! $ heard ! (κT ⊑ T.lives) (λ le. drop ! $ split ! $ heard ! First (λ asked. heard ! Second (λ full. split ! $ split ! $ move ! (2 ∷ []) $ fsplit ! $ fsplit ! $ drop ! $
     move ! (1 ∷ []) $ fsplit ! $ move ! (1 ∷ []) $ drop ! $ move ! (1 ∷ []) $ rewrite ! 0 (λ (k : ℕ). ‵ (open_owns t R x.ptr k)) (sym asked.1) refl $
     fit_out R x.ptr n ! (fsep (room_for (ty_int w64) x.ptr) (way_back R x.ptr n t)) (λ small low.
@@ -91,7 +92,8 @@ close_spec 𝓤 𝓛 𝓜 𝓡 wired T A LT LA g d dd met md =
     first ! $ blocks ! $ sets ! (of_opd ! (get ! refl)) refl (tt, (tt, (record { fits = fn' }, tt))) $ move ! (0 ∷ 3 ∷ []) $
     use2 𝓛 (raw ((Into E 𝓛 𝓜.mem 𝓡.returns).pre y)) (Into-goes E 𝓛 𝓜.mem 𝓡.returns κT qT r b (o + 8) le) $
     calls_at_last ! (fm 𝓛 𝓜 𝓡) (Into E 𝓛 𝓜.mem 𝓡.returns) (callee.met 𝓤 𝓛 𝓜 𝓡 (compiled.calls-core::slots::Slots::into_raw_parts 𝓡.env wired) T LT) y (and_then ! (get ! refl) (no_more !)) (λ v.
-    use1 𝓛 (later (given (v ≡ row_val b (o + 8) n) (‵ (all E b (o + 8) xs r.filled) ⊛ ‵ (flft κT qT)))) (Into-gives E 𝓛 𝓜.mem 𝓡.returns κT qT r b (o + 8) v there) $ await ! tt $ learn ! (λ is. split ! $
+    use1 𝓛 (later (given (v ≡ row_val b (o + 8) n) (‵ (all E b (o + 8) xs r.filled) ⊛ ‵ (flft κT qT)))) (Into-gives E 𝓛 𝓜.mem 𝓡.returns κT qT r b (o + 8) v there) $ await ! tt $ learn !
+    (λ is. split ! $
     regoal ! (λ (u : Val). settles En (place 8 []) u (out_of_block 𝓛 (then_runs 𝓛 C Λ En (after 1 fn.body) (at_ret En Post)))) (is) refl $
     lands_last ! refl (tt, (tt, (record { fits = fn' }, tt))) $ exec ! C Λ En (after 1 fn.body) (at_ret En Post) $
     sets ! (of_opd ! (get ! refl)) refl (tt, (tt, (record { fits = fn' }, tt))) $

@@ -87,7 +87,8 @@ empty_spec 𝓤 𝓛 𝓜 𝓡 wired T A LT LA g d dd met md =
     first ! $ blocks ! $ sets ! (of_opd ! (get ! refl)) refl (tt, (tt, (record { fits = fn' }, tt))) $ move ! (0 ∷ 3 ∷ []) $
     use2 𝓛 (raw ((Into E 𝓛 𝓜.mem 𝓡.returns).pre y)) (Into-goes E 𝓛 𝓜.mem 𝓡.returns κT qT r b (o + 8) le) $
     calls_at_last ! (fm 𝓛 𝓜 𝓡) (Into E 𝓛 𝓜.mem 𝓡.returns) (callee.met 𝓤 𝓛 𝓜 𝓡 (compiled.calls-core::slots::Slots::into_raw_parts 𝓡.env wired) T LT) y (and_then ! (get ! refl) (no_more !)) (λ v.
-    use1 𝓛 (later (given (v ≡ row_val b (o + 8) n) (‵ (all E b (o + 8) xs r.filled) ⊛ ‵ (flft κT qT)))) (Into-gives E 𝓛 𝓜.mem 𝓡.returns κT qT r b (o + 8) v there) $ await ! tt $ learn ! (λ is. split ! $
+    use1 𝓛 (later (given (v ≡ row_val b (o + 8) n) (‵ (all E b (o + 8) xs r.filled) ⊛ ‵ (flft κT qT)))) (Into-gives E 𝓛 𝓜.mem 𝓡.returns κT qT r b (o + 8) v there) $ await ! tt $ learn !
+    (λ is. split ! $
     regoal ! (λ (u : Val). settles En (place 6 []) u (out_of_block 𝓛 (then_runs 𝓛 C Λ En (after 1 fn.body) (at_ret En Post)))) (is) refl $
     lands_last ! refl (tt, (tt, (record { fits = fn' }, tt))) $ exec ! C Λ En (after 1 fn.body) (at_ret En Post) $
     sets ! (of_opd ! (get ! refl)) refl (tt, (tt, (record { fits = fn' }, tt))) $

@@ -45,7 +45,17 @@ free_spec 𝓤 𝓛 𝓜 𝓡 wired T A LT LA g d dd met md =
     let hs : Stays ps En₀.kept = (stay_dropped (slot_at 0 ps) En₀.kept.0, (stay_dropped (slot_at 1 ps) En₀.kept.1.0, (stay_dropped (slot_at 2 ps) En₀.kept.1.1.0, tt))) in
     let C = (tables 𝓤 H 𝓜 𝓡 𝓡.env).C in
     let Λ = (tables 𝓤 H 𝓜 𝓡 𝓡.env).Λ in
-    proved_at 𝓛 En₀ hs c 𝓜 𝓡 (Goes-blank 𝓛 3 (slot_at 0 ps) En₀.kept.0 (λ κs x f. tt), (Goes-dropped 𝓛 3 (slot_at 1 ps) En₀.kept.1.0 (λ κs x f. refl), (Goes-dropped 𝓛 3 (slot_at 2 ps) En₀.kept.1.1.0 (λ κs x f. refl), tt)))
+    proved_at 𝓛 En₀ hs c 𝓜 𝓡 (
+      Goes-blank 𝓛 3 (slot_at 0 ps) En₀.kept.0 (λ κs x f. tt),
+      (
+        Goes-dropped 𝓛 3 (slot_at 1 ps) En₀.kept.1.0 (λ κs x f. refl),
+        (
+          Goes-dropped 𝓛 3 (slot_at 2 ps) En₀.kept.1.1.0
+              (λ κs x f. refl),
+          tt,
+        ),
+      ),
+    )
     (#self args) fn (compiled.unfolded 𝓤 H 𝓜 𝓡 wired (T, (A, tt)) d dd) (λ z are.
     let Post : Val → SProp 𝓤 = (walk_of 𝓛 En₀ hs c).post z in
     let a = z.0.3 in
@@ -65,7 +75,8 @@ free_spec 𝓤 𝓛 𝓜 𝓡 wired T A LT LA g d dd met md =
     let t = g.dealloc_token h in
     let told = owner_told x.ptr vss.0 are.0.0 in
     let Asked : Type 0 = (x.heap ≡ h) × (m ≡ block_bytes R n) in
-    qed 𝓛 (((‵ (flft κ q) ⊛ ‵ (flft z.0.0.1.0 z.0.1.1.0) ⊛ ‵ (flft κA z.0.1.1.1.0) ⊛ ‵ ftrue) ⊛ ‵ (owns (types_at ps z.0.0) a vss)) ∷ (raw (fact 𝓤 (z.0.0.1.0 ⊑ T.lives)) ⊛ raw (fact 𝓤 (κA ⊑ A.lives)) ⊛ raw (fact 𝓤 Asked)) ∷ []) ∵
+    qed 𝓛 (((‵ (flft κ q) ⊛ ‵ (flft z.0.0.1.0 z.0.1.1.0) ⊛ ‵ (flft κA z.0.1.1.1.0) ⊛ ‵ ftrue) ⊛ ‵ (owns (types_at ps z.0.0) a vss))
+    ∷ (raw (fact 𝓤 (z.0.0.1.0 ⊑ T.lives)) ⊛ raw (fact 𝓤 (κA ⊑ A.lives)) ⊛ raw (fact 𝓤 Asked)) ∷ []) ∵
     move ! (1 ∷ []) $ split3 ! $ drop ! $ heard ! (κA ⊑ A.lives) (λ le. heard ! Asked (λ asked. split ! $ split ! $ move ! (2 ∷ []) $
     fsplit ! $ fsplit ! $ drop ! $ rewrite ! 0 (λ (u : A.Denot). ‵ (space_owns (g.dealloc_token u) R x.ptr n)) asked.0 refl $
     fit_out R x.ptr n ! (fsep (room_for τ x.ptr) (t τ x.ptr)) (λ small low.

@@ -74,7 +74,8 @@ open_spec 𝓤 𝓛 𝓜 𝓡 wired T A LT LA g d dd met md =
     let fs : List Bool = replicate n false in
     let First : Type 0 = x.len ≡ n in
     let t = g.dealloc_token x.heap in
-    qed 𝓛 (((‵ (flft z.0.0.0 z.0.1.0) ⊛ ‵ (flft κT qT) ⊛ ‵ (flft κA z.0.1.1.1.0) ⊛ ‵ ftrue) ⊛ ‵ (owns (types_at ps z.0.0) a vss)) ∷ (raw (fact 𝓤 (κT ⊑ T.lives)) ⊛ raw (fact 𝓤 (κA ⊑ A.lives)) ⊛ raw (fact 𝓤 First)) ∷ []) ∵
+    qed 𝓛 (((‵ (flft z.0.0.0 z.0.1.0) ⊛ ‵ (flft κT qT) ⊛ ‵ (flft κA z.0.1.1.1.0) ⊛ ‵ ftrue) ⊛ ‵ (owns (types_at ps z.0.0) a vss))
+    ∷ (raw (fact 𝓤 (κT ⊑ T.lives)) ⊛ raw (fact 𝓤 (κA ⊑ A.lives)) ⊛ raw (fact 𝓤 First)) ∷ []) ∵
     move ! (1 ∷ []) $ split3 ! $ heard ! (κT ⊑ T.lives) (λ le. drop ! $ heard ! First (λ long. split ! $ split3 ! $ move ! (3 ∷ []) $ fsplit ! $ fsplit ! $ drop ! $
     keep ! (0 ∷ 2 ∷ 3 ∷ 4 ∷ []) $ rewrite ! 0 (λ (k : ℕ). ‵ (space_owns t R x.ptr k)) long refl $
     fit_out R x.ptr n ! (fsep (room_for (block_type R n) x.ptr) (t (block_type R n) x.ptr)) (λ small low.
@@ -99,11 +100,14 @@ open_spec 𝓤 𝓛 𝓜 𝓡 wired T A LT LA g d dd met md =
     -- [the places; the count's room; the way back; the right to free; the tokens]
     move ! (0 ∷ 5 ∷ []) $
     use2 𝓛 (raw ((From E 𝓛 𝓜.mem 𝓡.returns).pre y)) (from_goes E 𝓛 𝓜.mem 𝓡.returns κT qT b (o + 8) n xs fs le refl (sym (length-replicate n false)) fn' (omega arith)) $
-    calls_at_last ! (fm 𝓛 𝓜 𝓡) (From E 𝓛 𝓜.mem 𝓡.returns) (callee.met 𝓤 𝓛 𝓜 𝓡 (compiled.calls-core::slots::Slots::from_raw_parts 𝓡.env wired) T LT) y (and_then ! (get ! refl) (and_then ! (get ! refl) (no_more !))) (λ v.
-    use1 𝓛 (later (some (λ (r : (Row E).Denot). given ((v ≡ row_val b (o + 8) n) × Made E 𝓛 𝓜.mem 𝓡.returns κT qT b (o + 8) n xs fs r) (‵ ((Row E).own_val r (row_val b (o + 8) n ∷ [])) ⊛ ‵ (flft κT qT))))) (from_gives E 𝓛 𝓜.mem 𝓡.returns κT qT b (o + 8) n xs fs v) $
+    calls_at_last ! (fm 𝓛 𝓜 𝓡) (From E 𝓛 𝓜.mem 𝓡.returns) (callee.met 𝓤 𝓛 𝓜 𝓡 (compiled.calls-core::slots::Slots::from_raw_parts 𝓡.env wired) T LT) y
+    (and_then ! (get ! refl) (and_then ! (get ! refl) (no_more !))) (λ v.
+    use1 𝓛 (later (some (λ (r : (Row E).Denot). given ((v ≡ row_val b (o + 8) n)
+    × Made E 𝓛 𝓜.mem 𝓡.returns κT qT b (o + 8) n xs fs r) (‵ ((Row E).own_val r (row_val b (o + 8) n ∷ [])) ⊛ ‵ (flft κT qT))))) (from_gives E 𝓛 𝓜.mem 𝓡.returns κT qT b (o + 8) n xs fs v) $
     await ! tt $ pick ! (λ r. learn ! (λ made. split ! $ regoal ! (λ (u : Val). settles En (place 11 []) u (out_of_block 𝓛 (then_runs 𝓛 C Λ En (after 6 fn.body) (at_ret En Post)))) (made.0) refl $
     lands_last ! refl (tt, (tt, (record { fits = fn' }, tt))) $ exec ! C Λ En (after 6 fn.body) (at_ret En Post) $
-    sets ! (of_opd ! (get ! refl)) refl (tt, (tt, (record { fits = fn' }, tt))) $ sets ! (of_opd ! (get ! refl)) refl (tt, (tt, (record { fits = fn' }, tt))) $ sets ! (of_opd ! (get ! refl)) refl (tt, tt) $ sets ! (of_opd ! (get ! refl)) refl (tt, tt) $
+    sets ! (of_opd ! (get ! refl)) refl (tt, (tt, (record { fits = fn' }, tt))) $ sets ! (of_opd ! (get ! refl)) refl (tt, (tt, (record { fits = fn' }, tt))) $ sets ! (of_opd ! (get ! refl)) refl
+    (tt, tt) $ sets ! (of_opd ! (get ! refl)) refl (tt, tt) $
     sets ! (agg ! (and_then ! (get ! refl) (and_then ! (get ! refl) (no_more !)))) refl (tt, (tt, (tt, tt))) $
     sets ! (agg ! (and_then ! (get ! refl) (and_then ! (get ! refl) (no_more !)))) refl (tt, ((tt, (record { fits = fn' }, tt)), ((tt, (tt, tt)), tt))) $
     returns ! (look_at ! 0 refl) $ free_all ! refl $

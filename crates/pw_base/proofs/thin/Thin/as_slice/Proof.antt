@@ -61,7 +61,8 @@ as_slice_spec 𝓤 𝓛 𝓜 𝓡 wired T A LT LA g d dd met md =
     let xs : List T.Denot = x.items in
     let n : ℕ = length xs in
     let no_block : ent 𝓤 (sem 𝓛 (thin_shares R null_ptr xs κ)) (never 𝓤) = qed 𝓛 (‵ (thin_shares R null_ptr xs κ) ∷ []) ∵ fsplit ! $ drop ! $ fsplit ! $ fsplit ! $ keep ! (0 ∷ []) $ done ! in
-    qed 𝓛 (((‵ (flft κ q) ⊛ ‵ (flft z.0.0.1.0 z.0.1.1.0) ⊛ ‵ (flft z.0.0.1.1.0 z.0.1.1.1.0) ⊛ ‵ ftrue) ⊛ ‵ (owns (types_at ps z.0.0) a vss)) ∷ (raw (fact 𝓤 (z.0.0.1.0 ⊑ T.lives)) ⊛ raw (fact 𝓤 (z.0.0.1.1.0 ⊑ A.lives)) ⊛ ‵ ftrue) ∷ []) ∵
+    qed 𝓛 (((‵ (flft κ q) ⊛ ‵ (flft z.0.0.1.0 z.0.1.1.0) ⊛ ‵ (flft z.0.0.1.1.0 z.0.1.1.1.0) ⊛ ‵ ftrue) ⊛ ‵ (owns (types_at ps z.0.0) a vss))
+    ∷ (raw (fact 𝓤 (z.0.0.1.0 ⊑ T.lives)) ⊛ raw (fact 𝓤 (z.0.0.1.1.0 ⊑ A.lives)) ⊛ ‵ ftrue) ∷ []) ∵
     split ! $ split ! $ move ! (2 ∷ []) $ fsplit ! $ fsplit ! $ keep ! (1 ∷ 3 ∷ 4 ∷ []) $
     unhide ! $ fsplit ! $ fsplit ! $ fsplit ! $ hide ! $ keep ! (0 ∷ 3 ∷ 4 ∷ 5 ∷ []) $ move ! (1 ∷ []) $
     in_a_block ! x.ptr (λ p. thin_shares R p xs κ) no_block (λ b o at. let p : Ptr = block_ptr b o in
@@ -75,7 +76,8 @@ as_slice_spec 𝓤 𝓛 𝓜 𝓡 wired T A LT LA g d dd met md =
     sets ! (of_opd ! (load ! (through ! refl (fld ! refl (stop !))) (look ! 0 refl))) refl (tt, tt) $ pointer_out ! tt b o rb (ro + 0) $
     move ! (2 ∷ 0 ∷ []) $ first ! $ blocks ! $ word_in ! tt n b o (λ q₂ fn'.
     sets ! (of_opd ! (load ! (through ! refl (stop !)) (look ! 0 refl))) refl (tt, record { fits = fn' }) $ word_out ! tt n b o fn' $
-    sets ! (of_opd ! (get ! refl)) refl (tt, tt) $ sets ! (is ! (bin ! (get ! refl) (lit ! tt) tt) (ap (vptr b) {y = o + 8} (omega arith))) refl (tt, tt) $ sets ! (of_opd ! (get ! refl)) refl (tt, tt) $
+    sets ! (of_opd ! (get ! refl)) refl (tt, tt) $ sets ! (is ! (bin ! (get ! refl) (lit ! tt) tt) (ap (vptr b) {y = o + 8} (omega arith))) refl (tt, tt) $ sets ! (of_opd ! (get ! refl)) refl
+    (tt, tt) $
     sets_last ! (agg ! (and_then ! (get ! refl) (and_then ! (get ! refl) (no_more !)))) refl (tt, (tt, (record { fits = fn' }, tt))) $
     exec ! C Λ En (after 2 fn.body) (at_ret En Post) $ sets ! (of_opd ! (get ! refl)) refl (tt, (tt, (record { fits = fn' }, tt))) $
     returns ! (look_at ! 0 refl) $ free_all ! refl $

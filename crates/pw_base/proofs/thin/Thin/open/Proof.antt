@@ -78,7 +78,8 @@ open_spec 𝓤 𝓛 𝓜 𝓡 wired T A LT LA g d dd met md =
     let t = g.dealloc_token x.heap in
     let Held : Ptr → Fml = λ p. fsep (lies_at usize full_share p n) (lies_at (Array R n) full_share (p +ₚ 8) xs) in
     let Back : Ptr → Fml = λ p. way_back R p n t in
-    let no_block : ent 𝓤 (sem 𝓛 (fsep (Held null_ptr) (Back null_ptr))) (never 𝓤) = via 𝓤 (sem 𝓛 (Held null_ptr)) (fst∗ 𝓤 (sem 𝓛 (Held null_ptr)) (sem 𝓛 (Back null_ptr))) (fst∗ 𝓤 (never 𝓤) (sem 𝓛 ffalse)) in
+    let no_block : ent 𝓤 (sem 𝓛 (fsep (Held null_ptr) (Back null_ptr))) (never 𝓤) = via 𝓤 (sem 𝓛 (Held null_ptr)) (fst∗ 𝓤 (sem 𝓛 (Held null_ptr)) (sem 𝓛 (Back null_ptr)))
+    (fst∗ 𝓤 (never 𝓤) (sem 𝓛 ffalse)) in
     qed 𝓛 (((‵ (flft κT qT) ⊛ ‵ (flft κA z.0.1.1.0) ⊛ ‵ ftrue) ⊛ ‵ (owns (types_at ps z.0.0) a vss)) ∷ (raw (fact 𝓤 (κT ⊑ T.lives)) ⊛ raw (fact 𝓤 (κA ⊑ A.lives)) ⊛ ‵ ftrue) ∷ []) ∵
     move ! (1 ∷ []) $ split3 ! $ heard ! (κT ⊑ T.lives) (λ le. drop ! $ drop ! $ split ! $ split ! $ move ! (2 ∷ []) $ fsplit ! $ fsplit ! $ drop ! $ move ! (1 ∷ []) $ drop ! $
     fit_out R x.ptr n ! (fsep (Held x.ptr) (Back x.ptr)) (λ small low.
@@ -102,8 +103,10 @@ open_spec 𝓤 𝓛 𝓜 𝓡 wired T A LT LA g d dd met md =
     first ! $ blocks ! $ sets ! (of_opd ! (get ! refl)) refl (tt, tt) $ sets ! (of_opd ! (get ! refl)) refl (tt, record { fits = fn' }) $
     move ! (0 ∷ 3 ∷ []) $
     use2 𝓛 (raw ((From E 𝓛 𝓜.mem 𝓡.returns).pre y)) (from_goes E 𝓛 𝓜.mem 𝓡.returns κT qT b (o + 8) n xs fs le refl (sym (length-replicate n true)) fn' (omega arith)) $
-    calls_at_last ! (fm 𝓛 𝓜 𝓡) (From E 𝓛 𝓜.mem 𝓡.returns) (callee.met 𝓤 𝓛 𝓜 𝓡 (compiled.calls-core::slots::Slots::from_raw_parts 𝓡.env wired) T LT) y (and_then ! (get ! refl) (and_then ! (get ! refl) (no_more !))) (λ v.
-    use1 𝓛 (later (some (λ (r : (Row E).Denot). given ((v ≡ row_val b (o + 8) n) × Made E 𝓛 𝓜.mem 𝓡.returns κT qT b (o + 8) n xs fs r) (‵ ((Row E).own_val r (row_val b (o + 8) n ∷ [])) ⊛ ‵ (flft κT qT))))) (from_gives E 𝓛 𝓜.mem 𝓡.returns κT qT b (o + 8) n xs fs v) $
+    calls_at_last ! (fm 𝓛 𝓜 𝓡) (From E 𝓛 𝓜.mem 𝓡.returns) (callee.met 𝓤 𝓛 𝓜 𝓡 (compiled.calls-core::slots::Slots::from_raw_parts 𝓡.env wired) T LT) y
+    (and_then ! (get ! refl) (and_then ! (get ! refl) (no_more !))) (λ v.
+    use1 𝓛 (later (some (λ (r : (Row E).Denot). given ((v ≡ row_val b (o + 8) n)
+    × Made E 𝓛 𝓜.mem 𝓡.returns κT qT b (o + 8) n xs fs r) (‵ ((Row E).own_val r (row_val b (o + 8) n ∷ [])) ⊛ ‵ (flft κT qT))))) (from_gives E 𝓛 𝓜.mem 𝓡.returns κT qT b (o + 8) n xs fs v) $
     await ! tt $ pick ! (λ r. learn ! (λ made. split ! $ regoal ! (λ (u : Val). settles En (place 13 []) u (out_of_block 𝓛 (then_runs 𝓛 C Λ En (after 8 fn.body) (at_ret En Post)))) (made.0) refl $
     lands_last ! refl (tt, (tt, (record { fits = fn' }, tt))) $ exec ! C Λ En (after 8 fn.body) (at_ret En Post) $
     sets ! (of_opd ! (get ! refl)) refl (tt, (tt, (record { fits = fn' }, tt))) $ sets ! (of_opd ! (get ! refl)) refl (tt, (tt, (record { fits = fn' }, tt))) $

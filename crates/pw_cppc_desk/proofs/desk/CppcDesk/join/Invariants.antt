@@ -1,5 +1,5 @@
 use Rattle.std.proofs.Common.{Some}
-use Rattle.pw_cppc_rule.specs.Rule.{given_of}
+use Rattle.pw_cppc_desk.specs.Rule.{given_of}
 use Rattle.pw_cppc_desk.specs.Asked.{no_entry}
 use Rattle.pw_cppc_desk.proofs.desk.CppcDesk.join.Given as goal
 

@@ -1,6 +1,6 @@
 use Rattle.std.proofs.Common.{◌≡◌, get_or, set, ap, ◌∙◌}
 use Rattle.pw_plan.specs.declared.domain.Group.{Group}
-use Rattle.pw_parts.specs.Effects.{enter_c}
+use Rattle.pw_model.specs.Effects.{enter_c}
 use Rattle.pw_plan.specs.Places.{group_at}
 use Rattle.pw_domain.proofs.Groups.{c_state_le, drawn_room, states_set}
 use Rattle.pw_domain.proofs.group.GroupRec.vote_ops.Goals as goal

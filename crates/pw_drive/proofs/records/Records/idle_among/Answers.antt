@@ -4,7 +4,7 @@ use Rattle.pw_model.specs.Answers.{chain_of}
 use Rattle.acpi_values.specs.declared.operation.Chain.{Chain}
 use Rattle.acpi_values.specs.declared.operation.Op.{Op}
 use Rattle.pw_plan.specs.Places.{group_of}
-use Rattle.pw_parts.specs.Effects.{idle_effect}
+use Rattle.pw_model.specs.Effects.{idle_effect}
 use Rattle.pw_walker.specs.Records.{IsGroup}
 use Rattle.pw_drive.specs.Keeping.{part_in}
 use Rattle.pw_drive.proofs.Grouped.{group_is, group_small, grouped_ops, grouped_reply, member_fits, member_within, ops_are, serves_group, state_is, takes_are}

@@ -2,8 +2,8 @@ use Rattle.std.proofs.Common.{◌≡◌, ◌∷◌, [], ap, arith, refl, set, su
 use Rattle.pw_plan.specs.Places.{domain_of}
 use Rattle.pw_domain.specs.Domains.{domain_part}
 use Rattle.pw_domain.specs.declared.domain.DomainRec.{DomainRec}
-use Rattle.pw_parts.specs.Effects.{limit_effect}
-use Rattle.pw_parts.specs.Records.{domain}
+use Rattle.pw_model.specs.Effects.{limit_effect}
+use Rattle.pw_model.specs.Records.{domain}
 use Rattle.pw_drive.specs.Keeping.{domain_in}
 use Rattle.pw_walker.proofs.Members.{member_small, scaled_exists, with_ops}
 use Rattle.pw_drive.proofs.Putting.{record_is, record_there, record_within, serves_level}
@@ -16,23 +16,27 @@ index_mut-levels-requires c =
 
 pub overflow_cast-membership : goal.overflow_cast-membership
 overflow_cast-membership c =
-    let few = member_small c.args.plan.now c.args.kind c.args.cpu c.requires.cpu c.requires.scale c.in-Some.membership.place c.in-Some.membership.member c.in-Some.ensures.place.0 c.in-Some.ensures.member in
+    let few = member_small c.args.plan.now c.args.kind c.args.cpu c.requires.cpu c.requires.scale c.in-Some.membership.place c.in-Some.membership.member c.in-Some.ensures.place.0
+    c.in-Some.ensures.member in
     omega (arith, few)
 
 pub limit_on-requires-clause-of : goal.limit_on-requires-clause-of
 limit_on-requires-clause-of c =
-    let at = record_there c.args.plan.now c.args.self.now c.args.kind c.args.cpu c.requires.of c.requires.cpu c.requires.scale c.in-Some.membership.place c.in-Some.ensures.place.0 c.index_mut-levels.result.now c.index_mut-levels.ensures.value in
+    let at = record_there c.args.plan.now c.args.self.now c.args.kind c.args.cpu c.requires.of c.requires.cpu c.requires.scale c.in-Some.membership.place c.in-Some.ensures.place.0
+    c.index_mut-levels.result.now c.index_mut-levels.ensures.value in
     record_is c.args.plan.now c.args.self.now c.args.kind c.args.cpu c.requires.of c.requires.cpu c.requires.scale c.index_mut-levels.result.now at
 
 pub returns : goal.returns
 returns c =
     let P = c.args.plan.now in
     let d = domain_of P c.args.kind c.args.cpu in
-    let at = record_there c.args.plan.now c.args.self.now c.args.kind c.args.cpu c.requires.of c.requires.cpu c.requires.scale c.in-Some.membership.place c.in-Some.ensures.place.0 c.index_mut-levels.result.now c.index_mut-levels.ensures.value in
+    let at = record_there c.args.plan.now c.args.self.now c.args.kind c.args.cpu c.requires.of c.requires.cpu c.requires.scale c.in-Some.membership.place c.in-Some.ensures.place.0
+    c.index_mut-levels.result.now c.index_mut-levels.ensures.value in
     let x = domain_in c.args.self.now.domains.items d in
     serves_level P c.args.self.now _ d c.limit_on.new.levels (limit_effect P c.args.kind c.args.cpu c.args.n d (domain_part x)) c.limit_on.result c.args.ops.now c.limit_on.new.ops
     c.requires.of (scaled_exists P c.args.kind c.args.cpu c.requires.cpu c.requires.scale) c.limit_on.ensures.of refl refl
     (ap (λ k. set c.args.self.now.domains.items k c.limit_on.new.levels) c.in-Some.ensures.place.0)
-    (subst (λ (y : DomainRec). (limit_effect P c.args.kind c.args.cpu c.args.n d (domain_part y)).takes ≡ record { place = domain d; part = domain_part c.limit_on.new.levels } ∷ []) at c.limit_on.ensures.part)
+    (subst (λ (y : DomainRec). (limit_effect P c.args.kind c.args.cpu c.args.n d (domain_part y)).takes ≡ record { place = domain d; part = domain_part c.limit_on.new.levels }
+    ∷ []) at c.limit_on.ensures.part)
     (subst (λ (y : DomainRec). c.limit_on.result ≡ (limit_effect P c.args.kind c.args.cpu c.args.n d (domain_part y)).reply) at c.limit_on.ensures.reply)
     (subst (λ (y : DomainRec). c.limit_on.new.ops ≡ with_ops c.args.ops.now (limit_effect P c.args.kind c.args.cpu c.args.n d (domain_part y)).ops) at c.limit_on.ensures.list)

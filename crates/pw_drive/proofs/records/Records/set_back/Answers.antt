@@ -2,7 +2,7 @@ use Rattle.std.proofs.Common.{ℕ, sym, subst, ◌∙◌}
 use Rattle.pw_plan.specs.Parts.{scale_of}
 use Rattle.pw_plan.specs.Places.{cpu_at, domain_at}
 use Rattle.pw_model.specs.States.{IsIndex}
-use Rattle.pw_parts.specs.Holding.{member_in}
+use Rattle.pw_model.specs.Holding.{member_in}
 use Rattle.pw_drive.proofs.Putting.{domains_set, held_is}
 use Rattle.pw_drive.proofs.records.Records.set_back.Goals as goal
 

@@ -1,6 +1,6 @@
 use Rattle.std.proofs.Common.{◌∷◌, ◌∙◌, ap, refl}
 use Rattle.pw_model.specs.Answers.{chain_of}
-use Rattle.pw_parts.specs.Effects.{states_up}
+use Rattle.pw_model.specs.Effects.{states_up}
 use Rattle.pw_drive.specs.declared.records.Records.{Records}
 use Rattle.pw_drive.proofs.Upwards.{climbed_parts, same_rungs}
 use Rattle.pw_drive.proofs.records.Records.vote_up.Goals as goal

@@ -9,7 +9,8 @@ deepest-state-requires-clause-holds c = rw (c.as_slice.ensures, c.in_ok-votes.en
 
 pub deepest-state-requires-clause-counts : goal.deepest-state-requires-clause-counts
 deepest-state-requires-clause-counts c =
-    rw (c.as_slice.ensures, c.as_slice-2.ensures, c.in_ok-votes.ensures, c.in_ok-allowing.ensures, c.children_of.ensures, c.states.ensures, c.container.ensures) (opening_counts c.args.plan.now c.args.node)
+    rw (c.as_slice.ensures, c.as_slice-2.ensures, c.in_ok-votes.ensures, c.in_ok-allowing.ensures, c.children_of.ensures, c.states.ensures, c.container.ensures)
+    (opening_counts c.args.plan.now c.args.node)
 
 pub returns-clause-of : goal.returns-clause-of
 returns-clause-of c = record {

@@ -1,5 +1,5 @@
 use Rattle.std.proofs.Common.{ap, sym, subst, List}
-use Rattle.pw_parts.specs.Records.{record_count}
+use Rattle.pw_model.specs.Records.{record_count}
 use Rattle.pw_machine.specs.Steps.{Kind}
 use Rattle.pw_turns.specs.Went.{OpenSteps, own_in}
 use Rattle.pw_turns.proofs.coordinator.Coordinator.first_seat.Goals as goal

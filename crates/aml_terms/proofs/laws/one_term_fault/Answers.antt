@@ -1,8 +1,0 @@
-use Rattle.aml_terms.proofs.TermLists.{one_fault, no_fault}
-use Rattle.aml_terms.proofs.laws.one_term_fault.Goals as goal
-
-pub returns-clause-one : goal.returns-clause-one
-returns-clause-one c = one_fault
-
-pub returns-clause-apart : goal.returns-clause-apart
-returns-clause-apart c = no_fault

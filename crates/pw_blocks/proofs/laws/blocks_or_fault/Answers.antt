@@ -1,8 +1,0 @@
-use Rattle.pw_blocks.proofs.SomeReading.{held_or_fault, absent_alone}
-use Rattle.pw_blocks.proofs.laws.blocks_or_fault.Goals as goal
-
-pub returns-clause-one : goal.returns-clause-one
-returns-clause-one c = held_or_fault
-
-pub returns-clause-alone : goal.returns-clause-alone
-returns-clause-alone c = absent_alone

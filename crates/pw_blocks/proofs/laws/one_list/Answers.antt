@@ -1,5 +1,0 @@
-use Rattle.pw_blocks.proofs.OneReading.{same_blocks}
-use Rattle.pw_blocks.proofs.laws.one_list.Goals as goal
-
-pub returns : goal.returns
-returns c = λ holds names a b p q. same_blocks holds 0 names a b p q

@@ -1,0 +1,4 @@
+-- What only proofs use.
+pub mod Reading
+-- What only private contracts and proofs use.
+pub mod Changes

@@ -1,0 +1,57 @@
+ghost use Rattle.std.specs.Prelude.{◌≡◌, ◌<◌, ◌≤◌, ◌⊎◌, ℕ, true, List, [], Some, length};
+ghost use Rattle.pw_plan.specs.Groups.{has_member, is_software};
+ghost use Rattle.pw_cppc.specs.declared.plan.CppcPlan.{CppcPlan as plan};
+ghost use Rattle.pw_cppc.specs.declared.request.CppcRequest.{CppcRequest as request};
+ghost use Rattle.pw_cppc.specs.Planning.{domain_at};
+ghost use Rattle.pw_cppc.specs.Requests.{Has, opening_bound, ops_bound};
+ghost use Rattle.pw_cppc.specs.declared.entry.CppcEntry.{CppcEntry as entry};
+ghost use Rattle.pw_cppc.specs.declared.numbers.CppcNumbers.{CppcNumbers as numbers};
+ghost use Rattle.pw_cppc.specs.declared.reply.CppcReply.{CppcReply as reply};
+ghost use Rattle.pw_cppc.specs.States.{any_performance, maximum_of, minimum_of, standing};
+ghost use Rattle.pw_cppc.specs.Answers.{after, answer, refusal};
+ghost use Rattle.pw_cppc.specs.Operations.{opening_ops, ops_of};
+ghost use Rattle.pw_cppc.specs.History.{replay};
+ghost use Rattle.pw_cppc.specs.Laws.{IsAllowed, Satisfies};
+
+/// A domain that software coordinates stands no faster than each member allows, and as fast as each
+/// asks and demands, unless one allows no more (ACPI 6.5, 8.3).
+pub fn domains_stand_within_maxima()
+    ensures allowed { (P : plan) (S : numbers) (d p : ℕ) → is_software (domain_at P d).coord ≡ true
+        → IsAllowed P S d (standing P S d p) }
+    // It stands no faster than what is asked and demanded.
+    ensures least { (P : plan) (S : numbers) (d p v : ℕ) → is_software (domain_at P d).coord ≡ true
+        → Satisfies P S d v → standing P S d p ≤ v }
+    // It stands as fast as all allow, unless what is asked and demanded is satisfied.
+    ensures fast { (P : plan) (S : numbers) (d p v : ℕ) → is_software (domain_at P d).coord ≡ true
+        → v ≤ any_performance → IsAllowed P S d v
+        → (v ≤ standing P S d p) ⊎ Satisfies P S d (standing P S d p) }
+    // Where something that all allow satisfies what is asked and demanded, so does where it stands.
+    ensures satisfied { (P : plan) (S : numbers) (d p v : ℕ)
+        → is_software (domain_at P d).coord ≡ true → v ≤ any_performance → IsAllowed P S d v
+        → Satisfies P S d v → Satisfies P S d (standing P S d p) }
+{}
+
+/// A request that is refused changes nothing and operates nothing, and is answered why.
+pub fn refusals_change_nothing()
+    ensures numbers { (P : plan) (S : numbers) (q : request) (r : reply) → refusal P S q ≡ Some r
+        → after P S q ≡ S }
+    ensures operations { (P : plan) (S : numbers) (q : request) (r : reply) → refusal P S q ≡ Some r
+        → ops_of P S q ≡ [] }
+    ensures answer { (P : plan) (S : numbers) (q : request) (r : reply) → refusal P S q ≡ Some r
+        → answer P S q ≡ r }
+{}
+
+/// A request never has more operations than its bound, and there are as many at the start as theirs
+/// says.
+pub fn bounds_hold()
+    ensures request { (P : plan) (S : numbers) (q : request) → Has P q
+        → length (ops_of P S q) ≤ ops_bound P q }
+    ensures opening { (P : plan) → length (opening_ops P) ≡ opening_bound P }
+{}
+
+/// Whatever was asked, no member of a fit domain demands more than it allows.
+pub fn minima_stay_below_maxima()
+    ensures { (P : plan) (H : List entry) (d p : ℕ) → d < length P.domains
+        → (domain_at P d).unfit ≡ 0 → has_member (domain_at P d).members p ≡ true
+        → minimum_of (replay P H) p ≤ maximum_of (replay P H) p }
+{}

@@ -1,0 +1,88 @@
+-- The table after a step of the machine.
+use Rattle.std.proofs.Common.{◌≡◌, ◌≢◌, ◌≤◌, ⊎_elim, ℕ, ◌<◌, List, [], ◌∷◌, ◌++◌, true, false, length, get_or, set, sym, refl, ap, ◌∙◌, subst, arith}
+use mathlib.Core.Option.{some}
+use lib.ListN.{get_elem?}
+use Rattle.atomic_table.specs.Table.{Act, State, Valid, carried_after, stepped}
+use Rattle.std.specs.Prelude.{Option}
+use Rattle.pw_regs.specs.declared.registers.Registers.{Ghosts as Registers}
+use Rattle.pw_cppc.specs.declared.entry.CppcEntry.{CppcEntry}
+use Rattle.pw_cppc_desk.specs.Worked.{Worked}
+use Rattle.pw_books.specs.declared.view.View.{View}
+use Rattle.pw_books.specs.Steps.{Kind, May, after}
+use Rattle.pw_books.proofs.Lists.{at_set, off}
+use Rattle.pw_books.proofs.Facts.{other_unmarked}
+use Rattle.pw_books.proofs.Keeps.{law}
+use Rattle.pw_books.specs.Machine.{Invariant}
+use Rattle.pw_books.specs.Law.{opened}
+use Rattle.pw_cppc.proofs.Joining.{legal-empty}
+use Rattle.atomic_table.proofs.Lists.{at_map}
+use Rattle.pw_cppc_desk.specs.declared.track.Track.{Track}
+use Rattle.pw_cppc_desk.specs.Tracks.{did, own_kind, steps_of}
+use Rattle.pw_cppc_desk.proofs.Running.{map-set, one_more, steps_here, steps_there}
+use Rattle.pw_cppc_desk.proofs.Keeping.{kept_more}
+use Rattle.pw_cppc_desk.specs.declared.limit.Limit.{Limit}
+use Rattle.pw_cppc_desk.specs.Slots.{Given, Homes, IsHeld, MayBe, seat_of}
+use Rattle.pw_cppc_desk.specs.Rule.{IsHome, Ruled, given_of, words_of}
+use Rattle.pw_cppc_desk.specs.Plays.{Tracked}
+
+abbrev pub Table : Type 0 → Type 0
+Table R = State (Option (Worked R)) Track
+
+module _ {R : Type 0} (by : Registers R) where
+  -- the entries of what is held are a history that may be
+  pub held_may : (given : Given) (w : Worked R) → IsHeld by given w → MayBe given w.entries
+  held_may given w h = record { legal = h.of.legal; room = subst (λ n. length w.entries ≤ n) h.capacity h.of.within }
+
+  abbrev pub Goes : Limit R → Table R → ℕ → ℕ → Tracked R → (ℕ → Tracked R → Type 0) → ℕ → Type 0
+  Goes key s i id m then k = (w : Track) × (a : Act (Option (Worked R))) × Valid s.homes m.1 a
+      × Ruled by key (stepped s i k id m.1 w a) × then (get_or s.words i 0) (w, carried_after m.1 a)
+
+  -- what the run keeps
+  pub good_first : (key : Limit R) → MayBe (given_of by key) []
+  good_first key = record { legal = legal-empty key.plan; room = omega arith }
+
+  pub inv_of : (key : Limit R) (s : Table R) (o : Ruled by key s) → Invariant seat_of (MayBe (given_of by key)) o.machine
+  inv_of key s o = law seat_of (MayBe (given_of by key)) o.run o.machine (good_first key) o.ran
+
+  pub view_at : (key : Limit R) (s : Table R) (o : Ruled by key s) (id : ℕ) (x : Track) → get_elem? s.views id ≡ some x
+      → get_elem? o.machine.views id ≡ some x.view
+  view_at key s o id x at = subst (λ l. get_elem? l id ≡ some x.view) o.views (at_map (λ (t : Track). t.view) s.views id x at)
+
+  -- each live seat's steps are its own after one more step of one of them
+  pub own_more : (key : Limit R) (s : Table R) (o : Ruled by key s) (id : ℕ) (x : Track) (k : Kind CppcEntry) (y : Track)
+      → get_elem? s.views id ≡ some x → 0 < x.view.parts → y.own ≡ x.own ++ own_kind k ∷ [] → (j : ℕ) (t : Track)
+      → get_elem? (set s.views id y) j ≡ some t → 0 < t.view.parts → t.own ≡ steps_of j (o.run ++ (id, x.view, k) ∷ [])
+  own_more key s o id x k y at live grows j t there lives = ⊎_elim
+      (λ (b : (j ≡ id) × (y ≡ t)). ap (λ (t : Track). t.own) (sym b.1)
+      ∙ (grows ∙ (ap (λ l. l ++ own_kind k ∷ []) (o.own id x at live)
+      ∙ (sym (steps_here o.run id x.view k) ∙ ap (λ j. steps_of j (o.run ++ (id, x.view, k) ∷ [])) (sym b.0)))))
+      (λ (b : (j ≢ id) × (get_elem? s.views j ≡ some t)). o.own j t b.1 lives
+      ∙ sym (steps_there o.run id j x.view k (λ e. b.0 (sym e))))
+      (at_set s.views id j y t there)
+
+  -- a seat takes a step
+  pub shows : (key : Limit R) (s : Table R) (o : Ruled by key s) (id : ℕ) (x : Track) (k : Kind CppcEntry) (w : View CppcEntry) (ws : List ℕ) (hs : Homes R)
+      → get_elem? s.views id ≡ some x → 0 < x.view.parts → May seat_of (MayBe (given_of by key)) o.machine id x.view k
+      → (after seat_of o.machine id x.view k).views ≡ set o.machine.views id w
+      → ws ≡ words_of (after seat_of o.machine id x.view k)
+      → IsHome by (given_of by key) (after seat_of o.machine id x.view k) hs
+      → Ruled by key record { words = ws; homes = hs; views = set s.views id (did k w x) }
+  shows key s o id x k w ws hs at live may same words home = record {
+    machine = after seat_of o.machine id x.view k;
+    run = o.run ++ (id, x.view, k) ∷ [];
+    ran = one_more (MayBe (given_of by key)) opened o.run o.machine id x.view k o.ran (view_at key s o id x at) may;
+    words = words;
+    views = map-set (λ (t : Track). t.view) s.views id (did k w x) ∙ (ap (λ vs. set vs id w) o.views ∙ sym same);
+    own = own_more key s o id x k (did k w x) at live refl;
+    kept = kept_more o.run s.views o.kept id x at (o.own id x at live) x.view k w;
+    home = home;
+  }
+
+  module _ (key : Limit R) (s : Table R) (o : Ruled by key s) where
+    -- where a view without the mark steps, no view has it after the step
+    pub none_marked : (id : ℕ) (v w : View CppcEntry) → get_elem? o.machine.views id ≡ some v → 0 < v.parts → w.mark ≡ false
+        → (k : ℕ) (u : View CppcEntry) → get_elem? (set o.machine.views id w) k ≡ some u → u.mark ≡ true → ⊥
+    none_marked id v w at live unmarked k u there mark = ⊎_elim
+        (λ (t : (k ≡ id) × (w ≡ u)). off w.mark unmarked (ap (λ (x : View CppcEntry). x.mark) t.1 ∙ mark))
+        (λ (t : (k ≢ id) × (get_elem? o.machine.views k ≡ some u)). other_unmarked seat_of (MayBe (given_of by key)) o.machine (inv_of key s o) id k v u t.0 at t.1 live mark)
+        (at_set o.machine.views id k w u there)

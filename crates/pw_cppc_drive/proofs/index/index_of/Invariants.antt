@@ -1,0 +1,13 @@
+use Rattle.std.proofs.Common.{◌≤◌, drop, length}
+use Rattle.pw_script.specs.Looking.{LeadsTo}
+use Rattle.pw_cppc_drive.specs.Forms.{segs_of}
+use Rattle.pw_cppc_drive.proofs.index.index_of.Given as goal
+
+abbrev pub invariant-loop-number : goal.invariant-loop-number
+invariant-loop-number l = record {
+  within : l.number ≤ length l.plan.paths;
+  leads : LeadsTo segs_of l.number (drop l.number l.plan.paths) l.index;
+}
+
+abbrev pub decreases-loop-number : goal.decreases-loop-number
+decreases-loop-number l = l.number

@@ -1,0 +1,232 @@
+ghost use Rattle.std.specs.Prelude.{◌≡◌, ◌≤◌, ◌∷◌, ◌++◌, [], is_ok, map, true, Err, OnOk};
+ghost use Rattle.std.specs.List.{AllByRecursion, flat_map};
+ghost use Rattle.pw_base.specs.Outside.{GrewByPart, KeepsSink, Rose};
+ghost use Rattle.pw_text.specs.Lines.{text_of};
+ghost use Rattle.pw_text.specs.Puts.{PutsText};
+ghost use Rattle.pw_text.specs.declared.fault.PrintFault.TheVariants as faults;
+ghost use Rattle.pw_cppc.specs.Requests.{cpu_of, opening_bound};
+ghost use Rattle.pw_cppc.specs.States.{AreNumbers, opening as opening_numbers};
+ghost use Rattle.pw_cppc.specs.History.{StatesRequest, after_entry};
+ghost use Rattle.pw_cppc.specs.Operations.{opening_ops};
+ghost use Rattle.pw_script.specs.Behind.{asked_head};
+ghost use Rattle.pw_script.specs.HistoryText.{asked_line, fault_words, opened_lines};
+ghost use Rattle.pw_cppc_drive.specs.HistoryText.{entry_lines, history_text, lines_from, op_line};
+ghost use Rattle.pw_cppc_drive.specs.HistoryText.{path_of, reply_words, request_words};
+
+use crate::named::NamedPlan;
+use crate::words::{put_reply, put_request};
+use acpi_values::Op;
+use pw_base::{Failed, Sink};
+use pw_cppc::{CppcEntry, CppcPlan, CppcReply, CppcRequest, CppcState, open_all};
+use pw_regs::Ops;
+use pw_script::{first_of, put_asker, put_fault, put_opened, put_ops};
+use pw_text::{Page, PrintFault};
+use std::alloc::Global;
+
+/// How many operations a request has at most.
+const MOST_OF_A_REQUEST: u32 = 257;
+
+/// Puts the lines of operations that were done, in order.
+fn put_done<K: Sink>(
+    page: &mut Page,
+    sink: &mut K,
+    plan: &NamedPlan,
+    ops: &[Op],
+) -> Result<(), Failed>
+    ensures { PutsText K.Sink sink.old sink.new page.old page.new
+        (flat_map (λ o. op_line plan.now o ++ (10 ∷ [])) ops.now) (is_ok result) }
+{
+    put_ops(page, sink, plan.paths(), ops)
+}
+
+/// Puts the number of an entry, and what was asked.
+fn put_head<K: Sink>(
+    page: &mut Page,
+    sink: &mut K,
+    plan: &NamedPlan,
+    number: u64,
+    request: CppcRequest,
+) -> Result<(), Failed>
+    ensures { PutsText K.Sink sink.old sink.new page.old page.new
+        (asked_head number (path_of plan.now (cpu_of request)) (request_words request))
+        (is_ok result) }
+{
+    put_asker(page, sink, number, plan.path(request.cpu()))?;
+    put_request(page, sink, request)?;
+    page.put(sink, b" ->")
+}
+
+/// Puts the lines of an entry that was answered.
+fn put_answered<K: Sink>(
+    page: &mut Page,
+    sink: &mut K,
+    plan: &NamedPlan,
+    number: u64,
+    request: CppcRequest,
+    reply: CppcReply,
+    ops: &[Op],
+) -> Result<(), Failed>
+    ensures { PutsText K.Sink sink.old sink.new page.old page.new
+        (text_of (asked_line number (path_of plan.now (cpu_of request)) (request_words request)
+        (reply_words reply) ∷ map (op_line plan.now) ops.now)) (is_ok result) }
+{
+    put_head(page, sink, plan, number, request)?;
+    put_reply(page, sink, reply)?;
+    page.put(sink, b"\n")?;
+    put_done(page, sink, plan, ops)
+}
+
+/// Puts the lines of an entry that a fault ended after so many operations.
+fn put_faulted<K: Sink>(
+    page: &mut Page,
+    sink: &mut K,
+    plan: &NamedPlan,
+    number: u64,
+    request: CppcRequest,
+    done: u32,
+    ops: &[Op],
+) -> Result<(), Failed>
+    ensures { PutsText K.Sink sink.old sink.new page.old page.new
+        (text_of (asked_line number (path_of plan.now (cpu_of request)) (request_words request)
+        (fault_words done) ∷ map (op_line plan.now) ops.now)) (is_ok result) }
+{
+    put_head(page, sink, plan, number, request)?;
+    put_fault(page, sink, done)?;
+    page.put(sink, b"\n")?;
+    put_done(page, sink, plan, ops)
+}
+
+/// Puts the lines of an entry that was asked of these numbers, and leaves the numbers after it.
+#[tactic(auto, using(crate::proofs::Printed::bound_small, crate::proofs::Printed::entry_has))]
+fn put_entry<K: Sink>(
+    page: &mut Page,
+    sink: &mut K,
+    plan: &NamedPlan,
+    state: &mut CppcState,
+    ops: &mut Ops,
+    number: u64,
+    entry: &CppcEntry,
+) -> Result<(), Failed>
+    requires entry { StatesRequest plan.now entry.now }
+    requires fits { AreNumbers plan.now state.old }
+    requires room { 257 ≤ ops.old.capacity }
+    ensures text { PutsText K.Sink sink.old sink.new page.old page.new
+        (text_of (entry_lines plan.now state.old number entry.now)) (is_ok result) }
+    ensures after { state.new ≡ after_entry plan.now state.old entry.now }
+    ensures fits { AreNumbers plan.now state.new }
+    ensures room { ops.new.capacity ≡ ops.old.capacity }
+{
+    let request = entry.request();
+    ops.clear();
+    if entry.fault == 0 {
+        let reply = state.step(plan.plan(), request, ops);
+        return put_answered(page, sink, plan, number, request, reply, ops.list());
+    }
+    state.operations(plan.plan(), request, ops);
+    let done = entry.fault - 1;
+    put_faulted(
+        page,
+        sink,
+        plan,
+        number,
+        request,
+        done,
+        first_of(ops.list(), done),
+    )
+}
+
+/// Puts the lines of entries, numbered from 1, of which the first was asked of these numbers.
+fn put_entries<K: Sink>(
+    page: &mut Page,
+    sink: &mut K,
+    plan: &NamedPlan,
+    state: &mut CppcState,
+    ops: &mut Ops,
+    entries: &[CppcEntry],
+) -> Result<(), Failed>
+    requires entries { AllByRecursion (StatesRequest plan.now) entries.now }
+    requires fits { AreNumbers plan.now state.old }
+    requires room { 257 ≤ ops.old.capacity }
+    ensures { PutsText K.Sink sink.old sink.new page.old page.new
+        (text_of (lines_from plan.now state.old 1 entries.now)) (is_ok result) }
+{
+    let mut number = 1;
+    let mut left = entries;
+    while let [entry, rest @ ..] = left {
+        put_entry(page, sink, plan, state, ops, number, entry)?;
+        number += 1;
+        left = rest;
+    }
+    Ok(())
+}
+
+/// Puts the lines of the opening, which has these operations.
+fn put_opening<K: Sink>(
+    page: &mut Page,
+    sink: &mut K,
+    plan: &NamedPlan,
+    opening: Option<u32>,
+    ops: &[Op],
+) -> Result<(), Failed>
+    requires { ops.now ≡ opening_ops plan.now }
+    ensures { PutsText K.Sink sink.old sink.new page.old page.new
+        (text_of (opened_lines (op_line plan.now) (opening_ops plan.now) opening)) (is_ok result) }
+{
+    put_opened(page, sink, plan.paths(), opening, ops)
+}
+
+/// Puts the text of a history, by way of a page, and hands all of it to the sink.
+fn put_history<K: Sink>(
+    page: &mut Page,
+    sink: &mut K,
+    plan: &NamedPlan,
+    state: &mut CppcState,
+    ops: &mut Ops,
+    opening: Option<u32>,
+    entries: &[CppcEntry],
+) -> Result<(), Failed>
+    requires entries { AllByRecursion (StatesRequest plan.now) entries.now }
+    requires opened { state.old ≡ opening_numbers plan.now }
+    requires fits { AreNumbers plan.now state.old }
+    requires none { ops.old.elements ≡ [] }
+    requires room { 257 ≤ ops.old.capacity }
+    requires opening { opening_bound plan.now ≤ ops.old.capacity }
+    ensures text { PutsText K.Sink sink.old sink.new page.old page.new
+        (history_text plan.now opening entries.now) (is_ok result) }
+    ensures empty { OnOk result (page.new ≡ []) }
+{
+    open_all(plan.plan(), ops);
+    put_opening(page, sink, plan, opening, ops.list())?;
+    put_entries(page, sink, plan, state, ops, entries)?;
+    page.flush(sink)
+}
+
+/// Prints the text of a history: the opening with its operations, and each entry with its reply and
+/// its operations. `opening` is how many operations were done where the opening was ended by a fault.
+/// Memory is taken before the sink sees a byte.
+pub fn cppc_print<K: Sink>(
+    alloc: Global,
+    plan: &CppcPlan,
+    opening: Option<u32>,
+    entries: &[CppcEntry],
+    out: &mut K,
+) -> Result<(), PrintFault>
+    requires { AllByRecursion (StatesRequest plan.now) entries.now }
+    ensures keeps { KeepsSink K.told K.faults out.old out.new }
+    ensures whole { OnOk result (K.told out.old ≡ true →
+        K.written out.new ≡ K.written out.old ++ history_text plan.now opening entries.now) }
+    // Whatever fails, the sink has a beginning of the text.
+    ensures part { K.told out.old ≡ true →
+        GrewByPart (K.written out.old) (K.written out.new) (history_text plan.now opening entries.now) }
+    ensures sink { result ≡ Err faults.Sink → Rose (K.faults out.old) (K.faults out.new) }
+    ensures memory { result ≡ Err faults.Memory → out.new ≡ out.old }
+{
+    let named = NamedPlan::new(alloc, plan)?;
+    let mut page = Page::new(alloc)?;
+    let mut state = CppcState::open(alloc, plan)?;
+    let mut ops = Ops::new(alloc, plan.opening_bound().max(MOST_OF_A_REQUEST))?;
+    put_history(
+        &mut page, out, &named, &mut state, &mut ops, opening, entries,
+    )?;
+    Ok(())
+}

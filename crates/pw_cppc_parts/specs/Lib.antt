@@ -1,3 +1,0 @@
-pub mod Machine
-pub mod Planning
-pub mod inner

@@ -1,8 +1,0 @@
-use Rattle.std.proofs.Common.{codes}
-use Rattle.pw_ends.specs.Ends.Stops.{without_memory}
-use Rattle.pw_cppc_runs.proofs.planned.plan_over.Goals as goal
-
-pub returns-clause-stopped : goal.returns-clause-stopped
-returns-clause-stopped g c =
-    let said = rw c.in-Ok.ensures.quiet at c.without_memory.ensures.line in
-    record { line = codes "no memory\n"; way = rw c.without_memory.ensures.status without_memory; said = said }

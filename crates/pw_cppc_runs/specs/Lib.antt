@@ -1,4 +1,0 @@
-pub mod Scripts
-pub mod Runs
-pub mod Workers
-pub mod inner

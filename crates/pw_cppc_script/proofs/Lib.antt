@@ -1,4 +1,0 @@
-pub mod Making
-pub mod Pathed
-pub mod Printed
-pub mod Refusing

@@ -1,4 +1,0 @@
-use Rattle.pw_cppc_script.proofs.words.put_reply.Goals as goal
-
-pub returns-in-OutOfRange : goal.returns-in-OutOfRange
-returns-in-OutOfRange g c = rw c.in-OutOfRange.is c.put_range.ensures

@@ -1,4 +1,0 @@
-pub mod Forms
-pub mod Reading
-pub mod HistoryText
-pub mod inner

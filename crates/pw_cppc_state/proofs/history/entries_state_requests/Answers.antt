@@ -1,8 +1,0 @@
-use Rattle.pw_cppc_state.proofs.Joining.{entry_states, request_of-entry}
-use Rattle.pw_cppc_state.proofs.history.entries_state_requests.Goals as goal
-
-pub returns-clause-request : goal.returns-clause-request
-returns-clause-request c = λ seat fault q. request_of-entry seat fault q
-
-pub returns-clause-entry : goal.returns-clause-entry
-returns-clause-entry c = λ P seat fault q has. entry_states P seat fault q has

@@ -1,5 +1,0 @@
-pub mod Making
-pub mod Joining
-pub mod Ending
-pub mod Drawn
-pub mod Serial

@@ -1,5 +1,0 @@
-use Rattle.pw_desk.proofs.Coming.{histories_come_about}
-use Rattle.pw_desk.proofs.laws.histories_come_about.Goals as goal
-
-pub returns : goal.returns
-returns g c = histories_come_about g.H.Histories.seat_of g.H.Histories.good

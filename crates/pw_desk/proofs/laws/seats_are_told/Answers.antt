@@ -1,5 +1,0 @@
-use Rattle.pw_desk.proofs.Told.{seats_told}
-use Rattle.pw_desk.proofs.laws.seats_are_told.Goals as goal
-
-pub returns : goal.returns
-returns g c = seats_told g.H.Histories.seat_of g.H.Histories.good

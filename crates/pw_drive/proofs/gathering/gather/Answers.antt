@@ -1,0 +1,34 @@
+use Rattle.std.proofs.Common.{List, ◌≡◌, length, rules, subst, sym}
+use Rattle.std.specs.List.{AllByRecursion}
+use Rattle.pw_turns.specs.Views.{view_in}
+use Rattle.pw_drive.specs.declared.working.Worker.{Worker}
+use Rattle.pw_drive.specs.inner.Gathered.{IsGathered, IsMember}
+use Rattle.pw_books.proofs.Gathering.{each_last}
+use Rattle.pw_books.proofs.Seats.{each_first}
+use Rattle.pw_drive.proofs.Joining.{gathered_end, gathered_last}
+use Rattle.pw_drive.proofs.gathering.gather.Goals as goal
+
+pub join-seat-requires-clause-second : goal.join-seat-requires-clause-second
+join-seat-requires-clause-second g c =
+    let M = IsMember c.args.coordinator.now.table.shared.table_id in
+    (each_last M c.pop.new.self.items c.in-Some.worker (subst (AllByRecursion M) c.in-Some.ensures.items c.loop-worker.invariant.members)).owns
+
+pub loop-worker-preserved : goal.loop-worker-preserved
+loop-worker-preserved g c =
+    let M = IsMember c.args.coordinator.now.table.shared.table_id in
+    let l = c.loop-worker in
+    let members = subst (AllByRecursion M) c.in-Some.ensures.items l.invariant.members in
+    let rest = c.pop.new.self.items in
+    let w = c.in-Some.worker in
+    record {
+      owns = c.join-seat.ensures.owns;
+      members = each_first M rest _ members;
+      goes_on = λ r is. l.invariant.goes_on r (subst (λ ws. IsGathered (view_in l.seat.badge.views) ws r) (sym {A = List Worker} c.in-Some.ensures.items)
+          (gathered_last (view_in l.seat.badge.views) (view_in c.join-seat.result.badge.views) r rest w c.join-seat.ensures.joined (each_last M rest w members).part is));
+    }
+
+pub returns-clause-gathered : goal.returns-clause-gathered
+returns-clause-gathered g c =
+    let l = c.loop-worker in
+    let none : length l.workers.items ≡ 0 = search rules in
+    l.invariant.goes_on (view_in l.seat.badge.views) (gathered_end (view_in l.seat.badge.views) l.workers.items none)

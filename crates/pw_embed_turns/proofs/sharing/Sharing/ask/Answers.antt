@@ -1,8 +1,0 @@
-use Rattle.std.proofs.Common.{sym, ◌∙◌}
-use Rattle.pw_embed_turns.specs.Shared.{Asked}
-use Rattle.pw_embed_turns.proofs.sharing.Sharing.ask.Goals as goal
-
-pub returns : goal.returns
-returns c =
-    Asked.asked c.in-Some.request c.step-told.result (sym c.request.ensures ∙ c.in-Some.is) c.step-told.ensures c.put_reply.ensures
-    c.status_of.ensures

@@ -1,5 +1,0 @@
-pub mod Entries
-pub mod Registers
-pub mod Told
-pub mod Shared
-pub mod Seats

@@ -1,5 +1,0 @@
-use Rattle.pw_interleaved.proofs.Runs.{serial-run}
-use Rattle.pw_interleaved.proofs.laws.serial_runs_are_runs.Goals as goal
-
-pub returns : goal.returns
-returns g c = λ asked rest es is whole. serial-run g.H.Tells.telling asked rest es is whole

@@ -1,4 +1,0 @@
-pub mod Asked
-pub mod Seats
-pub mod Workers
-pub mod inner

@@ -1,6 +1,0 @@
-pub mod Characters
-pub mod Joining
-pub mod Listed
-pub mod NoFloat
-pub mod Putting
-pub mod Told

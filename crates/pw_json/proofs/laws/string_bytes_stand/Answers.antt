@@ -1,7 +1,0 @@
-use Rattle.std.proofs.Common.{ap}
-use Rattle.std.proofs.lemmas.Str.{encodes-IsAscii}
-use Rattle.serde_json.specs.Data.{string}
-use Rattle.pw_json.proofs.laws.string_bytes_stand.Goals as goal
-
-pub returns : goal.returns
-returns c = λ bytes ascii. ap string (encodes-IsAscii bytes ascii)

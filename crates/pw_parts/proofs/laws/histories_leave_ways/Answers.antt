@@ -1,6 +1,0 @@
-use Rattle.pw_parts.proofs.Plans.{wired}
-use Rattle.pw_parts.proofs.Steps.{stays_in_history}
-use Rattle.pw_parts.proofs.laws.histories_leave_ways.Goals as goal
-
-pub returns : goal.returns
-returns c = λ P q has. stays_in_history P q (wired P) has

@@ -1,6 +1,0 @@
-use Rattle.pw_parts.proofs.Central.{is_local}
-use Rattle.pw_parts.proofs.Plans.{wired}
-use Rattle.pw_parts.proofs.laws.requests_are_local.Goals as goal
-
-pub returns : goal.returns
-returns c = λ P q has. is_local P q (wired P) has

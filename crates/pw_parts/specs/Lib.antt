@@ -1,9 +1,0 @@
-pub mod Records
-pub mod Effects
-pub mod Locality
-pub mod Numbers
-pub mod Calls
-pub mod Holding
-pub mod Routes
-pub mod Loops
-pub mod inner

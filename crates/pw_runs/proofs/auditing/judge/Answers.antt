@@ -1,0 +1,28 @@
+use Rattle.std.proofs.Common.{codes}
+use Rattle.pw_base.specs.Seen.{files_seen}
+use Rattle.pw_script.specs.Reading.{requests_of}
+use Rattle.pw_load.specs.Ends.Does.{stopped}
+use Rattle.pw_load.specs.Ends.Stops.{unread}
+use Rattle.pw_load.proofs.Outcomes.{did_within, ended_saying}
+use Rattle.pw_runs.specs.Histories.{history_line}
+use Rattle.pw_runs.proofs.AuditSteps.{stops_judging, telling_within}
+use Rattle.pw_runs.proofs.auditing.judge.Goals as goal
+
+pub returns-in-Ok-clause-did : goal.returns-in-Ok-clause-did
+returns-in-Ok-clause-did g c =
+    did_within (telling_within (files_seen g.F.Files c.args.files.now) (files_seen g.F.Files c.read_history.new.files) c.args.name.now
+    c.args.plan.now (requests_of c.args.script.now.lines) c.in-Ok.entries c.in-Ok.ensures.held) c.print_lawful.ensures.did
+
+pub returns-in-Err-Unread-clause-did : goal.returns-in-Err-Unread-clause-did
+returns-in-Err-Unread-clause-did g c =
+    let rose = rw c.in-Err-Unread.field-0-is at c.in-Err-Unread.ensures.unlawful in
+    ended_saying g.K.Sink c.args.out.now c.args.err.now c.unread.new.err (codes "read fault\n") c.unread.result
+    (rw c.unread.ensures.status (stopped (unread rose))) c.unread.ensures.line
+
+pub returns-in-Err-Fault-clause-did : goal.returns-in-Err-Fault-clause-did
+returns-in-Err-Fault-clause-did g c =
+    let why = rw c.in-Err-Fault.field-0-is at c.in-Err-Fault.ensures.unlawful in
+    let fault = c.in-Err-Fault.fault in
+    ended_saying g.K.Sink c.args.out.now c.args.err.now c.refuse_history.new.err (history_line fault) c.refuse_history.result
+    (rw c.refuse_history.ensures.status (stopped (stops_judging (files_seen g.F.Files c.args.files.now) (files_seen g.F.Files c.read_history.new.files) c.args.name.now
+    c.args.plan.now (requests_of c.args.script.now.lines) fault why))) c.refuse_history.ensures.line

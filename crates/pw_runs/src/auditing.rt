@@ -1,0 +1,76 @@
+ghost use Rattle.std.specs.Prelude.{◌≡◌, []};
+ghost use Rattle.pw_base.specs.Outside.{KeepsFiles, KeepsSink};
+ghost use Rattle.pw_base.specs.Seen.{files_seen};
+ghost use Rattle.aml_block.specs.Held.{names_of};
+ghost use Rattle.pw_script.specs.Reading.{requests_of};
+ghost use Rattle.pw_load.specs.Seen.{outputs_seen};
+ghost use Rattle.pw_load.specs.Ends.{Did};
+ghost use Rattle.pw_runs.specs.Reviews.{reviewing};
+ghost use Rattle.pw_runs.specs.inner.AuditParts.{judging};
+
+use crate::audit_print::print_lawful;
+use crate::audit_refusal::refuse_history;
+use crate::given_in;
+use crate::history::{Unlawful, read_history};
+use pw_base::{Files, Sink};
+use pw_load::{unread, without_memory};
+use pw_plan::Plan;
+use pw_script::Script;
+use pw_text::Page;
+use std::alloc::Global;
+
+/// Judges the history in the file of this name, by the plan and the script that are given, with an empty
+/// page. It says the status.
+fn judge<F: Files, K: Sink>(
+    alloc: Global,
+    files: &mut F,
+    name: &str,
+    plan: &Plan,
+    script: &Script,
+    page: &mut Page,
+    out: &mut K,
+    err: &mut K,
+) -> u8
+    requires { page.old ≡ [] }
+    ensures keeps_files { KeepsFiles F.told F.holds F.faults files.old files.new }
+    ensures keeps_out { KeepsSink K.told K.faults out.old out.new }
+    ensures keeps_err { KeepsSink K.told K.faults err.old err.new }
+    ensures did { Did (judging (files_seen F.Files files.old) (files_seen F.Files files.new) name.now
+        plan.now (requests_of script.now.lines))
+        (outputs_seen K.Sink out.old err.old) (outputs_seen K.Sink out.new err.new) result }
+{
+    match read_history(alloc, files, name, plan, script) {
+        Ok(entries) => print_lawful(page, out, err, entries),
+        Err(Unlawful::Unread) => unread(err),
+        Err(Unlawful::Fault(fault)) => refuse_history(page, err, fault),
+    }
+}
+
+/// Does `audit`: whether the history in a file is one that the script allows on the machine that the
+/// blocks describe, wherever it came from. The blocks come first, then the script, and then the history.
+/// Says the status.
+pub fn audit<F: Files, K: Sink>(
+    alloc: Global,
+    step: bool,
+    script: &str,
+    history: &str,
+    blocks: &[&str],
+    files: &mut F,
+    out: &mut K,
+    err: &mut K,
+) -> u8
+    ensures keeps_files { KeepsFiles F.told F.holds F.faults files.old files.new }
+    ensures keeps_out { KeepsSink K.told K.faults out.old out.new }
+    ensures keeps_err { KeepsSink K.told K.faults err.old err.new }
+    ensures did { Did (reviewing step script.now history.now (names_of blocks.now)
+        (files_seen F.Files files.old) (files_seen F.Files files.new))
+        (outputs_seen K.Sink out.old err.old) (outputs_seen K.Sink out.new err.new) result }
+{
+    let Ok(mut page) = Page::new(alloc) else {
+        return without_memory(err);
+    };
+    match given_in(alloc, files, step, script, blocks, &mut page, err) {
+        Err(status) => status,
+        Ok((plan, lines)) => judge(alloc, files, history, &plan, &lines, &mut page, out, err),
+    }
+}

@@ -1,0 +1,61 @@
+ghost use Rattle.std.specs.Prelude.{◌≡◌, IfErr, IfOk};
+ghost use Rattle.pw_base.specs.Outside.{KeepsFiles};
+ghost use Rattle.pw_base.specs.Seen.{files_seen};
+ghost use Rattle.pw_script.specs.Reading.{requests_of};
+ghost use Rattle.pw_runs.specs.Histories.{HoldHistory, IsHistory};
+ghost use Rattle.pw_runs.specs.inner.AuditParts.{IsWhyNone, IsWhyUnlawful};
+
+use aml_block::{FileFault, read_all};
+use pw_audit::{AuditFault, MOST_BYTES, audit};
+use pw_base::Files;
+use pw_plan::Plan;
+use pw_script::Script;
+use std::alloc::Global;
+
+/// Why a history isn't lawful.
+#[derive(Clone, Copy)]
+pub enum Unlawful {
+    /// Its file couldn't be read.
+    Unread,
+    /// Its bytes are none of the script, or memory ran out.
+    Fault(AuditFault),
+}
+
+/// How many entries the history has whose whole text these bytes are.
+fn count_entries(
+    alloc: Global,
+    bytes: &[u8],
+    plan: &Plan,
+    script: &Script,
+) -> Result<usize, Unlawful>
+    ensures whole { IfOk result (λ n. IsHistory plan.now (requests_of script.now.lines) bytes.now n) }
+    ensures none { IfErr result (IsWhyNone plan.now (requests_of script.now.lines) bytes.now) }
+{
+    match audit(alloc, plan, script, bytes) {
+        Ok(shown) => Ok(shown.entries.as_slice().len()),
+        Err(fault) => Err(Unlawful::Fault(fault)),
+    }
+}
+
+/// How many entries the history has that is in the file of this name. Of a file that is too long one
+/// byte too many is read.
+pub fn read_history<F: Files>(
+    alloc: Global,
+    files: &mut F,
+    name: &str,
+    plan: &Plan,
+    script: &Script,
+) -> Result<usize, Unlawful>
+    ensures keeps { KeepsFiles F.told F.holds F.faults files.old files.new }
+    ensures held { IfOk result (λ n. HoldHistory (files_seen F.Files files.old) name.now
+        plan.now (requests_of script.now.lines) n) }
+    ensures unlawful { IfErr result
+        (λ why. IsWhyUnlawful (files_seen F.Files files.old) (files_seen F.Files files.new)
+        name.now plan.now (requests_of script.now.lines) why) }
+{
+    match read_all(alloc, files, name, MOST_BYTES as usize + 1) {
+        Err(FileFault::ReadFault) => Err(Unlawful::Unread),
+        Err(FileFault::Memory) => Err(Unlawful::Fault(AuditFault::Memory)),
+        Ok(bytes) => count_entries(alloc, &bytes, plan, script),
+    }
+}

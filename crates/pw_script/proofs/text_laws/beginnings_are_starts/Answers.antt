@@ -1,0 +1,15 @@
+use Rattle.pw_script.proofs.Beginnings.{begins-start, begins-whole}
+use Rattle.pw_script.proofs.Ends.{begins-shorter, whole-run}
+use Rattle.pw_script.proofs.text_laws.beginnings_are_starts.Goals as goal
+
+pub returns-clause-starts : goal.returns-clause-starts
+returns-clause-starts c = λ P L lines tell b. begins-start P L tell lines b
+
+pub returns-clause-begins : goal.returns-clause-begins
+returns-clause-begins c = λ P L lines tell are b. begins-whole P L tell are lines b
+
+pub returns-clause-whole : goal.returns-clause-whole
+returns-clause-whole c = λ P L H tell are start w. whole-run P tell L are H start w
+
+pub returns-clause-fewer : goal.returns-clause-fewer
+returns-clause-fewer c = λ P L lines k b. begins-shorter P L lines k b

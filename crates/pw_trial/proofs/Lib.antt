@@ -1,4 +1,0 @@
-pub mod One
-pub mod Printing
-pub mod Runs
-pub mod Trying

@@ -1,5 +1,0 @@
-use Rattle.pw_walk.proofs.Standing.{walks_stand}
-use Rattle.pw_walk.proofs.laws.walks_stand_at_records.Goals as goal
-
-pub returns : goal.returns
-returns c = λ P q held has. walks_stand P q held has
