@@ -3,6 +3,7 @@ use Rattle.std.proofs.Common.{◌≡◌, ◌<◌, ◌≤◌, ◌==◌, ◌&&◌,
 use Rattle.std.specs.Prelude.{fold}
 use Rattle.std.specs.List.{list_all, AllByRecursion}
 use Rattle.std.proofs.lemmas.Bool.Decides.{nat_tests}
+use Rattle.acpi_values.specs.declared.dependency.Coord.TheVariants.{HwAll}
 use Rattle.pw_plan.specs.declared.domain.Domain.{Domain}
 use Rattle.pw_plan.specs.declared.domain.DomainKind.{DomainKind}
 use Rattle.pw_plan.specs.declared.domain.DomainKind.TheVariants.{Perf, Throttle, Idle}
@@ -14,7 +15,7 @@ use Rattle.pw_plan.proofs.Lists.{and_both, and_first, and_second}
 use Rattle.pw_model.specs.declared.state.State.{State}
 use Rattle.pw_model.specs.States.{ask_of, limit_of, vote_of}
 use Rattle.pw_model.specs.Domains.{c_state, governs, is_gathered, may_enter, standing, stands_at, state_of}
-use Rattle.pw_model.specs.Laws.{AsksFrom, LetsEnter, LimitsWithin, MayEnter}
+use Rattle.pw_model.specs.Laws.{AsksFrom, IsBehindOwn, LetsEnter, LimitsWithin, MayEnter}
 use Rattle.pw_model.proofs.Greatest.{greatest-most, greatest-passes}
 use Rattle.pw_model.proofs.Maps.{each_passes, fold_min-each, fold_min-least, weaker}
 
@@ -104,3 +105,15 @@ module _ (P : Plan) (S : State) (d p : ℕ) (software : is_software (domain_at P
   stands_asked t le asks =
       let a = fold_min-least (ask_of (domain_at P d).kind S) t 255 (domain_at P d).members le asks in
       rw stands (omega (arith, a))
+
+-- # Domains that hardware coordinates
+
+module _ (P : Plan) (S : State) (d p : ℕ) (hardware : (domain_at P d).coord ≡ HwAll) where
+  alone : standing P S d p ≡ max (limit_of (domain_at P d).kind S p) (ask_of (domain_at P d).kind S p)
+  alone = let e : is_software (domain_at P d).coord ≡ false = ap is_software hardware in rw e refl
+
+  pub behind_own : IsBehindOwn S (domain_at P d).kind p (standing P S d p)
+  behind_own = rw alone (record { limit = omega arith; ask = omega arith })
+
+  pub fastest_own : (t : ℕ) → IsBehindOwn S (domain_at P d).kind p t → standing P S d p ≤ t
+  fastest_own t h = let a = h.limit in let b = h.ask in rw alone (omega (arith, a, b))

@@ -55,6 +55,11 @@ LimitsWithin P S d t = AllByRecursion (λ q. limit_of (domain_at P d).kind S q �
 abbrev pub AsksFrom : Plan → State → ℕ → ℕ → Type 0
 AsksFrom P S d t = AllByRecursion (λ q. t ≤ ask_of (domain_at P d).kind S q) (domain_at P d).members
 
+-- State t is no faster than processor p's own limit and its own ask.
+pub record IsBehindOwn (S : State) (kind : DomainKind) (p t : ℕ) : Type 0 where
+  pub limit : limit_of kind S p ≤ t
+  pub ask : ask_of kind S p ≤ t
+
 -- The last value that the operations set in this register of the processor is v.
 pub record IsLastSet (p : ℕ) (r : Register) (v : ℕ) (ops : List Op) : Type 0 where
   pub before : List Op

@@ -17,8 +17,8 @@ ghost use Rattle.pw_model.specs.Refusals.{refusal};
 ghost use Rattle.pw_model.specs.Answers.{after, answer};
 ghost use Rattle.pw_model.specs.Operations.{opening_ops, ops_of};
 ghost use Rattle.pw_model.specs.History.{Faultless, Legal, history_ops, replay};
-ghost use Rattle.pw_model.specs.Laws.{AsksFrom, HasOwnRegisters, IsFitMember, IsLastSetAmong};
-ghost use Rattle.pw_model.specs.Laws.{IsSetToStanding};
+ghost use Rattle.pw_model.specs.Laws.{AsksFrom, HasOwnRegisters, IsBehindOwn, IsFitMember};
+ghost use Rattle.pw_model.specs.Laws.{IsLastSetAmong, IsSetToStanding};
 ghost use Rattle.pw_model.specs.Laws.{LimitsWithin, MayEnter, MayIdle};
 
 /// A container is in the deepest enabled state that every child allows, and bears the wake latency
@@ -66,6 +66,15 @@ pub fn domains_stand_within_limits()
     ensures asked { (P : plan) (S : state) (d p t : ℕ)
         → is_software (domain_at P d).coord ≡ true → t ≤ 255
         → AsksFrom P S d t → t ≤ standing P S d p }
+{}
+
+/// A member of a domain that hardware coordinates stands, whatever the others do, at the fastest state
+/// that is no faster than its own limit and its own ask (ACPI 6.5, 8.3).
+pub fn hardware_members_stand_alone()
+    ensures behind { (P : plan) (S : state) (d p : ℕ) → (domain_at P d).coord ≡ HwAll
+        → IsBehindOwn S (domain_at P d).kind p (standing P S d p) }
+    ensures fastest { (P : plan) (S : state) (d p t : ℕ) → (domain_at P d).coord ≡ HwAll
+        → IsBehindOwn S (domain_at P d).kind p t → standing P S d p ≤ t }
 {}
 
 /// A request that is refused changes nothing and operates nothing, and is answered why.

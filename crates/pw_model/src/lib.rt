@@ -24,7 +24,7 @@ pub use history::{
 };
 pub use laws::{
     bounds_hold, c_states_are_greatest, container_states_are_greatest, domains_stand_within_limits,
-    refusals_change_nothing, registers_stand, wakes_operate_nothing,
+    hardware_members_stand_alone, refusals_change_nothing, registers_stand, wakes_operate_nothing,
 };
 pub use record_laws::{
     histories_leave_ways, records_open_and_serve, records_tell_requests, requests_are_local,
