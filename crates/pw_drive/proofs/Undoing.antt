@@ -9,6 +9,7 @@ use Rattle.pw_plan.specs.Covering.{covers, same_kind}
 use Rattle.pw_plan.specs.Groups.{has_member, is_idle, no_domain}
 use Rattle.pw_plan.specs.Parts.{scale_of}
 use Rattle.pw_plan.specs.Places.{cpu_at, domain_at, domain_of, group_at, group_of}
+use Rattle.pw_plan.proofs.Firsts.{same_from}
 use Rattle.pw_plan.proofs.Found.{passes}
 use Rattle.pw_plan.proofs.Lists.{and_first, and_second}
 use Rattle.pw_model.specs.declared.reply.Reply.{Reply}
@@ -17,7 +18,7 @@ use Rattle.pw_model.specs.Calls.{own_ask, own_limit, own_vote, with_state}
 use Rattle.pw_model.specs.Effects.{Effect, Taken, group_takes, member_place, refused_effect, states_in, states_with, with_ask, with_limit}
 use Rattle.pw_model.specs.Locality.{put}
 use Rattle.pw_model.specs.Records.{IsRecord, Part, Record, domain, group, is_record, levels, states}
-use Rattle.pw_model.proofs.Levels.{has_domain, same_from}
+use Rattle.pw_model.proofs.Levels.{has_domain}
 use Rattle.pw_model.proofs.Steps.{its_record, same_record}
 use Rattle.pw_drive.specs.declared.restoring.Old.{Old}
 use Rattle.pw_drive.specs.declared.restoring.Old.TheVariants as olds

@@ -4,7 +4,7 @@ use Rattle.std.specs.List.{AllByRecursion}
 use Rattle.std.proofs.lemmas.List.{get_or-set_same, get_or-set_other, get_or_past}
 use Rattle.std.proofs.lemmas.Bool.{cases_lt, eqb-false}
 use Rattle.pw_plan.specs.declared.domain.DomainKind.{DomainKind}
-use Rattle.pw_plan.specs.declared.domain.DomainKind.TheVariants.{Perf, Throttle, Idle}
+use Rattle.pw_plan.specs.declared.domain.DomainKind.TheVariants.{Perf, Throttle}
 use Rattle.pw_plan.specs.declared.domain.Domain.{Domain}
 use Rattle.pw_plan.specs.declared.plan.Plan.{Plan}
 use Rattle.std.specs.Prelude.{is_some}
@@ -26,6 +26,7 @@ use Rattle.pw_plan.specs.inner.Once.{Once}
 use Rattle.pw_model.specs.Records.{Part, levels, domain, part_of}
 use Rattle.pw_model.specs.Effects.{member_place, standing_in, with_ask, with_limit}
 use Rattle.pw_model.proofs.Sets.{map_set}
+use Rattle.pw_plan.proofs.Firsts.{same_by, same_from}
 use Rattle.pw_plan.proofs.Found.{passes, position-here, position-later}
 
 -- # Members
@@ -92,22 +93,6 @@ module _ (P : Plan) (S : State) where
       (max (get_or (map (limit_of D.kind S) D.members) (member_place D.members p) 0) x)) (sym (read_place (ask_of D.kind S) D.members p on))
 
 -- # The domain of a processor
-
-pub same_from : (j k : DomainKind) → same_kind j k ≡ true → j ≡ k
-same_from Perf Perf e = refl
-same_from Perf Throttle e = cc
-same_from Perf Idle e = cc
-same_from Throttle Perf e = cc
-same_from Throttle Throttle e = refl
-same_from Throttle Idle e = cc
-same_from Idle Perf e = cc
-same_from Idle Throttle e = cc
-same_from Idle Idle e = refl
-
-same_by : (k : DomainKind) → same_kind k k ≡ true
-same_by Perf = refl
-same_by Throttle = refl
-same_by Idle = refl
 
 none_there : (P : Plan) (d q : ℕ) → length P.domains ≤ d → has_member (domain_at P d).members q ≡ true → ⊥
 unfolding no_domain

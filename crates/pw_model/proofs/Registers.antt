@@ -19,6 +19,7 @@ use Rattle.pw_plan.specs.Groups.{has_member, is_idle, is_software, no_domain}
 use Rattle.pw_plan.specs.Parts.{scale_of}
 use Rattle.pw_plan.specs.Places.{cpu_at, domain_at, domain_of}
 use Rattle.pw_plan.specs.Covering.{covers, same_kind}
+use Rattle.pw_plan.proofs.Firsts.{same_by, same_from}
 use Rattle.pw_plan.proofs.Lists.{and_first, and_second, or_left}
 use Rattle.pw_plan.proofs.Placing.{the_member}
 use Rattle.pw_model.specs.declared.state.Change.{Change}
@@ -31,24 +32,6 @@ use Rattle.pw_model.specs.Laws.{HasOwnRegisters, IsLastSet, IsSetToStanding, con
 use Rattle.pw_model.proofs.Accepting.{domain_from}
 use Rattle.pw_model.proofs.LastSets.{Untouched, last_append, last_before, mapped, set_in, set_members}
 use Rattle.pw_model.proofs.Standings.{Spares, standing-any, standing-own, standing-spared}
-
--- # Kinds
-
-kind_same : (a b : DomainKind) → same_kind a b ≡ true → a ≡ b
-kind_same kinds.Perf kinds.Perf e = refl
-kind_same kinds.Perf kinds.Throttle e = cc
-kind_same kinds.Perf kinds.Idle e = cc
-kind_same kinds.Throttle kinds.Perf e = cc
-kind_same kinds.Throttle kinds.Throttle e = refl
-kind_same kinds.Throttle kinds.Idle e = cc
-kind_same kinds.Idle kinds.Perf e = cc
-kind_same kinds.Idle kinds.Throttle e = cc
-kind_same kinds.Idle kinds.Idle e = refl
-
-same_itself : (a : DomainKind) → same_kind a a ≡ true
-same_itself kinds.Perf = refl
-same_itself kinds.Throttle = refl
-same_itself kinds.Idle = refl
 
 -- # Who has a domain
 
@@ -79,7 +62,7 @@ module _ (P : Plan) where
 
   -- the domain of its kind that has the processor
   pub place_is : (e q : ℕ) → e < length P.domains → is_idle (domain_at P e).kind ≡ false → has_member (domain_at P e).members q ≡ true → domain_of P (domain_at P e).kind q ≡ e
-  place_is e q lt idle member = P.sound.domains.only (domain_at P e).kind e q lt idle (rw (same_itself (domain_at P e).kind, member) refl)
+  place_is e q lt idle member = P.sound.domains.only (domain_at P e).kind e q lt idle (rw (same_by (domain_at P e).kind, member) refl)
 
   -- two fit domains of one processor are one, or set different registers
   apart : (d e p : ℕ) → IsFit d → IsFit e → has_member (domain_at P d).members p ≡ true → has_member (domain_at P e).members p ≡ true → HasOwnRegisters P p
@@ -132,7 +115,7 @@ found P kind q exists accepted scaled =
     let fine = domain_from P kind q (scale_of kind (cpu_at P q)) accepted in
     let lt : domain_of P kind q < length P.domains = P.sound.domains.placed kind q exists fine.0 in
     let covered : covers kind q (domain_at P (domain_of P kind q)) ≡ true = passes_at_first (covers kind q) P.domains no_domain lt in
-    let is = kind_same (domain_at P (domain_of P kind q)).kind kind (and_first (same_kind (domain_at P (domain_of P kind q)).kind kind) (has_member (domain_at P (domain_of P kind q)).members q)
+    let is = same_from (domain_at P (domain_of P kind q)).kind kind (and_first (same_kind (domain_at P (domain_of P kind q)).kind kind) (has_member (domain_at P (domain_of P kind q)).members q)
     covered) in
     record {
       fit = record { exists = lt; kind = ap is_idle is ∙ scaled; fit = fine.1 };

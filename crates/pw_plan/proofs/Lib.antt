@@ -22,3 +22,4 @@ pub mod Paths
 pub mod Among
 pub mod Indexing
 pub mod Memberships
+pub mod Firsts

@@ -11,4 +11,5 @@ pub mod Sound
 pub mod Index
 pub mod Places
 pub mod Requests
+pub mod Firsts
 pub mod inner

@@ -21,7 +21,7 @@ pub use bounds::covers;
 pub use domain::{Child, Domain, DomainKind, Group};
 pub use fault::PlanFault;
 pub use index::{CpuIndex, Membership};
-pub use laws::domains_are_known;
+pub use laws::{domains_are_known, first_places_are_told, indices_show_first_places};
 pub use limits::in_32_bits;
 pub use parts::{ContainerParts, CpuParts, Scale};
 pub use parts_check::parts_ok;
