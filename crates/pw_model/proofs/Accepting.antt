@@ -28,18 +28,18 @@ use Rattle.pw_model.proofs.Fitting.{none_first, none_second, not_refused}
 use Rattle.pw_model.proofs.Gathering.{idle_kind}
 use Rattle.pw_model.proofs.Maps.{weaker}
 
-none_both : (a b : Option Reply) → a ≡ None → b ≡ None → (a or_else b) ≡ None
+pub none_both : (a b : Option Reply) → a ≡ None → b ≡ None → (a or_else b) ≡ None
 none_both None b e f = f
 none_both (Some reply) b e f = cc
 
-not_refusing : (b : Bool) (reply : Reply) → b ≡ false → refuse_if b reply ≡ None
+pub not_refusing : (b : Bool) (reply : Reply) → b ≡ false → refuse_if b reply ≡ None
 not_refusing true reply e = cc
 not_refusing false reply e = refl
 
 pub or_nothing : (a : Option Reply) → a ≡ None → (a or_else None) ≡ None
 or_nothing a e = none_both a None e refl
 
-not_false : (b : Bool) → not b ≡ false → b ≡ true
+pub not_false : (b : Bool) → not b ≡ false → b ≡ true
 not_false true e = refl
 not_false false e = cc
 
@@ -84,7 +84,7 @@ module _ (P : Plan) (p : ℕ) where
           let none : (d.unfit == 0) ≡ true = grind (arith, nat_tests) in
           ap not none
 
-  unfit_from : unfit_refusal P p ≡ None → AreIdleDomainsFit P p
+  pub unfit_from : unfit_refusal P p ≡ None → AreIdleDomainsFit P p
   unfit_from e =
       let d = position_or_len (is_unfit p) P.domains in
       weaker (λ x. is_unfit p x ≡ false) (λ (x : Domain). is_idle x.kind ≡ true → has_member x.members p ≡ true → x.unfit ≡ 0) fit_from P.domains
@@ -93,7 +93,7 @@ module _ (P : Plan) (p : ℕ) where
       past : (d n : ℕ) → nat_lt d n ≡ false → n ≤ d
       past d n e = grind (arith, nat_tests)
 
-  unfit_by : AreIdleDomainsFit P p → unfit_refusal P p ≡ None
+  pub unfit_by : AreIdleDomainsFit P p → unfit_refusal P p ≡ None
   unfit_by fit =
       let d = position_or_len (is_unfit p) P.domains in
       not_refusing (nat_lt d (length P.domains)) (Unfit (in_32_bits d) (domain_at P d).unfit)
@@ -103,12 +103,12 @@ module _ (P : Plan) (p : ℕ) where
       past : (d n : ℕ) → n ≤ d → nat_lt d n ≡ false
       past d n le = grind (arith, nat_tests)
 
-  has_table : (kind : IdleKind) → is_absent kind ≡ false → kind ≢ Absent
+  pub has_table : (kind : IdleKind) → is_absent kind ≡ false → kind ≢ Absent
   has_table Lpi e = λ same. cc
   has_table Cst e = λ same. cc
   has_table Absent e = λ same. cc
 
-  table_there : (kind : IdleKind) → kind ≢ Absent → is_absent kind ≡ false
+  pub table_there : (kind : IdleKind) → kind ≢ Absent → is_absent kind ≡ false
   table_there Lpi h = refl
   table_there Cst h = refl
   table_there Absent h = absurd (h refl)

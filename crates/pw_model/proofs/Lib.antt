@@ -20,6 +20,7 @@ pub mod Rows
 pub mod Joining
 pub mod Setting
 pub mod AnyMember
+pub mod Reasons
 pub mod Sets
 pub mod Agree
 pub mod Lines

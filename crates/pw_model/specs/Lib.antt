@@ -9,6 +9,7 @@ pub mod History
 pub mod Laws
 pub mod Acceptance
 pub mod Entering
+pub mod Reasons
 pub mod Records
 pub mod Effects
 pub mod Locality

@@ -9,6 +9,7 @@ mod entry;
 mod history;
 mod laws;
 mod record_laws;
+mod refusing;
 mod reply;
 mod starting;
 mod state;
@@ -29,6 +30,9 @@ pub use laws::{
 pub use record_laws::{
     histories_leave_ways, records_open_and_serve, records_tell_requests, requests_are_local,
     requests_have_routes, requests_have_ways, states_fit_records,
+};
+pub use refusing::{
+    asks_are_refused_in_order, idle_requests_are_refused_in_order, limits_are_refused_in_order,
 };
 pub use reply::Reply;
 pub use starting::starts_are_those_of_the_tables;
