@@ -21,6 +21,7 @@ pub mod Joining
 pub mod Setting
 pub mod AnyMember
 pub mod Reasons
+pub mod Changes
 pub mod Sets
 pub mod Agree
 pub mod Lines

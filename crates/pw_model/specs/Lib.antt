@@ -10,6 +10,7 @@ pub mod Laws
 pub mod Acceptance
 pub mod Entering
 pub mod Reasons
+pub mod Changes
 pub mod Records
 pub mod Effects
 pub mod Locality

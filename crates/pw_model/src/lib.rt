@@ -8,6 +8,7 @@ mod entering;
 mod entry;
 mod history;
 mod laws;
+mod leaving;
 mod record_laws;
 mod refusing;
 mod reply;
@@ -27,6 +28,7 @@ pub use laws::{
     bounds_hold, c_states_are_greatest, container_states_are_greatest, domains_stand_within_limits,
     hardware_members_stand_alone, refusals_change_nothing, registers_stand, wakes_operate_nothing,
 };
+pub use leaving::accepted_requests_change_one_entry;
 pub use record_laws::{
     histories_leave_ways, records_open_and_serve, records_tell_requests, requests_are_local,
     requests_have_routes, requests_have_ways, states_fit_records,
