@@ -22,6 +22,7 @@ pub mod Setting
 pub mod AnyMember
 pub mod Reasons
 pub mod Changes
+pub mod Operating
 pub mod Sets
 pub mod Agree
 pub mod Lines

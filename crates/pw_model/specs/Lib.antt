@@ -11,6 +11,7 @@ pub mod Acceptance
 pub mod Entering
 pub mod Reasons
 pub mod Changes
+pub mod Operating
 pub mod Records
 pub mod Effects
 pub mod Locality

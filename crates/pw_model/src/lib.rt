@@ -4,6 +4,7 @@
 #![tactic(auto)]
 
 mod acceptance;
+mod acting;
 mod entering;
 mod entry;
 mod history;
@@ -16,6 +17,7 @@ mod starting;
 mod state;
 
 pub use acceptance::{fixed_refusals_come_always, requests_are_accepted_where_they_may};
+pub use acting::{domains_are_set_at_the_start, idle_requests_enter_first, new_standings_are_set};
 pub use entering::{
     idle_domains_are_about_rows, others_enter_who_come_along, outermost_registers_are_entered,
 };
