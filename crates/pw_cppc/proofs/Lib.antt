@@ -16,3 +16,4 @@ pub mod Gathering
 pub mod Staying
 pub mod Joining
 pub mod NumberBounds
+pub mod Refused

@@ -11,3 +11,4 @@ pub mod Answers
 pub mod Operations
 pub mod History
 pub mod Laws
+pub mod Causes

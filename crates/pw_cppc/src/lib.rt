@@ -40,4 +40,5 @@ pub use standings::{standing, stands};
 pub use state::CppcState;
 pub use state_laws::{
     bounds_hold, domains_stand_within_maxima, minima_stay_below_maxima, refusals_change_nothing,
+    refusals_come_where_due,
 };

@@ -1,4 +1,4 @@
-ghost use Rattle.std.specs.Prelude.{◌≡◌, ◌<◌, ◌≤◌, ◌⊎◌, ℕ, true, List, [], Some, length};
+ghost use Rattle.std.specs.Prelude.{◌≡◌, ◌<◌, ◌≤◌, ◌⊎◌, ◌↔◌, ℕ, true, List, [], Some, length, None};
 ghost use Rattle.pw_plan.specs.Groups.{has_member, is_software};
 ghost use Rattle.pw_cppc.specs.declared.plan.CppcPlan.{CppcPlan as plan};
 ghost use Rattle.pw_cppc.specs.declared.request.CppcRequest.{CppcRequest as request};
@@ -12,6 +12,7 @@ ghost use Rattle.pw_cppc.specs.Answers.{after, answer, refusal};
 ghost use Rattle.pw_cppc.specs.Operations.{opening_ops, ops_of};
 ghost use Rattle.pw_cppc.specs.History.{replay};
 ghost use Rattle.pw_cppc.specs.Laws.{IsAllowed, Satisfies};
+ghost use Rattle.pw_cppc.specs.Causes.{IsDue, MayAsk};
 
 /// A domain that software coordinates stands no faster than each member allows, and as fast as each
 /// asks and demands, unless one allows no more (ACPI 6.5, 8.3).
@@ -39,6 +40,14 @@ pub fn refusals_change_nothing()
         → ops_of P S q ≡ [] }
     ensures answer { (P : plan) (S : numbers) (q : request) (r : reply) → refusal P S q ≡ Some r
         → answer P S q ≡ r }
+{}
+
+/// A request is accepted just where it may be made, and each refusal comes just where it is due
+/// (ACPI 6.5, 8.4.6.1.2).
+pub fn refusals_come_where_due()
+    ensures accepted { (P : plan) (S : numbers) (q : request) → refusal P S q ≡ None ↔ MayAsk P S q }
+    ensures refused { (P : plan) (S : numbers) (q : request) (r : reply)
+        → refusal P S q ≡ Some r ↔ IsDue P S q r }
 {}
 
 /// A request never has more operations than its bound, and there are as many at the start as theirs
