@@ -17,3 +17,4 @@ pub mod Staying
 pub mod Joining
 pub mod NumberBounds
 pub mod Refused
+pub mod Alone

@@ -1,4 +1,5 @@
-ghost use Rattle.std.specs.Prelude.{◌≡◌, ◌<◌, ◌≤◌, ◌⊎◌, ◌↔◌, ℕ, true, List, [], Some, length, None};
+ghost use Rattle.std.specs.Prelude.{◌≡◌, ◌<◌, ◌≤◌, ◌⊎◌, ◌↔◌, ◌≢◌, ℕ, true, List, [], Some, length, None};
+ghost use Rattle.acpi_values.specs.declared.dependency.Coord.TheVariants.{HwAll};
 ghost use Rattle.pw_plan.specs.Groups.{has_member, is_software};
 ghost use Rattle.pw_cppc.specs.declared.plan.CppcPlan.{CppcPlan as plan};
 ghost use Rattle.pw_cppc.specs.declared.request.CppcRequest.{CppcRequest as request};
@@ -7,11 +8,11 @@ ghost use Rattle.pw_cppc.specs.Requests.{Has, opening_bound, ops_bound};
 ghost use Rattle.pw_cppc.specs.declared.entry.CppcEntry.{CppcEntry as entry};
 ghost use Rattle.pw_cppc.specs.declared.numbers.CppcNumbers.{CppcNumbers as numbers};
 ghost use Rattle.pw_cppc.specs.declared.reply.CppcReply.{CppcReply as reply};
-ghost use Rattle.pw_cppc.specs.States.{any_performance, maximum_of, minimum_of, standing};
+ghost use Rattle.pw_cppc.specs.States.{any_performance, ask_of, maximum_of, minimum_of, standing};
 ghost use Rattle.pw_cppc.specs.Answers.{after, answer, refusal};
 ghost use Rattle.pw_cppc.specs.Operations.{opening_ops, ops_of};
 ghost use Rattle.pw_cppc.specs.History.{replay};
-ghost use Rattle.pw_cppc.specs.Laws.{IsAllowed, Satisfies};
+ghost use Rattle.pw_cppc.specs.Laws.{IsAllowed, IsNearest, Satisfies};
 ghost use Rattle.pw_cppc.specs.Causes.{IsDue, MayAsk};
 
 /// A domain that software coordinates stands no faster than each member allows, and as fast as each
@@ -48,6 +49,15 @@ pub fn refusals_come_where_due()
     ensures accepted { (P : plan) (S : numbers) (q : request) → refusal P S q ≡ None ↔ MayAsk P S q }
     ensures refused { (P : plan) (S : numbers) (q : request) (r : reply)
         → refusal P S q ≡ Some r ↔ IsDue P S q r }
+{}
+
+/// A domain that software coordinates stands as one; in one that hardware coordinates each member
+/// stands where it asks to, within its own bounds (ACPI 6.5, 8.3).
+pub fn members_stand_by_coordination()
+    ensures together { (P : plan) (S : numbers) (d p q : ℕ) → (domain_at P d).coord ≢ HwAll
+        → standing P S d p ≡ standing P S d q }
+    ensures alone { (P : plan) (S : numbers) (d p : ℕ) → (domain_at P d).coord ≡ HwAll
+        → IsNearest (ask_of S p) (minimum_of S p) (maximum_of S p) (standing P S d p) }
 {}
 
 /// A request never has more operations than its bound, and there are as many at the start as theirs
