@@ -18,3 +18,4 @@ pub mod Joining
 pub mod NumberBounds
 pub mod Refused
 pub mod Alone
+pub mod OneNumber

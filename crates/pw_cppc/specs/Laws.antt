@@ -1,7 +1,9 @@
 -- What standing means, said of members one by one.
-use Rattle.std.specs.Prelude.{◌≡◌, ◌≤◌, ◌⊎◌, ℕ, true}
+use Rattle.std.specs.Prelude.{◌≡◌, ◌≢◌, ◌≤◌, ◌⊎◌, ℕ, true}
 use Rattle.pw_plan.specs.Groups.{has_member}
 use Rattle.pw_cppc.specs.declared.plan.CppcPlan.{CppcPlan}
+use Rattle.pw_cppc.specs.declared.request.CppcRequest.{CppcRequest}
+use Rattle.pw_cppc.specs.declared.request.CppcRequest.TheVariants.{Desired, Minimum, Maximum}
 use Rattle.pw_cppc.specs.Planning.{domain_at}
 use Rattle.pw_cppc.specs.declared.numbers.CppcNumbers.{CppcNumbers}
 use Rattle.pw_cppc.specs.States.{ask_of, maximum_of, minimum_of}
@@ -20,3 +22,13 @@ pub record IsNearest (ask minimum maximum v : ℕ) : Type 0 where
   pub asked : minimum ≤ ask → ask ≤ maximum → v ≡ ask
   pub raised : ask ≤ minimum → minimum ≤ maximum → v ≡ minimum
   pub lowered : (maximum ≤ ask) ⊎ (maximum ≤ minimum) → v ≡ maximum
+
+-- of numbers before and after, processor p's has become v, and each other one stays
+abbrev pub IsChanged : (ℕ → ℕ) → (ℕ → ℕ) → ℕ → ℕ → Type 0
+IsChanged before later p v = (later p ≡ v) × ((q : ℕ) → q ≢ p → later q ≡ before q)
+
+-- the request turns the numbers S into T: one of three lists changes, at one place
+abbrev pub Leaves : CppcNumbers → CppcRequest → CppcNumbers → Type 0
+Leaves S (Desired p v) T = IsChanged (ask_of S) (ask_of T) p v × (T.minima ≡ S.minima) × (T.maxima ≡ S.maxima)
+Leaves S (Minimum p v) T = IsChanged (minimum_of S) (minimum_of T) p v × (T.asks ≡ S.asks) × (T.maxima ≡ S.maxima)
+Leaves S (Maximum p v) T = IsChanged (maximum_of S) (maximum_of T) p v × (T.asks ≡ S.asks) × (T.minima ≡ S.minima)

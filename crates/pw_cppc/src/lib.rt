@@ -39,6 +39,7 @@ pub use request::CppcRequest;
 pub use standings::{standing, stands};
 pub use state::CppcState;
 pub use state_laws::{
-    bounds_hold, domains_stand_within_maxima, members_stand_by_coordination,
-    minima_stay_below_maxima, refusals_change_nothing, refusals_come_where_due,
+    accepted_requests_change_one_number, bounds_hold, domains_stand_within_maxima,
+    members_stand_by_coordination, minima_stay_below_maxima, refusals_change_nothing,
+    refusals_come_where_due,
 };

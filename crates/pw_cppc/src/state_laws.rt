@@ -4,15 +4,17 @@ ghost use Rattle.pw_plan.specs.Groups.{has_member, is_software};
 ghost use Rattle.pw_cppc.specs.declared.plan.CppcPlan.{CppcPlan as plan};
 ghost use Rattle.pw_cppc.specs.declared.request.CppcRequest.{CppcRequest as request};
 ghost use Rattle.pw_cppc.specs.Planning.{domain_at};
-ghost use Rattle.pw_cppc.specs.Requests.{Has, opening_bound, ops_bound};
+ghost use Rattle.pw_cppc.specs.Requests.{Has, cpu_of, opening_bound, ops_bound};
 ghost use Rattle.pw_cppc.specs.declared.entry.CppcEntry.{CppcEntry as entry};
 ghost use Rattle.pw_cppc.specs.declared.numbers.CppcNumbers.{CppcNumbers as numbers};
 ghost use Rattle.pw_cppc.specs.declared.reply.CppcReply.{CppcReply as reply};
-ghost use Rattle.pw_cppc.specs.States.{any_performance, ask_of, maximum_of, minimum_of, standing};
+ghost use Rattle.pw_cppc.specs.declared.reply.CppcReply.TheVariants.{Stands};
+ghost use Rattle.pw_cppc.specs.States.{AreNumbers, any_performance, ask_of};
+ghost use Rattle.pw_cppc.specs.States.{maximum_of, minimum_of, standing};
 ghost use Rattle.pw_cppc.specs.Answers.{after, answer, refusal};
 ghost use Rattle.pw_cppc.specs.Operations.{opening_ops, ops_of};
 ghost use Rattle.pw_cppc.specs.History.{replay};
-ghost use Rattle.pw_cppc.specs.Laws.{IsAllowed, IsNearest, Satisfies};
+ghost use Rattle.pw_cppc.specs.Laws.{IsAllowed, IsNearest, Leaves, Satisfies};
 ghost use Rattle.pw_cppc.specs.Causes.{IsDue, MayAsk};
 
 /// A domain that software coordinates stands no faster than each member allows, and as fast as each
@@ -58,6 +60,16 @@ pub fn members_stand_by_coordination()
         → standing P S d p ≡ standing P S d q }
     ensures alone { (P : plan) (S : numbers) (d p : ℕ) → (domain_at P d).coord ≡ HwAll
         → IsNearest (ask_of S p) (minimum_of S p) (maximum_of S p) (standing P S d p) }
+{}
+
+/// A request that is accepted changes the number that it names and no other, and is answered where
+/// its processor then stands.
+pub fn accepted_requests_change_one_number()
+    ensures numbers { (P : plan) (S : numbers) (q : request) → AreNumbers P S
+        → refusal P S q ≡ None → Leaves S q (after P S q) }
+    ensures answer { (P : plan) (S : numbers) (q : request) (d : ℕ) → refusal P S q ≡ None
+        → d < length P.domains → has_member (domain_at P d).members (cpu_of q) ≡ true
+        → answer P S q ≡ Stands (standing P (after P S q) d (cpu_of q)) }
 {}
 
 /// A request never has more operations than its bound, and there are as many at the start as theirs
