@@ -19,3 +19,4 @@ pub mod NumberBounds
 pub mod Refused
 pub mod Alone
 pub mod OneNumber
+pub mod Starts

@@ -77,21 +77,21 @@ same_highest a b e = same_number (highest_of a) (highest_of b) (and_second (lowe
 -- # At the start
 
 module _ (P : CppcPlan) where
-  ask_at_start : (p : ℕ) → p < length P.cpus → ask_of (opening P) p ≡ highest_of (parts_at P p)
+  pub ask_at_start : (p : ℕ) → p < length P.cpus → ask_of (opening P) p ≡ highest_of (parts_at P p)
   unfolding opening no_parts
   ask_at_start p lt = get_or-map highest_of P.cpus p no_parts 0 lt
 
-  minimum_at_start : (p : ℕ) → p < length P.cpus → minimum_of (opening P) p ≡ lowest_of (parts_at P p)
+  pub minimum_at_start : (p : ℕ) → p < length P.cpus → minimum_of (opening P) p ≡ lowest_of (parts_at P p)
   unfolding opening no_parts
   minimum_at_start p lt = get_or-map lowest_of P.cpus p no_parts 0 lt
 
-  maximum_at_start : (p : ℕ) → p < length P.cpus → maximum_of (opening P) p ≡ highest_of (parts_at P p)
+  pub maximum_at_start : (p : ℕ) → p < length P.cpus → maximum_of (opening P) p ≡ highest_of (parts_at P p)
   unfolding opening no_parts
   maximum_at_start p lt = get_or-map highest_of P.cpus p no_parts 0 lt
 
   -- a fit domain at place d
   module _ (d : ℕ) (lt : d < length P.domains) (fit : (domain_at P d).unfit ≡ 0) where
-    exists : (p : ℕ) → has_member (domain_at P d).members p ≡ true → p < length P.cpus
+    pub exists : (p : ℕ) → has_member (domain_at P d).members p ≡ true → p < length P.cpus
     exists p m = member_bound (length P.cpus) (domain_at P d).members (recursion_from_All (λ q. q < length P.cpus) (domain_at P d).members (P.sound.members d no_domain lt)) p m
 
     pub ordered : (p : ℕ) → has_member (domain_at P d).members p ≡ true → lowest_of (parts_at P p) ≤ highest_of (parts_at P p)
@@ -113,7 +113,7 @@ module _ (P : CppcPlan) where
 
     -- members stand where one of them is fastest
     module _ (first : ℕ) (has : has_member (domain_at P d).members first ≡ true) (some : 0 < length (domain_at P d).members) (few : highest_of (parts_at P first) ≤ any_performance) where
-      stands_highest : (p : ℕ) → has_member (domain_at P d).members p ≡ true → standing P (opening P) d p ≡ highest_of (parts_at P first)
+      pub stands_highest : (p : ℕ) → has_member (domain_at P d).members p ≡ true → standing P (opening P) d p ≡ highest_of (parts_at P first)
       stands_highest p m =
           let S = opening P in
           let top = highest_of (parts_at P first) in

@@ -12,3 +12,4 @@ pub mod Operations
 pub mod History
 pub mod Laws
 pub mod Causes
+pub mod Controls

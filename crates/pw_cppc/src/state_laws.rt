@@ -1,21 +1,26 @@
-ghost use Rattle.std.specs.Prelude.{◌≡◌, ◌<◌, ◌≤◌, ◌⊎◌, ◌↔◌, ◌≢◌, ℕ, true, List, [], Some, length, None};
+ghost use Rattle.std.specs.Prelude.{◌≡◌, ◌<◌, ◌≤◌, ◌⊎◌, ◌↔◌, ◌≢◌, ℕ};
+ghost use Rattle.std.specs.Prelude.{true, List, [], Some, length, None, Contains};
+ghost use Rattle.std.specs.List.{AllByRecursion};
 ghost use Rattle.acpi_values.specs.declared.dependency.Coord.TheVariants.{HwAll};
+ghost use Rattle.acpi_values.specs.declared.operation.Op.{Op as op};
 ghost use Rattle.pw_plan.specs.Groups.{has_member, is_software};
 ghost use Rattle.pw_cppc.specs.declared.plan.CppcPlan.{CppcPlan as plan};
 ghost use Rattle.pw_cppc.specs.declared.request.CppcRequest.{CppcRequest as request};
-ghost use Rattle.pw_cppc.specs.Planning.{domain_at};
+ghost use Rattle.pw_cppc.specs.Planning.{domain_at, parts_at};
 ghost use Rattle.pw_cppc.specs.Requests.{Has, cpu_of, opening_bound, ops_bound};
 ghost use Rattle.pw_cppc.specs.declared.entry.CppcEntry.{CppcEntry as entry};
 ghost use Rattle.pw_cppc.specs.declared.numbers.CppcNumbers.{CppcNumbers as numbers};
 ghost use Rattle.pw_cppc.specs.declared.reply.CppcReply.{CppcReply as reply};
 ghost use Rattle.pw_cppc.specs.declared.reply.CppcReply.TheVariants.{Stands};
 ghost use Rattle.pw_cppc.specs.States.{AreNumbers, any_performance, ask_of};
-ghost use Rattle.pw_cppc.specs.States.{maximum_of, minimum_of, standing};
+ghost use Rattle.pw_cppc.specs.States.{maximum_of, minimum_of, opening, standing};
 ghost use Rattle.pw_cppc.specs.Answers.{after, answer, refusal};
 ghost use Rattle.pw_cppc.specs.Operations.{opening_ops, ops_of};
 ghost use Rattle.pw_cppc.specs.History.{replay};
 ghost use Rattle.pw_cppc.specs.Laws.{IsAllowed, IsNearest, Leaves, Satisfies};
 ghost use Rattle.pw_cppc.specs.Causes.{IsDue, MayAsk};
+ghost use Rattle.pw_cppc.specs.Controls.{IsFitMember, IsStart};
+ghost use Rattle.pw_cppc.specs.Parts.{highest_of, lowest_of};
 
 /// A domain that software coordinates stands no faster than each member allows, and as fast as each
 /// asks and demands, unless one allows no more (ACPI 6.5, 8.3).
@@ -85,4 +90,24 @@ pub fn minima_stay_below_maxima()
     ensures { (P : plan) (H : List entry) (d p : ℕ) → d < length P.domains
         → (domain_at P d).unfit ≡ 0 → has_member (domain_at P d).members p ≡ true
         → minimum_of (replay P H) p ≤ maximum_of (replay P H) p }
+{}
+
+/// At the start each processor asks for its highest performance, between its lowest and its highest,
+/// and a fit domain stands there.
+pub fn processors_open_at_their_highest()
+    ensures asks { (P : plan) (p : ℕ) → p < length P.cpus
+        → ask_of (opening P) p ≡ highest_of (parts_at P p) }
+    ensures minima { (P : plan) (p : ℕ) → p < length P.cpus
+        → minimum_of (opening P) p ≡ lowest_of (parts_at P p) }
+    ensures maxima { (P : plan) (p : ℕ) → p < length P.cpus
+        → maximum_of (opening P) p ≡ highest_of (parts_at P p) }
+    ensures stands { (P : plan) (d p : ℕ) → IsFitMember P d p
+        → highest_of (parts_at P p) ≤ any_performance
+        → standing P (opening P) d p ≡ highest_of (parts_at P p) }
+{}
+
+/// The operations at the start are those that set each control of a fit domain's members.
+pub fn openings_set_controls()
+    ensures only { (P : plan) → AllByRecursion (IsStart P) (opening_ops P) }
+    ensures all { (P : plan) (o : op) → IsStart P o → Contains (opening_ops P) o }
 {}
