@@ -20,3 +20,4 @@ pub mod Refused
 pub mod Alone
 pub mod OneNumber
 pub mod Starts
+pub mod Reasoning

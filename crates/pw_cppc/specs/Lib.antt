@@ -13,3 +13,4 @@ pub mod History
 pub mod Laws
 pub mod Causes
 pub mod Controls
+pub mod Reasons
