@@ -21,3 +21,5 @@ pub mod Alone
 pub mod OneNumber
 pub mod Starts
 pub mod Reasoning
+pub mod LastSet
+pub mod Controls

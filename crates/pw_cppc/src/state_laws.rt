@@ -1,7 +1,7 @@
-ghost use Rattle.std.specs.Prelude.{◌≡◌, ◌<◌, ◌≤◌, ◌⊎◌, ◌↔◌, ◌≢◌, ℕ};
-ghost use Rattle.std.specs.Prelude.{true, List, [], Some, length, None, Contains};
+ghost use Rattle.std.specs.Prelude.{◌≡◌, ◌<◌, ◌≤◌, ◌⊎◌, ◌↔◌, ◌≢◌, ◌++◌, ℕ};
+ghost use Rattle.std.specs.Prelude.{true, List, [], Some, length, None, Contains, is_some};
 ghost use Rattle.std.specs.List.{AllByRecursion};
-ghost use Rattle.acpi_values.specs.declared.dependency.Coord.TheVariants.{HwAll};
+ghost use Rattle.acpi_values.specs.declared.dependency.Coord.TheVariants.{HwAll, SwAny};
 ghost use Rattle.acpi_values.specs.declared.operation.Op.{Op as op};
 ghost use Rattle.pw_plan.specs.Groups.{has_member, is_software};
 ghost use Rattle.pw_cppc.specs.declared.plan.CppcPlan.{CppcPlan as plan};
@@ -12,15 +12,17 @@ ghost use Rattle.pw_cppc.specs.declared.entry.CppcEntry.{CppcEntry as entry};
 ghost use Rattle.pw_cppc.specs.declared.numbers.CppcNumbers.{CppcNumbers as numbers};
 ghost use Rattle.pw_cppc.specs.declared.reply.CppcReply.{CppcReply as reply};
 ghost use Rattle.pw_cppc.specs.declared.reply.CppcReply.TheVariants.{Stands};
+ghost use Rattle.pw_cppc.specs.declared.parts.Control.{Control as control};
+ghost use Rattle.pw_cppc.specs.declared.parts.Control.TheVariants.{Desired};
 ghost use Rattle.pw_cppc.specs.States.{AreNumbers, any_performance, ask_of};
 ghost use Rattle.pw_cppc.specs.States.{maximum_of, minimum_of, opening, standing};
 ghost use Rattle.pw_cppc.specs.Answers.{after, answer, refusal};
 ghost use Rattle.pw_cppc.specs.Operations.{opening_ops, ops_of};
-ghost use Rattle.pw_cppc.specs.History.{replay};
+ghost use Rattle.pw_cppc.specs.History.{Faultless, history_ops, replay};
 ghost use Rattle.pw_cppc.specs.Laws.{IsAllowed, IsNearest, Leaves, Satisfies};
 ghost use Rattle.pw_cppc.specs.Causes.{IsDue, MayAsk};
-ghost use Rattle.pw_cppc.specs.Controls.{IsFitMember, IsStart};
-ghost use Rattle.pw_cppc.specs.Parts.{highest_of, lowest_of};
+ghost use Rattle.pw_cppc.specs.Controls.{HasOwnRegisters, IsFitMember, IsLastSetOn, IsStart, said_by};
+ghost use Rattle.pw_cppc.specs.Parts.{highest_of, lowest_of, register_of};
 
 /// A domain that software coordinates stands no faster than each member allows, and as fast as each
 /// asks and demands, unless one allows no more (ACPI 6.5, 8.3).
@@ -110,4 +112,22 @@ pub fn processors_open_at_their_highest()
 pub fn openings_set_controls()
     ensures only { (P : plan) → AllByRecursion (IsStart P) (opening_ops P) }
     ensures all { (P : plan) (o : op) → IsStart P o → Contains (opening_ops P) o }
+{}
+
+/// After the operations of the start and those of a history without a fault, each control of a
+/// member of a fit domain was last set to what it is to say, and of the members of a SW_ANY domain
+/// the desired performance that was set last to where the domain stands, unless a processor has one
+/// register for two controls.
+pub fn controls_stand()
+    ensures each { (P : plan) (H : List entry) (d p : ℕ) (c : control) → Faultless H
+        → IsFitMember P d p → HasOwnRegisters P p
+        → is_some (register_of c (parts_at P p)) ≡ true
+        → (c ≡ Desired → (domain_at P d).coord ≢ SwAny)
+        → IsLastSetOn P c (λ q. q ≡ p) (said_by c P (replay P H) d p)
+        (opening_ops P ++ history_ops P H) }
+    ensures any { (P : plan) (H : List entry) (d p : ℕ) → Faultless H → IsFitMember P d p
+        → (domain_at P d).coord ≡ SwAny
+        → ((q : ℕ) → has_member (domain_at P d).members q ≡ true → HasOwnRegisters P q)
+        → IsLastSetOn P Desired (λ q. has_member (domain_at P d).members q ≡ true)
+        (standing P (replay P H) d p) (opening_ops P ++ history_ops P H) }
 {}
