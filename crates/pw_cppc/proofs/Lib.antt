@@ -23,3 +23,4 @@ pub mod Starts
 pub mod Reasoning
 pub mod LastSet
 pub mod Controls
+pub mod Asked

@@ -42,4 +42,5 @@ pub use state_laws::{
     accepted_requests_change_one_number, bounds_hold, controls_stand, domains_stand_within_maxima,
     members_stand_by_coordination, minima_stay_below_maxima, openings_set_controls,
     processors_open_at_their_highest, refusals_change_nothing, refusals_come_where_due,
+    requests_set_controls,
 };

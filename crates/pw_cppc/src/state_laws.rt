@@ -21,7 +21,8 @@ ghost use Rattle.pw_cppc.specs.Operations.{opening_ops, ops_of};
 ghost use Rattle.pw_cppc.specs.History.{Faultless, history_ops, replay};
 ghost use Rattle.pw_cppc.specs.Laws.{IsAllowed, IsNearest, Leaves, Satisfies};
 ghost use Rattle.pw_cppc.specs.Causes.{IsDue, MayAsk};
-ghost use Rattle.pw_cppc.specs.Controls.{HasOwnRegisters, IsFitMember, IsLastSetOn, IsStart, said_by};
+ghost use Rattle.pw_cppc.specs.Controls.{HasOwnRegisters, IsFitMember, IsLastSetOn};
+ghost use Rattle.pw_cppc.specs.Controls.{IsSetBy, IsStart, said_by};
 ghost use Rattle.pw_cppc.specs.Parts.{highest_of, lowest_of, register_of};
 
 /// A domain that software coordinates stands no faster than each member allows, and as fast as each
@@ -130,4 +131,12 @@ pub fn controls_stand()
         → ((q : ℕ) → has_member (domain_at P d).members q ≡ true → HasOwnRegisters P q)
         → IsLastSetOn P Desired (λ q. has_member (domain_at P d).members q ≡ true)
         (standing P (replay P H) d p) (opening_ops P ++ history_ops P H) }
+{}
+
+/// The operations of a request are those that set each control that it moves.
+pub fn requests_set_controls()
+    ensures only { (P : plan) (S : numbers) (q : request) → AreNumbers P S
+        → AllByRecursion (IsSetBy P S q) (ops_of P S q) }
+    ensures all { (P : plan) (S : numbers) (q : request) (o : op) → AreNumbers P S
+        → IsSetBy P S q o → Contains (ops_of P S q) o }
 {}
