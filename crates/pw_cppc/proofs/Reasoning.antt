@@ -1,25 +1,27 @@
 -- Why the members of a domain can't be coordinated, test by test.
-use Rattle.std.proofs.Common.{◌≡◌, ◌<◌, ◌==◌, ◌&&◌, ℕ, Bool, true, false, List, [], ◌∷◌, length, Option, Some, None, refl, ap, sym, ◌∙◌, subst, arith, eqb-true, eq-eqb}
-use Rattle.std.specs.Prelude.{is_some, nat_le}
+use Rattle.std.proofs.Common.{◌≡◌, ◌<◌, ◌==◌, ◌&&◌, ◌∷◌, ◌∙◌, ◌||◌, ◌⊎◌, ℕ, Bool, true, false, List, [], length, Option, Some, None, refl, ap, sym, subst, arith, eqb-true, eq-eqb, inl, inr}
+use Rattle.std.specs.Prelude.{is_some, nat_le, unwrap_or}
 use Rattle.std.specs.List.{list_all}
-use Rattle.std.proofs.lemmas.Bool.{le-leb, leb-true}
+use Rattle.std.proofs.lemmas.Bool.{le-leb, leb-true, or_cases}
 use Rattle.acpi_values.specs.declared.dependency.Coord.{Coord}
 use Rattle.acpi_values.specs.declared.dependency.Coord.TheVariants.{SwAll, SwAny, HwAll}
+use Rattle.acpi_values.specs.declared.dependency.Dependency.{Dependency}
 use Rattle.acpi_values.specs.declared.performance.CpcEntry.{CpcEntry}
 use Rattle.acpi_values.specs.declared.performance.CpcEntry.TheVariants.{Number, Register}
 use Rattle.acpi_values.specs.declared.register.Register.{Register as register}
-use Rattle.pw_plan.specs.Domains.{same_coord}
+use Rattle.pw_plan.specs.Domains.{alone, same_coord}
 use Rattle.pw_plan.specs.Groups.{first_of, has_member}
 use Rattle.pw_plan.proofs.Lists.{and_both, and_first, and_second, or_left, or_right}
-use Rattle.pw_plan.proofs.Rising.{first_there}
+use Rattle.pw_plan.proofs.Rising.{Rises, first_there, rises_of}
 use Rattle.pw_cppc.specs.declared.parts.Control.TheVariants as controls
 use Rattle.pw_cppc.specs.declared.parts.CppcParts.{CppcParts}
 use Rattle.pw_cppc.specs.declared.plan.CppcDomain.{CppcDomain}
-use Rattle.pw_cppc.specs.Domains.{IsDomain, same_range, shown, unfit_by, why_unfit}
-use Rattle.pw_cppc.specs.Parts.{entry_of, highest_of, is_number, is_ranged, lowest_of, number_in, parts_in, register_of}
-use Rattle.pw_cppc.specs.Reasons.{Agree, HasRange, HaveOneRange, HaveRanges, HaveRegisters, IsReason, ShowOneNumber, ShowOneType, ShowTheirNumber}
+use Rattle.pw_cppc.specs.Domains.{IsDomain, same_domain, same_range, shown, unfit_by, why_unfit}
+use Rattle.pw_cppc.specs.Parts.{entry_of, has_cpc, highest_of, is_number, is_ranged, lowest_of, number_in, parts_in, register_of}
+use Rattle.pw_cppc.specs.Reasons.{Agree, IsAlone, HasRange, HaveOneRange, HaveRanges, HaveRegisters, IsReason, ShowOneNumber, ShowOneType, ShowTheirNumber}
 use Rattle.pw_cppc.specs.Reasons.{all_agree, number_is_wrong, numbers_differ, range_is_none, ranges_differ, register_is_none, types_differ}
 use Rattle.pw_cppc.proofs.Kept.{member_all}
+use Rattle.pw_cppc.proofs.Soundness.{exists}
 
 -- # Tests
 
@@ -184,3 +186,84 @@ module _ (ps : List CppcParts) (ms : List ℕ) (some : 0 < length ms) where
 
 pub domain_reason : (ps : List CppcParts) (d : CppcDomain) → IsDomain ps d → IsReason ps d.members d.unfit
 domain_reason ps d is = subst (IsReason ps d.members) (sym is.unfit) (is_reason ps d.members is.some)
+
+-- # Who declares nothing
+
+same_none : (d e : Option Dependency) → d ≡ None → same_domain d e ≡ false
+same_none None e i = refl
+same_none (Some d) e i = cc
+
+none_same : (d e : Option Dependency) → e ≡ None → same_domain d e ≡ false
+none_same None e i = refl
+none_same (Some d) None i = refl
+none_same (Some d) (Some e) i = cc
+
+equal_or : (m n : ℕ) (b : Bool) → ((m == n) || b) ≡ true → b ≡ false → m ≡ n
+equal_or m n b e f = elim (or_cases (m == n) b e) [
+  | inl same ↦ eqb-true m n same
+  | inr other ↦ let clash : true ≡ false = sym other ∙ f in cc
+]
+
+one_only : (low : ℕ) (ms : List ℕ) (p : ℕ) → Rises low ms → has_member ms p ≡ true → ((q : ℕ) → has_member ms q ≡ true → q ≡ p) → ms ≡ p ∷ []
+one_only low [] p r e h = cc
+one_only low (x ∷ []) p r e h = ap (λ k. k ∷ []) (h x (or_left (x == x) false (eq-eqb x x refl)))
+one_only low (x ∷ y ∷ ys) p r e h =
+    let a = h x (or_left (x == x) (has_member (y ∷ ys) x) (eq-eqb x x refl)) in
+    let b = h y (or_right (x == y) (has_member (y ∷ ys) y) (or_left (y == y) (has_member ys y) (eq-eqb y y refl))) in
+    let c = r.1.0 in
+    absurd (omega (arith, a, b, c))
+
+declared_right : (a b c d e f : Bool) → a ≡ true → b ≡ true → c ≡ true → (unfit_by a b c d e f ≡ 0) ⊎ (3 < unfit_by a b c d e f)
+declared_right false b c d e f x y z = cc
+declared_right true false c d e f x y z = cc
+declared_right true true false d e f x y z = cc
+declared_right true true true false e f x y z = inr (omega arith)
+declared_right true true true true false f x y z = inr (omega arith)
+declared_right true true true true true false x y z = inr (omega arith)
+declared_right true true true true true true x y z = inl refl
+
+module _ (ps : List CppcParts) (d : CppcDomain) (is : IsDomain ps d) (p : ℕ) (none : (parts_in ps p).dependency ≡ None) (on : has_member d.members p ≡ true) where
+  leader_is : first_of d.members ≡ p
+  leader_is =
+      let f = first_of d.members in
+      equal_or f p (same_domain (parts_in ps f).dependency (parts_in ps p).dependency)
+      (and_second (has_cpc ps f && has_cpc ps p) ((f == p) || same_domain (parts_in ps f).dependency (parts_in ps p).dependency) (sym (is.joined p (exists ps d is p on)) ∙ on))
+      (none_same (parts_in ps f).dependency (parts_in ps p).dependency none)
+
+  each_is : (q : ℕ) → has_member d.members q ≡ true → q ≡ p
+  each_is q e =
+      let f = first_of d.members in
+      sym (equal_or f q (same_domain (parts_in ps f).dependency (parts_in ps q).dependency)
+      (and_second (has_cpc ps f && has_cpc ps q) ((f == q) || same_domain (parts_in ps f).dependency (parts_in ps q).dependency) (sym (is.joined q (exists ps d is q e)) ∙ e))
+      (same_none (parts_in ps f).dependency (parts_in ps q).dependency (ap (λ k. (parts_in ps k).dependency) leader_is ∙ none)))
+      ∙ leader_is
+
+  members_are : d.members ≡ p ∷ []
+  members_are = one_only 0 d.members p (rises_of d.members is.rising) on each_is
+
+  shows : (shown ps p).coord ≡ SwAll
+  unfolding alone
+  shows = ap (λ (o : Option Dependency). (unwrap_or o alone).coord) none
+
+  counts : (shown ps p).processors ≡ 1
+  unfolding alone
+  counts = ap (λ (o : Option Dependency). (unwrap_or o alone).processors) none
+
+  unfit_right : (why_unfit ps (first_of d.members) d.members ≡ 0) ⊎ (3 < why_unfit ps (first_of d.members) d.members)
+  unfit_right = declared_right
+      (list_all (λ q. same_coord (shown ps q).coord (shown ps (first_of d.members)).coord) d.members)
+      (list_all (λ q. (shown ps q).processors == (shown ps (first_of d.members)).processors) d.members)
+      ((shown ps (first_of d.members)).processors == length d.members)
+      (list_all (λ q. is_ranged (parts_in ps q)) d.members)
+      (list_all (λ q. same_range (parts_in ps q) (parts_in ps (first_of d.members))) d.members)
+      (list_all (λ q. is_some (register_of controls.Desired (parts_in ps q))) d.members)
+      (types_to ps d.members is.some (λ a b i j. ap (λ k. (shown ps k).coord) (each_is a i ∙ sym (each_is b j))))
+      (numbers_to ps d.members is.some (λ a b i j. ap (λ k. (shown ps k).processors) (each_is a i ∙ sym (each_is b j))))
+      (count_to ps d.members is.some (λ a i. ap (λ k. (shown ps k).processors) (each_is a i) ∙ counts ∙ sym (ap length members_are)))
+
+  pub is_alone : IsAlone d p
+  is_alone = record {
+    members = members_are;
+    coord = is.coord ∙ ap (λ k. (shown ps k).coord) leader_is ∙ shows;
+    undeclared = subst (λ n. (n ≡ 0) ⊎ (3 < n)) (sym is.unfit) unfit_right;
+  }

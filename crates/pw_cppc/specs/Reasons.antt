@@ -1,10 +1,12 @@
 -- Why the members of a domain can't be coordinated, in words (ACPI 6.5, 8.3 and 8.4.6.1).
-use Rattle.std.specs.Prelude.{◌≡◌, ◌≤◌, ℕ, true, List, length, Some}
+use Rattle.std.specs.Prelude.{◌≡◌, ◌<◌, ◌≤◌, ◌⊎◌, ℕ, true, List, [], ◌∷◌, length, Some}
+use Rattle.acpi_values.specs.declared.dependency.Coord.TheVariants.{SwAll}
 use Rattle.acpi_values.specs.declared.performance.CpcEntry.TheVariants.{Number}
 use Rattle.acpi_values.specs.declared.register.Register.{Register as register}
 use Rattle.pw_plan.specs.Groups.{has_member}
 use Rattle.pw_cppc.specs.declared.parts.Control.TheVariants as controls
 use Rattle.pw_cppc.specs.declared.parts.CppcParts.{CppcParts}
+use Rattle.pw_cppc.specs.declared.plan.CppcDomain.{CppcDomain}
 use Rattle.pw_cppc.specs.Domains.{shown}
 use Rattle.pw_cppc.specs.Parts.{entry_of, parts_in, register_of}
 
@@ -53,3 +55,9 @@ pub data IsReason (ps : List CppcParts) (ms : List ℕ) : ℕ → Type 0 where
   ranges_differ : Agree ps ms → HaveRanges ps ms → (HaveOneRange ps ms → ⊥) → IsReason ps ms 5
   register_is_none : Agree ps ms → HaveOneRange ps ms → (HaveRegisters ps ms → ⊥) → IsReason ps ms 6
   all_agree : Agree ps ms → HaveOneRange ps ms → HaveRegisters ps ms → IsReason ps ms 0
+
+-- Processor p is alone in the domain, which is one of SW_ALL; if it is unfit, then not by what is declared.
+pub record IsAlone (d : CppcDomain) (p : ℕ) : Type 0 where
+  pub members : d.members ≡ p ∷ []
+  pub coord : d.coord ≡ SwAll
+  pub undeclared : (d.unfit ≡ 0) ⊎ (3 < d.unfit)
