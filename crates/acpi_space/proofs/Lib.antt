@@ -7,3 +7,4 @@ mod Rising
 mod Ranges
 mod Naming
 mod Opening
+mod Widths

@@ -11,6 +11,6 @@ mod terms;
 mod tree;
 
 pub use fault::SpaceFault;
-pub use laws::{method_names, opened_place};
+pub use laws::{first_dsdt_tells_widths, method_names, opened_place};
 pub use object::{Object, Placed};
 pub use space::Space;
