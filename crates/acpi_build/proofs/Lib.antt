@@ -9,6 +9,7 @@ pub mod Planned
 mod Who
 mod Innermost
 mod Labelled
+mod Rows
 mod Yielding
 mod Sourced
 mod Causes

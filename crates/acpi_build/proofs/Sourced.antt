@@ -48,6 +48,7 @@ use Rattle.acpi_build.specs.Tables.{control_at, cpc_at, csd_at, cst_at, dependen
 use Rattle.acpi_build.specs.Sources.{AreCst, AreLpi, AreStates, are_absent, are_given, are_none, GivenAt, HasNoStates, IsContainerOf, IsCpuOf, IsCsd, IsIdle, IsNoteOf, IsPerf, IsScale, IsTable, IsThrottle}
 use Rattle.acpi_build.specs.Sources.{beside_lpi, by_alias, by_method, is_absent, is_given, kept_entries, of_no_states, of_no_such_state}
 use Rattle.acpi_build.proofs.Parents.{none_some, number_told}
+use Rattle.acpi_build.proofs.Rows.{table_rows}
 use Rattle.acpi_build.proofs.Yielding.{Yields, later, yields_done, yields_each, yields_noted, yields_refused, yields_then, yields_weaker}
 
 -- # What stands at a place
@@ -250,7 +251,7 @@ idle_yields entries k distinct =
     yields_then C (λ _. Unit {0}) (Idle entries k) (ignored (place_below entries k names.Cst) lpi cst) _ (ignored_yields entries k lpi cst a b) (λ _ _.
     yields_then C (IsCsd entries k) (Idle entries k) (csd_at entries k) _ (csd_yields entries k distinct) (λ csd c.
     yields_then C (λ r. r ≡ kept_entries lpi cst csd) (Idle entries k) (kept_of (place_below entries k names.Csd) lpi cst csd) _ (used_yields entries k lpi cst csd a b c) (λ kept is.
-    yields_done C (Idle entries k) (idle_table lpi cst, kept) (record { lpi = lpi; cst = cst; csd = csd; lpi_is = a; cst_is = b; csd_is = c; idle_is = refl; kept_is = is }))))))
+    yields_done C (Idle entries k) (idle_table lpi cst, kept) (record { lpi = lpi; cst = cst; csd = csd; lpi_is = a; cst_is = b; csd_is = c; idle_is = table_rows lpi cst; kept_is = is }))))))
 
 -- # Scales
 
@@ -288,7 +289,7 @@ unfolding container_parts
 container_yields entries k distinct =
     yields_then (IsNoteOf entries k) (AreLpi entries k) (IsContainerOf entries k) (lpi_at entries k) _ (lpi_yields entries k distinct) (λ lpi a.
     yields_done (IsNoteOf entries k) (IsContainerOf entries k) (record { path = record { segs = path_in entries k }; parent = parent_of entries k; idle = idle_table lpi None })
-    (record { path = refl; parent = refl; lpi = lpi; lpi_is = a; idle = refl }))
+    (record { path = refl; parent = refl; lpi = lpi; lpi_is = a; idle = table_rows lpi None }))
 
 cpu_yields : (entries : List Entry) (k : ℕ) → IsDistinct (places_of entries) → Yields (IsNoteOf entries k) (IsCpuOf entries k) (cpu_parts entries k)
 unfolding cpu_parts

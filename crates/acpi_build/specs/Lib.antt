@@ -5,5 +5,6 @@ pub mod Tables
 pub mod Machine
 pub mod Planning
 pub mod Meaning
+pub mod Rows
 pub mod Sources
 pub mod inner

@@ -32,8 +32,9 @@ use Rattle.acpi_build.specs.declared.note.Note.{Note}
 use Rattle.acpi_build.specs.declared.note.NoteKind.TheVariants.{ByMethod, ByAlias, Empty, Ignored, NoSuchState, UnfitDomain}
 use Rattle.acpi_build.specs.Building.{note_at}
 use Rattle.acpi_build.specs.Finding.{containers_of, parent_of, place_below, processors_of}
-use Rattle.acpi_build.specs.Machine.{idle_table, scale_with}
+use Rattle.acpi_build.specs.Machine.{scale_with}
 use Rattle.acpi_build.specs.Meaning.{StandsAt}
+use Rattle.acpi_build.specs.Rows.{HasRows}
 
 -- # Tables
 
@@ -80,7 +81,7 @@ pub record IsIdle (entries : List Entry) (k : ℕ) (idle : IdleTable) (kept : Li
   pub lpi_is : AreLpi entries k lpi
   pub cst_is : AreCst entries k cst
   pub csd_is : IsCsd entries k csd
-  pub idle_is : idle ≡ idle_table lpi cst
+  pub idle_is : HasRows lpi cst idle
   pub kept_is : kept ≡ kept_entries lpi cst csd
 
 -- a scale has the control values of its states, the control register, the opening limit and the domain
@@ -112,7 +113,7 @@ pub record IsContainerOf (entries : List Entry) (k : ℕ) (c : ContainerParts) :
   pub parent : c.parent ≡ parent_of entries k
   pub lpi : Option Lpi
   pub lpi_is : AreLpi entries k lpi
-  pub idle : c.idle ≡ idle_table lpi None
+  pub idle : HasRows lpi None c.idle
 
 -- the parts of processor k among the objects
 pub record IsCpuOf (entries : List Entry) (k : ℕ) (c : CpuParts) : Type 0 where

@@ -1,15 +1,21 @@
 //! What the definitions mean.
 
-ghost use Rattle.std.specs.Prelude.{◌≡◌, ◌↔◌, ◌<◌, ◌≤◌, ℕ, List, Some, None, length, slice_index, Contains};
+ghost use Rattle.std.specs.Prelude.{◌≡◌, ◌↔◌, ◌<◌, ◌≤◌, ℕ, List, Option, Some, None};
+ghost use Rattle.std.specs.Prelude.{length, slice_index, Contains};
 ghost use Rattle.std.specs.List.{All, AllPairs, AllZip};
 ghost use Rattle.aml_block.specs.declared.block.Block.{Block as block_type};
 ghost use Rattle.aml_block.specs.Written.{IsWritableBlock};
+ghost use Rattle.acpi_values.specs.declared.idle.CState.{CState as c_state};
+ghost use Rattle.acpi_values.specs.declared.idle.IdleTable.{IdleTable as idle_type};
+ghost use Rattle.acpi_values.specs.declared.lpi.Lpi.{Lpi as lpi_type};
 ghost use Rattle.acpi_space.specs.Distinct.{IsDistinct};
 ghost use Rattle.acpi_space.specs.Namespace.{Entry as entry_type, entries_in, places_of};
 ghost use Rattle.pw_plan.specs.declared.plan.Plan.{Plan as plan_type};
 ghost use Rattle.acpi_build.specs.declared.note.Note.{Note as note_type};
 ghost use Rattle.acpi_build.specs.Finding.{containers_of, parent_of, processors_of};
 ghost use Rattle.acpi_build.specs.Tables.{AreCountable};
+ghost use Rattle.acpi_build.specs.Machine.{idle_table};
+ghost use Rattle.acpi_build.specs.Rows.{HasRows};
 ghost use Rattle.acpi_build.specs.Planning.{AreSame, IsPlanFrom};
 ghost use Rattle.acpi_build.specs.Meaning.{IsAround, IsContainer, IsOuter, IsParent, IsProcessor};
 ghost use Rattle.acpi_build.specs.Sources.{IsCaused, IsContainerOf, IsCpuOf};
@@ -47,6 +53,13 @@ pub fn tables_are_meant()
     ensures processors { (entries : List entry_type) (P : plan_type) (notes : List note_type)
         → IsDistinct (places_of entries) → IsPlanFrom entries P notes
         → AllZip (IsCpuOf entries) (processors_of entries) P.cpus }
+{}
+
+/// An idle table has a row for each state of `_LPI`, or else of `_CST`, whose fields are those of the state,
+/// and no other table has (ACPI 6.5, 8.4.1.1 and 8.4.3.3).
+pub fn idle_rows_are_of_states()
+    ensures { (lpi : Option lpi_type) (cst : Option (List c_state)) (t : idle_type)
+        → HasRows lpi cst t ↔ (t ≡ idle_table lpi cst) }
 {}
 
 /// Each note has a cause: what stands at the names of a container or a processor, or a domain that can't be
