@@ -1,48 +1,54 @@
 -- A plan's tables and notes: what they are, and why they are given.
-use Rattle.std.proofs.Common.{◌≡◌, ℕ, suc, ◌+◌, ◌<◌, Bool, true, false, List, [], ◌∷◌, length, Option, Some, None, refl, sym, subst, arith}
-use Rattle.std.specs.Prelude.{All, nat_lt, cond}
+use Rattle.std.proofs.Common.{◌≡◌, ◌⊎◌, ℕ, suc, ◌+◌, ◌<◌, Bool, true, false, List, [], ◌∷◌, ◌++◌, length, map, get_or, Option, Some, None, refl, sym, ap, subst, ◌∙◌, inl, inr, arith}
+use Rattle.std.specs.Prelude.{All, nat_lt}
 use Rattle.std.specs.List.{AllZip}
 use Rattle.std.proofs.lemmas.Bool.Decides.{nat_tests}
-use Rattle.std.proofs.lemmas.List.Elements.{All-append, All-cons, All-nil, All-weaker}
+use Rattle.std.proofs.lemmas.List.{map-append}
+use Rattle.std.proofs.lemmas.List.Elements.{All-cons, All-nil, All-head, All-tail, Contains-get_or}
 use Rattle.acpi_space.specs.Distinct.{IsDistinct}
 use Rattle.acpi_space.specs.Namespace.{Entry, places_of}
 use Rattle.pw_plan.specs.declared.domain.Domain.{Domain}
 use Rattle.pw_plan.specs.declared.fault.PlanFault.{PlanFault}
 use Rattle.pw_plan.specs.declared.fault.PlanFault.TheVariants as limits
-use Rattle.pw_plan.specs.declared.parts.CpuParts.{CpuParts}
 use Rattle.pw_plan.specs.declared.plan.Plan.{Plan}
-use Rattle.pw_plan.specs.Groups.{domain_in, first_of}
-use Rattle.pw_plan.specs.Limits.{in_32_bits, limit_passed}
-use Rattle.pw_plan.specs.Parts.{cpu_in}
+use Rattle.pw_plan.specs.Groups.{domain_in, no_domain}
+use Rattle.pw_plan.specs.Limits.{limit_passed}
 use Rattle.acpi_build.specs.declared.note.Note.{Note}
-use Rattle.acpi_build.specs.declared.note.NoteKind.TheVariants.{UnfitDomain}
-use Rattle.acpi_build.specs.Building.{◌>>=◌, done, note_at}
+use Rattle.acpi_build.specs.Building.{◌>>=◌, done}
 use Rattle.acpi_build.specs.Finding.{containers_of, processors_of}
-use Rattle.acpi_build.specs.Machine.{Parts, parts_of}
-use Rattle.acpi_build.specs.Planning.{parts_within, unfit_note, unfit_notes, within, IsPlanFrom}
-use Rattle.acpi_build.specs.Sources.{IsCaused, by_tables, by_unfit_domain, IsContainerOf, IsCpuOf}
+use Rattle.acpi_build.specs.Machine.{parts_of}
+use Rattle.acpi_build.specs.Planning.{parts_within, unfit_notes, within, IsPlanFrom}
+use Rattle.acpi_build.specs.Causes.{Cause, by_method, by_alias, of_no_states, beside_lpi, of_no_such_state, of_unfit_domain, AreNotesOfCauses, IsCause, IsCaused, note_of}
+use Rattle.acpi_build.specs.Sources.{IsContainerOf, IsCpuOf}
+use Rattle.acpi_build.proofs.Ranks.{joins_numbered, none_numbered, Numbered, numbered_on, onward}
 use Rattle.acpi_build.proofs.Sourced.{AreParts, OfTables, parts_yields}
-use Rattle.acpi_build.proofs.Yielding.{Adds, Told, Yields, yields_done, yields_then}
+use Rattle.acpi_build.proofs.Yielding.{Adds, Joins, Lists, Told, Yields, joins_nothing, lists_both, lists_none, lists_one, lists_same, yields_done, yields_then}
 
-within_yields : (C : Note → Type 0) (o : Option PlanFault) → Yields C (λ _. Unit {0}) (within o)
-within_yields C None old = yields_done C (λ _. Unit {0}) (tt {0}) tt old
-within_yields C (Some (limits.Limit which number)) old = tt
-within_yields C (Some limits.Memory) old = yields_done C (λ _. Unit {0}) (tt {0}) tt old
+-- # Tables
 
-told_yields : (entries : List Entry) → IsDistinct (places_of entries) → Yields (OfTables entries) (AreParts entries) (parts_within entries)
+within_yields : (note : Cause → Note) (o : Option PlanFault) → Yields note (λ _. ⊥) (λ _. Unit {0}) (within o)
+within_yields note None old = yields_done note (λ _. ⊥) (λ _. Unit {0}) (tt {0}) (λ c s. s) tt old
+within_yields note (Some (limits.Limit which number)) old = tt
+within_yields note (Some limits.Memory) old = yields_done note (λ _. ⊥) (λ _. Unit {0}) (tt {0}) (λ c s. s) tt old
+
+-- the causes that tables give
+abbrev TableCause : List Entry → Plan → Cause → Type 0
+TableCause entries plan c = OfTables c × IsCause entries plan c
+
+told_yields : (entries : List Entry) (plan : Plan) → IsDistinct (places_of entries) → Yields (note_of entries plan) (TableCause entries plan) (AreParts entries) (parts_within entries)
 unfolding parts_within
-told_yields entries distinct =
-    let C = OfTables entries in
+told_yields entries plan distinct =
+    let N = note_of entries plan in
+    let S = TableCause entries plan in
     let P = AreParts entries in
-    yields_then C P P (parts_of entries) (λ parts. within (limit_passed parts.containers parts.cpus) >>= λ _. done parts) (parts_yields entries distinct) (λ parts a.
-    yields_then C (λ _. Unit {0}) P (within (limit_passed parts.containers parts.cpus)) (λ _. done parts) (within_yields C (limit_passed parts.containers parts.cpus)) (λ _ _. yields_done C P parts a))
-
-plan_parts : (P : Plan) → Parts
-plan_parts P = record { containers = P.containers; cpus = P.cpus }
+    yields_then N S (λ _. ⊥) S P P (parts_of entries) (λ parts. within (limit_passed parts.containers parts.cpus) >>= λ _. done parts)
+    (joins_nothing S) (parts_yields entries plan distinct) (λ parts a.
+    yields_then N (λ _. ⊥) (λ _. ⊥) (λ _. ⊥) (λ _. Unit {0}) P (within (limit_passed parts.containers parts.cpus)) (λ _. done parts)
+    (joins_nothing (λ _. ⊥)) (within_yields N (limit_passed parts.containers parts.cpus)) (λ _ _. yields_done N (λ _. ⊥) P parts (λ c s. s) a))
 
 plan_told : (entries : List Entry) (P : Plan) (notes : List Note) → IsDistinct (places_of entries) → (is : IsPlanFrom entries P notes)
-    → Adds (OfTables entries) (AreParts entries) [] (record { containers = P.containers; cpus = P.cpus }) is.read
-plan_told entries P notes distinct is = subst (Told (OfTables entries) (AreParts entries) []) is.parts (told_yields entries distinct [])
+    → Adds (note_of entries P) (TableCause entries P) (AreParts entries) [] (record { containers = P.containers; cpus = P.cpus }) is.read
+plan_told entries P notes distinct is = subst (Told (note_of entries P) (TableCause entries P) (AreParts entries) []) is.parts (told_yields entries P distinct [])
 
 pub tables_of_containers : (entries : List Entry) (P : Plan) (notes : List Note) → IsDistinct (places_of entries) → IsPlanFrom entries P notes
     → AllZip (IsContainerOf entries) (containers_of entries) P.containers
@@ -52,30 +58,103 @@ pub tables_of_cpus : (entries : List Entry) (P : Plan) (notes : List Note) → I
     → AllZip (IsCpuOf entries) (processors_of entries) P.cpus
 tables_of_cpus entries P notes distinct is = (plan_told entries P notes distinct is).holds.cpus
 
-one_unfit : (C : Note → Type 0) (cpus : List CpuParts) (d : ℕ) (domain : Domain)
-    → (0 < domain.unfit → C (note_at (cpu_in cpus (first_of domain.members)).path.segs (UnfitDomain (in_32_bits d)))) → All C (unfit_note cpus d domain)
-one_unfit C cpus d domain cause = by (nat_lt 0 domain.unfit) refl
-  where
-    by : (b : Bool) → nat_lt 0 domain.unfit ≡ b → All C (cond b (note_at (cpu_in cpus (first_of domain.members)).path.segs (UnfitDomain (in_32_bits d)) ∷ []) [])
-    by true e = All-cons C _ [] (cause (grind (arith, nat_tests))) (All-nil C)
-    by false e = All-nil C
+-- # Domains
 
-unfit_caused : (C : Note → Type 0) (cpus : List CpuParts) (d : ℕ) (ds : List Domain)
-    → ((j : ℕ) → j < length ds → 0 < (domain_in ds j).unfit → C (note_at (cpu_in cpus (first_of (domain_in ds j).members)).path.segs (UnfitDomain (in_32_bits (d + j)))))
-    → All C (unfit_notes cpus d ds)
-unfit_caused C cpus d [] cause = All-nil C
-unfit_caused C cpus d (domain ∷ domains) cause =
-    All-append C (unfit_note cpus d domain) (unfit_notes cpus (d + 1) domains)
-    (one_unfit C cpus d domain (λ some. let e : d + 0 ≡ d = omega arith in subst (λ n. C (note_at (cpu_in cpus (first_of domain.members)).path.segs (UnfitDomain (in_32_bits n)))) e
-    (cause 0 (omega arith) some)))
-    (unfit_caused C cpus (d + 1) domains (λ j l some. let e : d + suc j ≡ d + 1 + j = omega arith in
-    subst (λ n. C (note_at (cpu_in cpus (first_of (domain_in domains j).members)).path.segs (UnfitDomain (in_32_bits n)))) e (cause (suc j) (omega (arith, l)) some)))
+abbrev is_unfit : Domain → Bool
+is_unfit d = nat_lt 0 d.unfit
+
+-- the causes that unfit domains give, the first of which has place d
+abbrev UnfitFrom : ℕ → List Domain → Cause → Type 0
+UnfitFrom = Numbered of_unfit_domain is_unfit no_domain
+
+same_place : (a b : ℕ) → of_unfit_domain a ≡ of_unfit_domain b → a ≡ b
+same_place a b e = cc
+
+-- the notes of domains are those of these causes
+record Unfit (entries : List Entry) (P : Plan) (d : ℕ) (ds : List Domain) : Type 0 where
+  pub causes : List Cause
+  pub lists : Lists (UnfitFrom d ds) causes
+  pub noted : unfit_notes P.cpus d ds ≡ map (note_of entries P) causes
+
+-- one domain more
+unfit_more : (entries : List Entry) (P : Plan) (d : ℕ) (x : Domain) (xs : List Domain) → domain_in P.domains d ≡ x → Unfit entries P (d + 1) xs
+    → (b : Bool) → is_unfit x ≡ b → Unfit entries P d (x ∷ xs)
+unfit_more entries P d x xs here rest true e = record {
+  causes = of_unfit_domain d ∷ rest.causes;
+  lists = lists_both (λ c. c ≡ of_unfit_domain d) (UnfitFrom (d + 1) xs) (UnfitFrom d (x ∷ xs)) (of_unfit_domain d ∷ []) rest.causes
+      (joins_numbered of_unfit_domain is_unfit no_domain d x xs same_place e)
+      (lists_one (λ c. c ≡ of_unfit_domain d) (of_unfit_domain d) refl (λ c s. s)) rest.lists;
+  noted = rw (e, rest.noted, here) refl;
+}
+unfit_more entries P d x xs here rest false e = record {
+  causes = rest.causes;
+  lists = lists_same (UnfitFrom (d + 1) xs) (UnfitFrom d (x ∷ xs)) rest.causes (onward of_unfit_domain is_unfit no_domain d x xs)
+      (λ c s. numbered_on of_unfit_domain is_unfit no_domain d x xs c e s) rest.lists;
+  noted = rw e rest.noted;
+}
+
+unfit_listed : (entries : List Entry) (P : Plan) (d : ℕ) (ds : List Domain) → ((j : ℕ) → j < length ds → domain_in P.domains (d + j) ≡ domain_in ds j)
+    → Unfit entries P d ds
+unfit_listed entries P d [] same = record {
+  causes = [];
+  lists = lists_none (UnfitFrom d []) (none_numbered of_unfit_domain is_unfit no_domain d);
+  noted = refl;
+}
+unfit_listed entries P d (x ∷ xs) same =
+    let first : d ≡ d + 0 = omega arith in
+    unfit_more entries P d x xs (ap (domain_in P.domains) first ∙ same 0 (omega arith))
+    (unfit_listed entries P (d + 1) xs (λ j l. let e : d + 1 + j ≡ d + suc j = omega arith in ap (domain_in P.domains) e ∙ same (suc j) (omega (arith, l))))
+    (is_unfit x) refl
+
+-- # All notes
+
+unfit_is : (unfit : ℕ) → nat_lt 0 unfit ≡ true → 0 < unfit
+unfit_is unfit e = grind (arith, nat_tests)
+
+is_unfit_at : (unfit : ℕ) → 0 < unfit → nat_lt 0 unfit ≡ true
+is_unfit_at unfit l = grind (arith, nat_tests)
+
+split_cause : (entries : List Entry) (P : Plan) (c : Cause) → IsCause entries P c → TableCause entries P c ⊎ UnfitFrom 0 P.domains c
+split_cause entries P (by_method k name) cause = inl (tt, cause)
+split_cause entries P (by_alias k name) cause = inl (tt, cause)
+split_cause entries P (of_no_states k name) cause = inl (tt, cause)
+split_cause entries P (beside_lpi k) cause = inl (tt, cause)
+split_cause entries P (of_no_such_state k j) cause = inl (tt, cause)
+split_cause entries P (of_unfit_domain d) cause = inr (d, ap of_unfit_domain (omega arith), cause.0, is_unfit_at (domain_in P.domains d).unfit cause.1)
+
+unfit_cause : (entries : List Entry) (P : Plan) (c : Cause) → UnfitFrom 0 P.domains c → (d : ℕ) × (c ≡ of_unfit_domain d) × IsCause entries P (of_unfit_domain d)
+unfit_cause entries P c (d, is, l, unfit) = (d, is ∙ ap of_unfit_domain (omega arith), (l, unfit_is (domain_in P.domains d).unfit unfit))
+
+joins_all : (entries : List Entry) (P : Plan) → Joins (TableCause entries P) (UnfitFrom 0 P.domains) (IsCause entries P)
+joins_all entries P = record {
+  apart = λ c s t. let (d, is, cause) = unfit_cause entries P c t in subst OfTables is s.0;
+  split = split_cause entries P;
+  left = λ c s. s.1;
+  right = λ c t. let (d, is, cause) = unfit_cause entries P c t in subst (IsCause entries P) (sym is) cause;
+}
+
+pub notes_of_causes : (entries : List Entry) (P : Plan) (notes : List Note) → IsDistinct (places_of entries) → IsPlanFrom entries P notes → AreNotesOfCauses entries P notes
+notes_of_causes entries P notes distinct is =
+    let N = note_of entries P in
+    let told = plan_told entries P notes distinct is in
+    let unfit = unfit_listed entries P 0 P.domains (λ j l. let e : 0 + j ≡ j = omega arith in ap (domain_in P.domains) e) in
+    let lists = lists_both (TableCause entries P) (UnfitFrom 0 P.domains) (IsCause entries P) told.causes unfit.causes (joins_all entries P)
+    told.lists unfit.lists in
+    record {
+      causes = told.causes ++ unfit.causes;
+      once = lists.once;
+      all = λ c. (lists.only c, lists.all c);
+      noted = is.notes_are ∙ ap (λ l. l ++ unfit_notes P.cpus 0 P.domains) told.grown ∙ ap (λ l. map N told.causes ++ l) unfit.noted
+          ∙ sym (map-append N told.causes unfit.causes);
+    }
+
+caused_from : (entries : List Entry) (P : Plan) (causes : List Cause) → All (IsCause entries P) causes → All (IsCaused entries P) (map (note_of entries P) causes)
+caused_from entries P [] all = All-nil (IsCaused entries P)
+caused_from entries P (c ∷ cs) all =
+    All-cons (IsCaused entries P) (note_of entries P c) (map (note_of entries P) cs) (c, All-head (IsCause entries P) c cs all, refl)
+    (caused_from entries P cs (All-tail (IsCause entries P) c cs all))
 
 pub notes_caused : (entries : List Entry) (P : Plan) (notes : List Note) → IsDistinct (places_of entries) → IsPlanFrom entries P notes → All (IsCaused entries P) notes
 notes_caused entries P notes distinct is =
-    let C = IsCaused entries P in
-    let told = plan_told entries P notes distinct is in
-    let first : All C told.more = All-weaker (OfTables entries) C (λ note cause. by_tables cause.0 note cause.1 cause.2) told.more told.caused in
-    let second : All C (unfit_notes P.cpus 0 P.domains) = unfit_caused C P.cpus 0 P.domains (λ j l some. let e : 0 + j ≡ j = omega arith in
-    subst (λ n. C (note_at (cpu_in P.cpus (first_of (domain_in P.domains j).members)).path.segs (UnfitDomain (in_32_bits n)))) (sym e) (by_unfit_domain j l some)) in
-    subst (All C) (sym is.notes_are) (All-append C is.read (unfit_notes P.cpus 0 P.domains) (subst (All C) (sym told.grown) first) second)
+    let are = notes_of_causes entries P notes distinct is in
+    subst (All (IsCaused entries P)) (sym are.noted) (caused_from entries P are.causes (λ k d l. (are.all (get_or are.causes k d)).0 (Contains-get_or are.causes k d l)))

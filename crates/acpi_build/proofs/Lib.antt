@@ -11,6 +11,9 @@ mod Innermost
 mod Labelled
 mod Rows
 mod Yielding
+mod Ranks
+mod OneTable
+mod Tabled
 mod Sourced
 mod Causes
 mod Countability

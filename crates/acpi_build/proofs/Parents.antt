@@ -67,7 +67,8 @@ filter_all : (p : ℕ → Bool) (P : ℕ → Type 0) (xs : List ℕ) → ((x : �
 filter_all p P [] f = nothing P
 filter_all p P (x ∷ xs) f = cons_if P (p x) x (filter p xs) (f x) (filter_all p P xs f)
 
-pairs_append : (R : ℕ → ℕ → Type 0) (xs ys : List ℕ) → AllPairs R xs → AllPairs R ys → ((i j d : ℕ) → i < length xs → j < length ys → R (get_or xs i d) (get_or ys j d)) → AllPairs R (xs ++ ys)
+pub pairs_append : {X : Type 0} (R : X → X → Type 0) (xs ys : List X) → AllPairs R xs → AllPairs R ys
+    → ((i j : ℕ) (d : X) → i < length xs → j < length ys → R (get_or xs i d) (get_or ys j d)) → AllPairs R (xs ++ ys)
 pairs_append R xs ys first second across i j d less l =
     let size = length-append xs ys in
     elim (cases_lt j (length xs)) [

@@ -1,10 +1,10 @@
--- The tables of objects are those that stand at their names, and notes have their causes.
-use Rattle.std.proofs.Common.{◌≡◌, ◌⊎◌, ℕ, ◌+◌, ◌≤◌, Bool, true, false, List, [], ◌∷◌, ◌++◌, length, map, Option, Some, None, Ok, Err, append_assoc, refl, sym, ap, subst, ◌∙◌, inl, inr, arith}
-use Rattle.std.specs.Prelude.{Contains, filter, nat_lt, cond, ◌==◌}
+-- The parts of containers and processors are those of their tables, and each cause of a note has its note.
+use Rattle.std.proofs.Common.{◌≡◌, ◌⊎◌, ℕ, ◌+◌, ◌<◌, ◌≤◌, Bool, true, false, List, [], ◌∷◌, ◌++◌, length, map, Option, Some, None, append_assoc, refl, sym, ap, subst, ◌∙◌, inl, inr, arith}
+use Rattle.std.specs.Prelude.{Contains, filter, nat_lt, cond, not}
 use Rattle.std.specs.List.{AllZip, list_any}
 use Rattle.std.specs.Option.{option_map, unwrap_or}
 use Rattle.std.proofs.lemmas.Bool.Decides.{nat_tests}
-use Rattle.std.proofs.lemmas.List.{append-nil, get_or_default}
+use Rattle.std.proofs.lemmas.List.{append-nil}
 use Rattle.aml_data.specs.declared.data.Data.{Data}
 use Rattle.aml_data.specs.declared.data.Width.{Width}
 use Rattle.acpi_values.specs.declared.dependency.CDependency.{CDependency}
@@ -14,183 +14,40 @@ use Rattle.acpi_values.specs.declared.idle.IdleTable.{IdleTable}
 use Rattle.acpi_values.specs.declared.lpi.Lpi.{Lpi}
 use Rattle.acpi_values.specs.declared.performance.PState.{PState}
 use Rattle.acpi_values.specs.declared.performance.TState.{TState}
-use Rattle.acpi_fields.specs.Reading.{Read, place}
-use Rattle.acpi_fields.proofs.Inversion.{means_32}
+use Rattle.acpi_fields.specs.Reading.{place}
 use Rattle.acpi_idle.specs.CStates.{cst_of, csd_of}
 use Rattle.acpi_idle.specs.Lpis.{lpi_of}
 use Rattle.acpi_idle.specs.Meaning.{CsdMeans, CstMeans, LpiMeans}
-use Rattle.acpi_idle.proofs.MeantCStates.{csd_means, cst_means}
-use Rattle.acpi_idle.proofs.MeantLpis.{lpi_means}
+use Rattle.acpi_idle.proofs.MeantCStates.{csd_read, cst_read}
+use Rattle.acpi_idle.proofs.MeantLpis.{lpi_read}
 use Rattle.acpi_perf.specs.Meaning.{ControlMeans, DomainMeans, LimitMeans, PssMeans, TssMeans}
-use Rattle.acpi_perf.specs.Objects.{control_of, limit_of, domain_of}
-use Rattle.acpi_perf.specs.Scales.{pss_of, tss_of}
-use Rattle.acpi_perf.proofs.Meant.{control_means, domain_means, pss_means, tss_means}
-use Rattle.acpi_cpc.specs.Cpcs.{cpc_of}
 use Rattle.acpi_cpc.specs.Meaning.{CpcMeans}
-use Rattle.acpi_cpc.proofs.Meant.{cpc_means}
 use Rattle.acpi_space.specs.Distinct.{IsDistinct}
-use Rattle.acpi_space.specs.Lookup.{entry_in, no_entry, number_at, path_in}
+use Rattle.acpi_space.specs.Lookup.{path_in}
 use Rattle.acpi_space.specs.Namespace.{Entry, places_of}
 use Rattle.acpi_space.specs.Places.{Place}
-use Rattle.acpi_space.specs.Things.{Thing}
-use Rattle.acpi_space.specs.Things.Thing.{data_object, device, processor, method, alias_of}
-use Rattle.acpi_space.proofs.Lookups.{numbered}
+use Rattle.acpi_space.specs.Things.Thing.{processor}
 use Rattle.acpi_space.proofs.Trees.{same_some}
-use Rattle.pw_plan.specs.Parts.{is_entry}
+use Rattle.pw_plan.specs.Parts.{entry_in as dependency_in, is_entry, no_entry as no_dependency}
+use Rattle.pw_plan.specs.declared.plan.Plan.{Plan}
 use Rattle.acpi_build.specs.declared.names.Name.{Name}
 use Rattle.acpi_build.specs.declared.names.Name.TheVariants as names
-use Rattle.acpi_build.specs.declared.note.Note.{Note}
-use Rattle.acpi_build.specs.declared.note.NoteKind.TheVariants.{ByMethod, ByAlias, Empty, Ignored, NoSuchState}
-use Rattle.acpi_build.specs.Building.{◌>>=◌, done, each, note_at, noted, refused}
-use Rattle.acpi_build.specs.Finding.{containers_of, parent_of, place_below, processors_of}
+use Rattle.acpi_build.specs.declared.note.NoteKind.TheVariants.{Ignored, NoSuchState}
+use Rattle.acpi_build.specs.Building.{◌>>=◌, Build, each, noted, refused}
+use Rattle.acpi_build.specs.Finding.{containers_of, depth_in, parent_of, place_below, processors_of}
 use Rattle.acpi_build.specs.Machine.{container_parts, cpu_parts, idle_of, idle_table, ignored, kept_from, kept_of, perf_of, scale_of, scale_with, throttle_of, Parts, parts_of}
-use Rattle.acpi_build.specs.Tables.{control_at, cpc_at, csd_at, cst_at, dependency_at, limit_at, looked_at, lpi_at, meant, pss_at, seen, seen_at, states, table, told, tss_at, unless_empty, Given}
-use Rattle.acpi_build.specs.Sources.{AreCst, AreLpi, AreStates, are_absent, are_given, are_none, GivenAt, HasNoStates, IsContainerOf, IsCpuOf, IsCsd, IsIdle, IsNoteOf, IsPerf, IsScale, IsTable, IsThrottle}
-use Rattle.acpi_build.specs.Sources.{beside_lpi, by_alias, by_method, is_absent, is_given, kept_entries, of_no_states, of_no_such_state}
-use Rattle.acpi_build.proofs.Parents.{none_some, number_told}
+use Rattle.acpi_build.specs.Meaning.{IsOuter}
+use Rattle.acpi_build.specs.Tables.{control_at, cpc_at, csd_at, cst_at, dependency_at, limit_at, lpi_at, pss_at, states, table, tss_at}
+use Rattle.acpi_build.specs.Sources.{AreCst, AreLpi, AreStates, IsContainerOf, IsCpuOf, IsCsd, IsIdle, IsPerf, IsScale, IsTable, IsThrottle}
+use Rattle.acpi_build.specs.Sources.{kept_entries}
+use Rattle.acpi_build.specs.Causes.{Cause, by_method, by_alias, of_no_states, beside_lpi, of_no_such_state, of_unfit_domain, IsCause, IsReadOf, LacksState, note_of}
+use Rattle.acpi_build.proofs.OneTable.{one_states, one_table}
+use Rattle.acpi_build.proofs.Parents.{containers_in_order, none_some, processors_rise}
+use Rattle.acpi_build.proofs.Ranks.{beside_there, entry_there, In, IsOf, is_table, joins_numbered, Makes, makes_done, makes_then, none_numbered, Numbered, numbered_on, onward, rank, slot}
 use Rattle.acpi_build.proofs.Rows.{table_rows}
-use Rattle.acpi_build.proofs.Yielding.{Yields, later, yields_done, yields_each, yields_noted, yields_refused, yields_then, yields_weaker}
-
--- # What stands at a place
-
-abbrev Looked : List Entry → Place → Option Given → Type 0
-Looked entries place None = (d : Data) (width : Width) → GivenAt entries place d width → ⊥
-Looked entries place (Some given) = GivenAt entries place given.object given.width
-
--- a data object that stands at a place is the one that is found there
-found_there : (entries : List Entry) (place : Place) (d : Data) (width : Width) → IsDistinct (places_of entries) → GivenAt entries place d width
-    → (j : ℕ) × (number_at entries place ≡ Some j) × ((entry_in entries j).object ≡ data_object d)
-found_there entries place d width distinct (j, x, l, is, (path, object, sized)) =
-    let same : entry_in entries j ≡ x = get_or_default entries j no_entry x l ∙ is in
-    (j, numbered entries j place distinct l (ap (λ (e : Entry). e.path) same ∙ path), ap (λ (e : Entry). e.object) same ∙ object)
-
-other_there : (entries : List Entry) (place : Place) (j : ℕ) (o : Thing) → IsDistinct (places_of entries) → number_at entries place ≡ Some j → (entry_in entries j).object ≡ o
-    → ((d : Data) → o ≡ data_object d → ⊥) → (d : Data) (width : Width) → GivenAt entries place d width → ⊥
-other_there entries place j o distinct at is other d width given =
-    let (i, found, object) = found_there entries place d width distinct given in
-    let same : i ≡ j = same_some (sym found ∙ at) in
-    other d (sym is ∙ ap (λ k. (entry_in entries k).object) (sym same) ∙ object)
-
-seen_yields : (entries : List Entry) (k : ℕ) (name : Name) (j : ℕ) (o : Thing) → IsDistinct (places_of entries) → number_at entries (place_below entries k name) ≡ Some j
-    → (entry_in entries j).object ≡ o
-    → Yields (IsNoteOf entries k) (Looked entries (place_below entries k name)) (seen (place_below entries k name) (entry_in entries j).width o)
-seen_yields entries k name j (data_object d) distinct at is =
-    let there = number_told entries (place_below entries k name) j at in
-    yields_done (IsNoteOf entries k) (Looked entries (place_below entries k name)) (Some (record { object = d; width = (entry_in entries j).width }))
-    (j, entry_in entries j, there.0, get_or_default entries j (entry_in entries j) no_entry there.0, (there.1, is, refl))
-seen_yields entries k name j device distinct at is =
-    yields_done (IsNoteOf entries k) (Looked entries (place_below entries k name)) None (other_there entries (place_below entries k name) j device distinct at is (λ d e. cc))
-seen_yields entries k name j processor distinct at is =
-    yields_done (IsNoteOf entries k) (Looked entries (place_below entries k name)) None (other_there entries (place_below entries k name) j processor distinct at is (λ d e. cc))
-seen_yields entries k name j method distinct at is =
-    let there = number_told entries (place_below entries k name) j at in
-    yields_noted (IsNoteOf entries k) (Looked entries (place_below entries k name)) (place_below entries k name) ByMethod None
-    (by_method name (j, entry_in entries j, there.0, get_or_default entries j (entry_in entries j) no_entry there.0, (there.1, is)))
-    (other_there entries (place_below entries k name) j method distinct at is (λ d e. cc))
-seen_yields entries k name j (alias_of source) distinct at is =
-    let there = number_told entries (place_below entries k name) j at in
-    yields_noted (IsNoteOf entries k) (Looked entries (place_below entries k name)) (place_below entries k name) ByAlias None
-    (by_alias name source (j, entry_in entries j, there.0, get_or_default entries j (entry_in entries j) no_entry there.0, (there.1, is)))
-    (other_there entries (place_below entries k name) j (alias_of source) distinct at is (λ d e. cc))
-
-at_yields : (entries : List Entry) (k : ℕ) (name : Name) (o : Option ℕ) → IsDistinct (places_of entries) → number_at entries (place_below entries k name) ≡ o
-    → Yields (IsNoteOf entries k) (Looked entries (place_below entries k name)) (seen_at entries (place_below entries k name) o)
-at_yields entries k name None distinct at = yields_done (IsNoteOf entries k) (Looked entries (place_below entries k name)) None (λ d width given.
-    let (i, found, object) = found_there entries (place_below entries k name) d width distinct given in none_some (sym at ∙ found))
-at_yields entries k name (Some j) distinct at = seen_yields entries k name j (entry_in entries j).object distinct at refl
-
-looked_yields : (entries : List Entry) (k : ℕ) (name : Name) → IsDistinct (places_of entries)
-    → Yields (IsNoteOf entries k) (Looked entries (place_below entries k name)) (looked_at entries (place_below entries k name))
-unfolding looked_at
-looked_yields entries k name distinct = at_yields entries k name (number_at entries (place_below entries k name)) distinct refl
-
--- # Tables
-
-told_yields : {A : Type 0} (C : Note → Type 0) (Means : Width → Data → A → Type 0) (entries : List Entry) (place : Place) (given : Given) (r : Read A)
-    → ((x : A) → r ≡ Ok x → Means given.width given.object x) → GivenAt entries place given.object given.width → Yields C (IsTable Means entries place) (told place r)
-told_yields C Means entries place given (Ok x) means there = yields_done C (IsTable Means entries place) (Some x) (is_given given.object given.width x there (means x refl))
-told_yields C Means entries place given (Err shape) means there = yields_refused C (IsTable Means entries place) place shape.place shape.why
-
-meant_yields : {A : Type 0} (C : Note → Type 0) (Means : Width → Data → A → Type 0) (reads : Width → Data → Read A) (entries : List Entry) (place : Place)
-    → ((width : Width) (d : Data) (x : A) → reads width d ≡ Ok x → Means width d x) → (o : Option Given) → Looked entries place o → Yields C (IsTable Means entries place) (meant reads place o)
-meant_yields C Means reads entries place means None looked = yields_done C (IsTable Means entries place) None (is_absent looked)
-meant_yields C Means reads entries place means (Some given) looked = told_yields C Means entries place given (reads given.width given.object) (means given.width given.object) looked
-
-table_yields : {A : Type 0} (Means : Width → Data → A → Type 0) (reads : Width → Data → Read A) (entries : List Entry) (k : ℕ) (name : Name) → IsDistinct (places_of entries)
-    → ((width : Width) (d : Data) (x : A) → reads width d ≡ Ok x → Means width d x) → Yields (IsNoteOf entries k) (IsTable Means entries (place_below entries k name)) (table reads entries k name)
-table_yields Means reads entries k name distinct means =
-    let place = place_below entries k name in
-    yields_then (IsNoteOf entries k) (Looked entries place) (IsTable Means entries place) (looked_at entries place) (meant reads place) (looked_yields entries k name distinct)
-    (meant_yields (IsNoteOf entries k) Means reads entries place means)
-
-empty_yields : {A : Type 0} (C : Note → Type 0) (Means : Width → Data → A → Type 0) (count : A → ℕ) (entries : List Entry) (place : Place)
-    → ((x : A) → IsTable Means entries place (Some x) → count x ≡ 0 → C (note_at place Empty)) → (o : Option A) → IsTable Means entries place o
-    → Yields C (AreStates Means count entries place) (unless_empty count place o)
-empty_yields C Means count entries place cause None t = yields_done C (AreStates Means count entries place) None (are_absent t)
-empty_yields C Means count entries place cause (Some x) t = by (count x == 0) refl
-  where
-    by : (b : Bool) → (count x == 0) ≡ b → Yields C (AreStates Means count entries place) (cond b (noted place Empty None) (done (Some x)))
-    by true e =
-        let none : count x ≡ 0 = grind (arith, nat_tests) in
-        yields_noted C (AreStates Means count entries place) place Empty None (cause x t none) (are_none x t none)
-    by false e = yields_done C (AreStates Means count entries place) (Some x) (are_given x t (grind (arith, nat_tests)))
-
-states_yields : {A : Type 0} (Means : Width → Data → A → Type 0) (count : A → ℕ) (reads : Width → Data → Read A) (entries : List Entry) (k : ℕ) (name : Name) → IsDistinct (places_of entries)
-    → ((width : Width) (d : Data) (x : A) → reads width d ≡ Ok x → Means width d x)
-    → ((x : A) → IsTable Means entries (place_below entries k name) (Some x) → count x ≡ 0 → HasNoStates entries k name)
-    → Yields (IsNoteOf entries k) (AreStates Means count entries (place_below entries k name)) (states count reads entries k name)
-states_yields Means count reads entries k name distinct means none =
-    let place = place_below entries k name in
-    yields_then (IsNoteOf entries k) (IsTable Means entries place) (AreStates Means count entries place) (table reads entries k name) (unless_empty count place)
-    (table_yields Means reads entries k name distinct means) (empty_yields (IsNoteOf entries k) Means count entries place (λ x t e. of_no_states name (none x t e)))
-
-no_elements : {X : Type 0} (xs : List X) → length xs ≡ 0 → xs ≡ []
-no_elements [] e = refl
-no_elements (x ∷ xs) e = absurd (let impossible = e in omega arith)
-
-lpi_yields : (entries : List Entry) (k : ℕ) → IsDistinct (places_of entries) → Yields (IsNoteOf entries k) (AreLpi entries k) (lpi_at entries k)
-unfolding lpi_at
-lpi_yields entries k distinct = states_yields LpiMeans (λ (l : Lpi). length l.states) lpi_of entries k names.Lpi distinct lpi_means (λ x t e. (x, t, e))
-
-cst_yields : (entries : List Entry) (k : ℕ) → IsDistinct (places_of entries) → Yields (IsNoteOf entries k) (AreCst entries k) (cst_at entries k)
-unfolding cst_at
-cst_yields entries k distinct =
-    states_yields CstMeans length cst_of entries k names.Cst distinct cst_means (λ x t e. subst (λ xs. IsTable CstMeans entries (place_below entries k names.Cst) (Some xs)) (no_elements x e) t)
-
-csd_yields : (entries : List Entry) (k : ℕ) → IsDistinct (places_of entries) → Yields (IsNoteOf entries k) (IsCsd entries k) (csd_at entries k)
-unfolding csd_at
-csd_yields entries k distinct = table_yields CsdMeans csd_of entries k names.Csd distinct csd_means
-
-pss_yields : (entries : List Entry) (k : ℕ) → IsDistinct (places_of entries) → Yields (IsNoteOf entries k) (AreStates PssMeans length entries (place_below entries k names.Pss)) (pss_at entries k)
-unfolding pss_at
-pss_yields entries k distinct =
-    states_yields PssMeans length pss_of entries k names.Pss distinct pss_means (λ x t e. subst (λ xs. IsTable PssMeans entries (place_below entries k names.Pss) (Some xs)) (no_elements x e) t)
-
-tss_yields : (entries : List Entry) (k : ℕ) → IsDistinct (places_of entries) → Yields (IsNoteOf entries k) (AreStates TssMeans length entries (place_below entries k names.Tss)) (tss_at entries k)
-unfolding tss_at
-tss_yields entries k distinct =
-    states_yields TssMeans length tss_of entries k names.Tss distinct tss_means (λ x t e. subst (λ xs. IsTable TssMeans entries (place_below entries k names.Tss) (Some xs)) (no_elements x e) t)
-
-control_yields : (entries : List Entry) (k : ℕ) (name : Name) → IsDistinct (places_of entries)
-    → Yields (IsNoteOf entries k) (IsTable (λ width. ControlMeans) entries (place_below entries k name)) (control_at entries k name)
-unfolding control_at
-control_yields entries k name distinct = table_yields (λ width. ControlMeans) (λ width. control_of) entries k name distinct (λ width. control_means)
-
-limit_yields : (entries : List Entry) (k : ℕ) (name : Name) → IsDistinct (places_of entries)
-    → Yields (IsNoteOf entries k) (IsTable LimitMeans entries (place_below entries k name)) (limit_at entries k name)
-unfolding limit_at
-limit_yields entries k name distinct = table_yields LimitMeans limit_of entries k name distinct (λ width d n. means_32 width (place 0 0) d n)
-
-dependency_yields : (entries : List Entry) (k : ℕ) (name : Name) → IsDistinct (places_of entries)
-    → Yields (IsNoteOf entries k) (IsTable DomainMeans entries (place_below entries k name)) (dependency_at entries k name)
-unfolding dependency_at
-dependency_yields entries k name distinct = table_yields DomainMeans domain_of entries k name distinct domain_means
-
-cpc_yields : (entries : List Entry) (k : ℕ) → IsDistinct (places_of entries) → Yields (IsNoteOf entries k) (IsTable CpcMeans entries (place_below entries k names.Cpc)) (cpc_at entries k)
-unfolding cpc_at
-cpc_yields entries k distinct = table_yields CpcMeans cpc_of entries k names.Cpc distinct cpc_means
-
--- # Idle states
+use Rattle.acpi_build.proofs.Who.{never_both}
+use Rattle.acpi_build.proofs.Yielding.{Among, Joins, Yields, joins_nothing, yields_done, yields_each, yields_noted, yields_refused, yields_same, yields_then}
+use Rattle.acpi_build.proofs.Tabled.{control_yields, cpc_yields, csd_yields, cst_yields, dependency_yields, limit_yields, lpi_yields, pss_yields, tss_yields}
 
 abbrev fits : ℕ → CDependency → Bool
 fits count e = nat_lt e.index count
@@ -198,132 +55,305 @@ fits count e = nat_lt e.index count
 abbrev Keeps : ℕ → List CDependency → List CDependency → List CDependency → Type 0
 Keeps count kept es r = r ≡ kept ++ filter (fits count) es
 
--- an entry that is kept, where it isn't refused as a repeat
-one_kept : (C : Note → Type 0) (path : Place) (count n : ℕ) (kept es : List CDependency) (e : CDependency) (b : Bool)
-    → Yields C (Keeps count (kept ++ e ∷ []) es) (kept_from path count (n + 1) (kept ++ e ∷ []) es)
-    → Yields C (λ r. r ≡ kept ++ e ∷ filter (fits count) es) (cond b (refused path (place n 3) Range) (kept_from path count (n + 1) (kept ++ e ∷ []) es))
-one_kept C path count n kept es e true rest = yields_refused C (λ r. r ≡ kept ++ e ∷ filter (fits count) es) path (place n 3) Range
-one_kept C path count n kept es e false rest = yields_weaker C C (Keeps count (kept ++ e ∷ []) es) (λ r. r ≡ kept ++ e ∷ filter (fits count) es) (kept_from path count (n + 1) (kept ++ e ∷ []) es)
-    (λ note c. c) (λ r is. is ∙ append_assoc kept (e ∷ []) (filter (fits count) es)) rest
-
-one_entry : (C : Note → Type 0) (path : Place) (count n : ℕ) (kept es : List CDependency) (e : CDependency) (b : Bool) → (b ≡ false → C (note_at path NoSuchState))
-    → Yields C (Keeps count (kept ++ e ∷ []) es) (kept_from path count (n + 1) (kept ++ e ∷ []) es) → Yields C (Keeps count kept es) (kept_from path count (n + 1) kept es)
-    → Yields C (λ r. r ≡ kept ++ cond b (e ∷ filter (fits count) es) (filter (fits count) es))
-    (cond b (cond (list_any (is_entry e.domain e.index) kept) (refused path (place n 3) Range) (kept_from path count (n + 1) (kept ++ e ∷ []) es))
-    (noted path NoSuchState (tt {0}) >>= λ _. kept_from path count (n + 1) kept es))
-one_entry C path count n kept es e true cause more less = one_kept C path count n kept es e (list_any (is_entry e.domain e.index) kept) more
-one_entry C path count n kept es e false cause more less = yields_then C (λ _. Unit {0}) (Keeps count kept es) (noted path NoSuchState (tt {0})) (λ _. kept_from path count (n + 1) kept es)
-    (yields_noted C (λ _. Unit {0}) path NoSuchState (tt {0}) (cause refl) tt) (λ _ _. less)
-
-not_below : (index count : ℕ) → nat_lt index count ≡ false → count ≤ index
-not_below index count e = grind (arith, nat_tests)
-
-kept_yields : (C : Note → Type 0) (path : Place) (count n : ℕ) (kept es : List CDependency) → ((e : CDependency) → Contains es e → count ≤ e.index → C (note_at path NoSuchState))
-    → Yields C (Keeps count kept es) (kept_from path count n kept es)
-kept_yields C path count n kept [] cause = yields_done C (Keeps count kept []) kept (sym (append-nil kept))
-kept_yields C path count n kept (e ∷ es) cause =
-    let rest : (other : CDependency) → Contains es other → count ≤ other.index → C (note_at path NoSuchState) = λ other among large. cause other (later e es other among) large in
-    one_entry C path count n kept es e (fits count e) (λ t. cause e (0, omega arith, refl) (not_below e.index count t))
-    (kept_yields C path count (n + 1) (kept ++ e ∷ []) es rest) (kept_yields C path count (n + 1) kept es rest)
-
-used_yields : (entries : List Entry) (k : ℕ) (lpi : Option Lpi) (cst : Option (List CState)) (csd : Option (List CDependency)) → AreLpi entries k lpi → AreCst entries k cst → IsCsd entries k csd
-    → Yields (IsNoteOf entries k) (λ r. r ≡ kept_entries lpi cst csd) (kept_of (place_below entries k names.Csd) lpi cst csd)
-used_yields entries k (Some lpi) cst csd a b c = yields_done (IsNoteOf entries k) (λ r. r ≡ []) [] refl
-used_yields entries k None cst None a b c = yields_done (IsNoteOf entries k) (λ r. r ≡ []) [] refl
-used_yields entries k None cst (Some es) a b c =
-    kept_yields (IsNoteOf entries k) (place_below entries k names.Csd) (length (unwrap_or cst [])) 1 [] es (λ e among large. of_no_such_state cst es e a b c among large)
-
-ignored_yields : (entries : List Entry) (k : ℕ) (lpi : Option Lpi) (cst : Option (List CState)) → AreLpi entries k lpi → AreCst entries k cst
-    → Yields (IsNoteOf entries k) (λ _. Unit {0}) (ignored (place_below entries k names.Cst) lpi cst)
-ignored_yields entries k (Some lpi) (Some cst) a b = yields_noted (IsNoteOf entries k) (λ _. Unit {0}) (place_below entries k names.Cst) Ignored (tt {0}) (beside_lpi lpi cst a b) tt
-ignored_yields entries k (Some lpi) None a b = yields_done (IsNoteOf entries k) (λ _. Unit {0}) (tt {0}) tt
-ignored_yields entries k None cst a b = yields_done (IsNoteOf entries k) (λ _. Unit {0}) (tt {0}) tt
+-- the causes of the entries that are dropped, the first of these being entry i
+abbrev Dropped : ℕ → ℕ → ℕ → List CDependency → Cause → Type 0
+Dropped k count i es = Numbered (of_no_such_state k) (λ (e : CDependency). not (fits count e)) no_dependency i es
 
 abbrev Idle : List Entry → ℕ → IdleTable × List CDependency → Type 0
 Idle entries k r = IsIdle entries k r.0 r.1
 
-idle_yields : (entries : List Entry) (k : ℕ) → IsDistinct (places_of entries) → Yields (IsNoteOf entries k) (Idle entries k) (idle_of entries k)
-unfolding idle_of
-idle_yields entries k distinct =
-    let C = IsNoteOf entries k in
-    yields_then C (AreLpi entries k) (Idle entries k) (lpi_at entries k) _ (lpi_yields entries k distinct) (λ lpi a.
-    yields_then C (AreCst entries k) (Idle entries k) (cst_at entries k) _ (cst_yields entries k distinct) (λ cst b.
-    yields_then C (λ _. Unit {0}) (Idle entries k) (ignored (place_below entries k names.Cst) lpi cst) _ (ignored_yields entries k lpi cst a b) (λ _ _.
-    yields_then C (IsCsd entries k) (Idle entries k) (csd_at entries k) _ (csd_yields entries k distinct) (λ csd c.
-    yields_then C (λ r. r ≡ kept_entries lpi cst csd) (Idle entries k) (kept_of (place_below entries k names.Csd) lpi cst csd) _ (used_yields entries k lpi cst csd a b c) (λ kept is.
-    yields_done C (Idle entries k) (idle_table lpi cst, kept) (record { lpi = lpi; cst = cst; csd = csd; lpi_is = a; cst_is = b; csd_is = c; idle_is = table_rows lpi cst; kept_is = is }))))))
+not_below : (index count : ℕ) → not (nat_lt index count) ≡ true → count ≤ index
+not_below index count e = grind (arith, nat_tests)
 
--- # Scales
+past_all : (index count : ℕ) → count ≤ index → not (nat_lt index count) ≡ true
+past_all index count l = grind (arith, nat_tests)
 
-scale_yields : {S : Type 0} (Means : Width → Data → List S → Type 0) (control : S → ℕ) (entries : List Entry) (k : ℕ) (first pair limit domain : Name) (steps : Option (List S))
-    → IsDistinct (places_of entries)
-    → AreStates Means length entries (place_below entries k first) steps
-    → Yields (IsNoteOf entries k) (IsScale Means control entries (place_below entries k first) (place_below entries k pair) (place_below entries k limit) (place_below entries k domain))
-    (scale_of entries k pair limit domain (option_map (map control) steps))
-unfolding scale_of
-scale_yields Means control entries k first pair limit domain steps distinct are =
-    let C = IsNoteOf entries k in
-    let P = IsScale Means control entries (place_below entries k first) (place_below entries k pair) (place_below entries k limit) (place_below entries k domain) in
-    yields_then C (IsTable (λ width. ControlMeans) entries (place_below entries k pair)) P (control_at entries k pair) _ (control_yields entries k pair distinct) (λ registers a.
-    yields_then C (IsTable LimitMeans entries (place_below entries k limit)) P (limit_at entries k limit) _ (limit_yields entries k limit distinct) (λ opening b.
-    yields_then C (IsTable DomainMeans entries (place_below entries k domain)) P (dependency_at entries k domain) _ (dependency_yields entries k domain distinct) (λ dependency c.
-    yields_done C P (scale_with (option_map (map control) steps) registers opening dependency)
-    (record { steps = steps; registers = registers; opening = opening; dependency = dependency; steps_are = are; registers_are = a; opening_is = b; dependency_is = c; scale_is = refl }))))
+same_number : (k a b : ℕ) → of_no_such_state k a ≡ of_no_such_state k b → a ≡ b
+same_number k a b e = cc
 
-perf_yields : (entries : List Entry) (k : ℕ) → IsDistinct (places_of entries) → Yields (IsNoteOf entries k) (IsPerf entries k) (perf_of entries k)
-unfolding perf_of
-perf_yields entries k distinct =
-    yields_then (IsNoteOf entries k) (AreStates PssMeans length entries (place_below entries k names.Pss)) (IsPerf entries k) (pss_at entries k) _ (pss_yields entries k distinct)
-    (λ steps are. scale_yields PssMeans (λ (s : PState). s.control) entries k names.Pss names.Pct names.Ppc names.Psd steps distinct are)
-
-throttle_yields : (entries : List Entry) (k : ℕ) → IsDistinct (places_of entries) → Yields (IsNoteOf entries k) (IsThrottle entries k) (throttle_of entries k)
-unfolding throttle_of
-throttle_yields entries k distinct =
-    yields_then (IsNoteOf entries k) (AreStates TssMeans length entries (place_below entries k names.Tss)) (IsThrottle entries k) (tss_at entries k) _ (tss_yields entries k distinct)
-    (λ steps are. scale_yields TssMeans (λ (s : TState). s.control) entries k names.Tss names.Ptc names.Tpc names.Tsd steps distinct are)
-
--- # Containers and processors
-
-container_yields : (entries : List Entry) (k : ℕ) → IsDistinct (places_of entries) → Yields (IsNoteOf entries k) (IsContainerOf entries k) (container_parts entries k)
-unfolding container_parts
-container_yields entries k distinct =
-    yields_then (IsNoteOf entries k) (AreLpi entries k) (IsContainerOf entries k) (lpi_at entries k) _ (lpi_yields entries k distinct) (λ lpi a.
-    yields_done (IsNoteOf entries k) (IsContainerOf entries k) (record { path = record { segs = path_in entries k }; parent = parent_of entries k; idle = idle_table lpi None })
-    (record { path = refl; parent = refl; lpi = lpi; lpi_is = a; idle = table_rows lpi None }))
-
-cpu_yields : (entries : List Entry) (k : ℕ) → IsDistinct (places_of entries) → Yields (IsNoteOf entries k) (IsCpuOf entries k) (cpu_parts entries k)
-unfolding cpu_parts
-cpu_yields entries k distinct =
-    let C = IsNoteOf entries k in
-    let P = IsCpuOf entries k in
-    yields_then C (Idle entries k) P (idle_of entries k) _ (idle_yields entries k distinct) (λ idle a.
-    yields_then C (IsPerf entries k) P (perf_of entries k) _ (perf_yields entries k distinct) (λ perf b.
-    yields_then C (IsThrottle entries k) P (throttle_of entries k) _ (throttle_yields entries k distinct) (λ throttle c.
-    yields_then C (IsTable CpcMeans entries (place_below entries k names.Cpc)) P (cpc_at entries k) _ (cpc_yields entries k distinct) (λ cpc d.
-    yields_done C P (record { path = record { segs = path_in entries k }; parent = parent_of entries k; idle = idle.0; csd = idle.1; perf = perf; throttle = throttle; cpc = cpc })
-    (record { path = refl; parent = refl; idle = a; perf = b; throttle = c; cpc = d })))))
-
--- # All of them
-
--- why a note of tables is given
-abbrev pub OfTables : List Entry → Note → Type 0
-OfTables entries note = (k : ℕ) × (Contains (containers_of entries) k ⊎ Contains (processors_of entries) k) × IsNoteOf entries k note
+-- the cause is one of a table
+abbrev pub OfTables : Cause → Type 0
+OfTables (by_method k name) = Unit {0}
+OfTables (by_alias k name) = Unit {0}
+OfTables (of_no_states k name) = Unit {0}
+OfTables (beside_lpi k) = Unit {0}
+OfTables (of_no_such_state k j) = Unit {0}
+OfTables (of_unfit_domain d) = ⊥
 
 -- what all parts are
 pub record AreParts (entries : List Entry) (parts : Parts) : Type 0 where
   pub containers : AllZip (IsContainerOf entries) (containers_of entries) parts.containers
   pub cpus : AllZip (IsCpuOf entries) (processors_of entries) parts.cpus
 
-pub parts_yields : (entries : List Entry) → IsDistinct (places_of entries) → Yields (OfTables entries) (AreParts entries) (parts_of entries)
-unfolding parts_of
-parts_yields entries distinct =
-    let C = OfTables entries in
-    let P = AreParts entries in
-    yields_then C (AllZip (IsContainerOf entries) (containers_of entries)) P (each (container_parts entries) (containers_of entries)) _
-    (yields_each C (IsContainerOf entries) (container_parts entries) (containers_of entries) (λ k among.
-    yields_weaker (IsNoteOf entries k) C (IsContainerOf entries k) (IsContainerOf entries k) (container_parts entries k) (λ note cause. (k, inl among, cause))
-    (λ c is. is) (container_yields entries k distinct))) (λ containers a.
-    yields_then C (AllZip (IsCpuOf entries) (processors_of entries)) P (each (cpu_parts entries) (processors_of entries)) _
-    (yields_each C (IsCpuOf entries) (cpu_parts entries) (processors_of entries) (λ k among.
-    yields_weaker (IsNoteOf entries k) C (IsCpuOf entries k) (IsCpuOf entries k) (cpu_parts entries k) (λ note cause. (k, inr among, cause)) (λ c is. is) (cpu_yields entries k distinct))) (λ cpus b.
-    yields_done C P (record { containers = containers; cpus = cpus }) (record { containers = a; cpus = b })))
+-- the causes that object k has
+abbrev pub OwnOf : List Entry → Plan → ℕ → Cause → Type 0
+OwnOf entries plan k c = IsOf k c × IsCause entries plan c
+
+module _ (entries : List Entry) (plan : Plan) (distinct : IsDistinct (places_of entries)) where
+  -- # Idle states
+
+  -- an entry that is kept, where it isn't refused as a repeat
+  one_kept : (S : Cause → Type 0) (path : Place) (count n : ℕ) (kept es : List CDependency) (e : CDependency) (b : Bool)
+      → Yields (note_of entries plan) S (Keeps count (kept ++ e ∷ []) es) (kept_from path count (n + 1) (kept ++ e ∷ []) es)
+      → Yields (note_of entries plan) S (λ r. r ≡ kept ++ e ∷ filter (fits count) es) (cond b (refused path (place n 3) Range) (kept_from path count (n + 1) (kept ++ e ∷ []) es))
+  one_kept S path count n kept es e true rest = yields_refused (note_of entries plan) S (λ r. r ≡ kept ++ e ∷ filter (fits count) es) path (place n 3) Range
+  one_kept S path count n kept es e false rest =
+      yields_same (note_of entries plan) S S (Keeps count (kept ++ e ∷ []) es) (λ r. r ≡ kept ++ e ∷ filter (fits count) es) (kept_from path count (n + 1) (kept ++ e ∷ []) es)
+      (λ c s. s) (λ c s. s) (λ r is. is ∙ append_assoc kept (e ∷ []) (filter (fits count) es)) rest
+
+  one_entry : (k count i n : ℕ) (kept es : List CDependency) (e : CDependency) (b : Bool) → fits count e ≡ b
+      → Yields (note_of entries plan) (Dropped k count (i + 1) es) (Keeps count (kept ++ e ∷ []) es) (kept_from (place_below entries k names.Csd) count (n + 1) (kept ++ e ∷ []) es)
+      → Yields (note_of entries plan) (Dropped k count (i + 1) es) (Keeps count kept es) (kept_from (place_below entries k names.Csd) count (n + 1) kept es)
+      → Yields (note_of entries plan) (Dropped k count i (e ∷ es)) (λ r. r ≡ kept ++ cond b (e ∷ filter (fits count) es) (filter (fits count) es))
+      (cond b (cond (list_any (is_entry e.domain e.index) kept) (refused (place_below entries k names.Csd) (place n 3) Range)
+      (kept_from (place_below entries k names.Csd) count (n + 1) (kept ++ e ∷ []) es))
+      (noted (place_below entries k names.Csd) NoSuchState (tt {0}) >>= λ _. kept_from (place_below entries k names.Csd) count (n + 1) kept es))
+  one_entry k count i n kept es e true is more less =
+      let path = place_below entries k names.Csd in
+      let R : List CDependency → Type 0 = λ r. r ≡ kept ++ e ∷ filter (fits count) es in
+      let m : Build (List CDependency) = cond (list_any (is_entry e.domain e.index) kept) (refused path (place n 3) Range) (kept_from path count (n + 1) (kept ++ e ∷ []) es) in
+      yields_same (note_of entries plan) (Dropped k count (i + 1) es) (Dropped k count i (e ∷ es)) R R m
+      (λ c s. onward (of_no_such_state k) (λ (x : CDependency). not (fits count x)) no_dependency i e es c s)
+      (λ c s. numbered_on (of_no_such_state k) (λ (x : CDependency). not (fits count x)) no_dependency i e es c (ap not is) s)
+      (λ r same. same) (one_kept (Dropped k count (i + 1) es) path count n kept es e (list_any (is_entry e.domain e.index) kept) more)
+  one_entry k count i n kept es e false is more less =
+      let path = place_below entries k names.Csd in
+      yields_then (note_of entries plan) (λ c. c ≡ of_no_such_state k i) (Dropped k count (i + 1) es) (Dropped k count i (e ∷ es)) (λ _. Unit {0}) (Keeps count kept es)
+      (noted path NoSuchState (tt {0})) (λ _. kept_from path count (n + 1) kept es)
+      (joins_numbered (of_no_such_state k) (λ (x : CDependency). not (fits count x)) no_dependency i e es (same_number k) (ap not is))
+      (yields_noted (note_of entries plan) (λ c. c ≡ of_no_such_state k i) (λ _. Unit {0}) path NoSuchState (tt {0}) (of_no_such_state k i) refl refl (λ c s. s) tt) (λ _ _. less)
+
+  kept_yields : (k count i n : ℕ) (kept es : List CDependency)
+      → Yields (note_of entries plan) (Dropped k count i es) (Keeps count kept es) (kept_from (place_below entries k names.Csd) count n kept es)
+  kept_yields k count i n kept [] =
+      yields_done (note_of entries plan) (Dropped k count i []) (Keeps count kept []) kept (none_numbered (of_no_such_state k) (λ (x : CDependency). not (fits count x)) no_dependency i)
+      (sym (append-nil kept))
+  kept_yields k count i n kept (e ∷ es) =
+      one_entry k count i n kept es e (fits count e) refl (kept_yields k count (i + 1) (n + 1) (kept ++ e ∷ []) es) (kept_yields k count (i + 1) (n + 1) kept es)
+
+  -- what a processor lacks
+  lacks : (k : ℕ) (c : Cause) → In entries plan k 8 9 c → (j : ℕ) × (c ≡ of_no_such_state k j) × LacksState entries k j
+  lacks k c s =
+      let (j, is) = entry_there entries plan k c s in
+      (j, is, (subst (IsCause entries plan) is s.given).1)
+
+  same_lpi : (k : ℕ) (o p : Option Lpi) → AreLpi entries k o → AreLpi entries k p → o ≡ p
+  same_lpi k o p = one_states LpiMeans lpi_of (λ (l : Lpi). length l.states) entries (place_below entries k names.Lpi) o p distinct lpi_read
+
+  same_cst : (k : ℕ) (o p : Option (List CState)) → AreCst entries k o → AreCst entries k p → o ≡ p
+  same_cst k o p = one_states CstMeans cst_of length entries (place_below entries k names.Cst) o p distinct cst_read
+
+  same_csd : (k : ℕ) (o p : Option (List CDependency)) → IsCsd entries k o → IsCsd entries k p → o ≡ p
+  same_csd k o p = one_table CsdMeans csd_of entries (place_below entries k names.Csd) o p distinct csd_read
+
+  used_yields : (k : ℕ) (lpi : Option Lpi) (cst : Option (List CState)) (csd : Option (List CDependency)) → Contains (processors_of entries) k → AreLpi entries k lpi → AreCst entries k cst
+      → IsCsd entries k csd
+      → Makes entries plan k 8 9 (λ r. r ≡ kept_entries lpi cst csd) (kept_of (place_below entries k names.Csd) lpi cst csd)
+  used_yields k (Some lpi) cst csd there a b c = yields_done (note_of entries plan) (In entries plan k 8 9) (λ r. r ≡ []) []
+      (λ d s. let (j, is, lack) = lacks k d s in none_some (same_lpi k None (Some lpi) lack.no_lpi a)) refl
+  used_yields k None cst None there a b c = yields_done (note_of entries plan) (In entries plan k 8 9) (λ r. r ≡ []) []
+      (λ d s. let (j, is, lack) = lacks k d s in none_some (same_csd k None (Some lack.csd) c lack.csd_is)) refl
+  used_yields k None cst (Some es) there a b c =
+      let count = length (unwrap_or cst []) in
+      let path = place_below entries k names.Csd in
+      yields_same (note_of entries plan) (Dropped k count 0 es) (In entries plan k 8 9) (Keeps count [] es) (λ r. r ≡ filter (fits count) es) (kept_from path count 1 [] es)
+      (λ d s. let (j, is, l, past) = s in
+        let e : d ≡ of_no_such_state k j = is ∙ ap (of_no_such_state k) (omega arith) in
+        subst (In entries plan k 8 9) (sym e) (record {
+          own = refl;
+          low = omega arith;
+          high = omega arith;
+          given = (there, record { cst = cst; csd = es; no_lpi = a; cst_is = b; csd_is = c; among = l; past = not_below _ count past });
+        }))
+      (λ d s. let (j, is, lack) = lacks k d s in
+        let same : lack.csd ≡ es = same_some (same_csd k (Some lack.csd) (Some es) lack.csd_is c) in
+        let states : lack.cst ≡ cst = same_cst k lack.cst cst lack.cst_is b in
+        let e : d ≡ of_no_such_state k (0 + j) = is ∙ ap (of_no_such_state k) (omega arith) in
+        subst (λ xs. Dropped k count 0 xs d) same (j, e, lack.among, past_all _ count (subst (λ o. length (unwrap_or o []) ≤ (dependency_in lack.csd j).index) states lack.past)))
+      (λ r is. is) (kept_yields k count 0 1 [] es)
+
+  ignored_yields : (k : ℕ) (lpi : Option Lpi) (cst : Option (List CState)) → Contains (processors_of entries) k → AreLpi entries k lpi → AreCst entries k cst
+      → Makes entries plan k 5 6 (λ _. Unit {0}) (ignored (place_below entries k names.Cst) lpi cst)
+  ignored_yields k (Some lpi) (Some cst) there a b =
+      yields_noted (note_of entries plan) (In entries plan k 5 6) (λ _. Unit {0}) (place_below entries k names.Cst) Ignored (tt {0}) (beside_lpi k) refl
+      (record { own = refl; low = omega arith; high = omega arith; given = (there, record { lpi = lpi; cst = cst; lpi_is = a; cst_is = b }) }) (beside_there entries plan k) tt
+  ignored_yields k (Some lpi) None there a b = yields_done (note_of entries plan) (In entries plan k 5 6) (λ _. Unit {0}) (tt {0})
+      (λ c s. let (_, both) = subst (IsCause entries plan) (beside_there entries plan k c s) s.given in none_some (same_cst k None (Some both.cst) b both.cst_is)) tt
+  ignored_yields k None cst there a b = yields_done (note_of entries plan) (In entries plan k 5 6) (λ _. Unit {0}) (tt {0})
+      (λ c s. let (_, both) = subst (IsCause entries plan) (beside_there entries plan k c s) s.given in none_some (same_lpi k None (Some both.lpi) a both.lpi_is)) tt
+
+  -- a processor's table is read
+  read_of : (k : ℕ) (name : Name) → Contains (processors_of entries) k → (name ≡ names.Hid → ⊥) → IsReadOf entries k name
+  read_of k name there other = inr (there, other)
+
+  idle_yields : (k : ℕ) → Contains (processors_of entries) k → Makes entries plan k 0 9 (Idle entries k) (idle_of entries k)
+  unfolding idle_of
+  idle_yields k there =
+      makes_then entries plan k 0 3 9 (AreLpi entries k) (Idle entries k) (lpi_at entries k) _ (omega arith) (omega arith) (lpi_yields entries plan distinct k (read_of k names.Lpi there (λ e. cc)))
+      (λ lpi a.
+      makes_then entries plan k 3 5 9 (AreCst entries k) (Idle entries k) (cst_at entries k) _ (omega arith) (omega arith) (cst_yields entries plan distinct k (read_of k names.Cst there (λ e. cc)))
+      (λ cst b.
+      makes_then entries plan k 5 6 9 (λ _. Unit {0}) (Idle entries k) (ignored (place_below entries k names.Cst) lpi cst) _ (omega arith) (omega arith) (ignored_yields k lpi cst there a b) (λ _ _.
+      makes_then entries plan k 6 8 9 (IsCsd entries k) (Idle entries k) (csd_at entries k) _ (omega arith) (omega arith) (csd_yields entries plan distinct k (read_of k names.Csd there (λ e. cc)))
+      (λ csd c.
+      makes_then entries plan k 8 9 9 (λ r. r ≡ kept_entries lpi cst csd) (Idle entries k) (kept_of (place_below entries k names.Csd) lpi cst csd) _ (omega arith) (omega arith)
+      (used_yields k lpi cst csd there a b c) (λ kept is.
+      makes_done entries plan k 9 (Idle entries k) (idle_table lpi cst, kept)
+      (record { lpi = lpi; cst = cst; csd = csd; lpi_is = a; cst_is = b; csd_is = c; idle_is = table_rows lpi cst; kept_is = is }))))))
+
+  -- # Scales
+
+  scale_yields : {S : Type 0} (k a b c d : ℕ) (Means : Width → Data → List S → Type 0) (control : S → ℕ) (first pair limit domain : Name) (steps : Option (List S))
+      → Makes entries plan k a b (IsTable (λ width. ControlMeans) entries (place_below entries k pair)) (control_at entries k pair)
+      → Makes entries plan k b c (IsTable LimitMeans entries (place_below entries k limit)) (limit_at entries k limit)
+      → Makes entries plan k c d (IsTable DomainMeans entries (place_below entries k domain)) (dependency_at entries k domain)
+      → a ≤ b → b ≤ c → c ≤ d → AreStates Means length entries (place_below entries k first) steps
+      → Makes entries plan k a d (IsScale Means control entries (place_below entries k first) (place_below entries k pair) (place_below entries k limit) (place_below entries k domain))
+      (scale_of entries k pair limit domain (option_map (map control) steps))
+  unfolding scale_of
+  scale_yields k a b c d Means control first pair limit domain steps one two three l m n are =
+      let P = IsScale Means control entries (place_below entries k first) (place_below entries k pair) (place_below entries k limit) (place_below entries k domain) in
+      makes_then entries plan k a b d (IsTable (λ width. ControlMeans) entries (place_below entries k pair)) P (control_at entries k pair) _ l (omega (arith, m, n)) one (λ registers x.
+      makes_then entries plan k b c d (IsTable LimitMeans entries (place_below entries k limit)) P (limit_at entries k limit) _ m n two (λ opening y.
+      makes_then entries plan k c d d (IsTable DomainMeans entries (place_below entries k domain)) P (dependency_at entries k domain) _ n (omega arith) three (λ dependency z.
+      makes_done entries plan k d P (scale_with (option_map (map control) steps) registers opening dependency)
+      (record { steps = steps; registers = registers; opening = opening; dependency = dependency; steps_are = are; registers_are = x; opening_is = y; dependency_is = z; scale_is = refl }))))
+
+  perf_yields : (k : ℕ) → Contains (processors_of entries) k → Makes entries plan k 9 21 (IsPerf entries k) (perf_of entries k)
+  unfolding perf_of
+  perf_yields k there =
+      makes_then entries plan k 9 12 21 (AreStates PssMeans length entries (place_below entries k names.Pss)) (IsPerf entries k) (pss_at entries k) _ (omega arith) (omega arith)
+      (pss_yields entries plan distinct k (read_of k names.Pss there (λ e. cc)))
+      (λ steps are. scale_yields k 12 15 18 21 PssMeans (λ (s : PState). s.control) names.Pss names.Pct names.Ppc names.Psd steps
+      (control_yields entries plan distinct k 12 names.Pct (read_of k names.Pct there (λ e. cc)) refl (omega arith) (λ e. e))
+      (limit_yields entries plan distinct k 15 names.Ppc (read_of k names.Ppc there (λ e. cc)) refl (omega arith) (λ e. e))
+      (dependency_yields entries plan distinct k 18 names.Psd (read_of k names.Psd there (λ e. cc)) refl (omega arith) (λ e. e))
+      (omega arith) (omega arith) (omega arith) are)
+
+  throttle_yields : (k : ℕ) → Contains (processors_of entries) k → Makes entries plan k 21 33 (IsThrottle entries k) (throttle_of entries k)
+  unfolding throttle_of
+  throttle_yields k there =
+      makes_then entries plan k 21 24 33 (AreStates TssMeans length entries (place_below entries k names.Tss)) (IsThrottle entries k) (tss_at entries k) _ (omega arith) (omega arith)
+      (tss_yields entries plan distinct k (read_of k names.Tss there (λ e. cc)))
+      (λ steps are. scale_yields k 24 27 30 33 TssMeans (λ (s : TState). s.control) names.Tss names.Ptc names.Tpc names.Tsd steps
+      (control_yields entries plan distinct k 24 names.Ptc (read_of k names.Ptc there (λ e. cc)) refl (omega arith) (λ e. e))
+      (limit_yields entries plan distinct k 27 names.Tpc (read_of k names.Tpc there (λ e. cc)) refl (omega arith) (λ e. e))
+      (dependency_yields entries plan distinct k 30 names.Tsd (read_of k names.Tsd there (λ e. cc)) refl (omega arith) (λ e. e))
+      (omega arith) (omega arith) (omega arith) are)
+
+  -- # Containers and processors
+
+  lpi_alone : (k i : ℕ) (name : Name) → i ≡ k → Contains (containers_of entries) k → IsReadOf entries i name → slot name ≡ 0
+  lpi_alone k i name own there (inl read) = rw read.1 refl
+  lpi_alone k i name own there (inr read) = absurd (never_both entries k distinct there (subst (Contains (processors_of entries)) own read.0))
+
+  container_rank : (k : ℕ) → Contains (containers_of entries) k → (c : Cause) → IsOf k c → IsCause entries plan c → rank c < 3
+  container_rank k there (by_method i m) own cause = let e = lpi_alone k i m own there cause.0 in omega (arith, e)
+  container_rank k there (by_alias i m) own cause = let e = lpi_alone k i m own there cause.0 in omega (arith, e)
+  container_rank k there (of_no_states i m) own cause = let e = lpi_alone k i m own there cause.0 in omega (arith, e)
+  container_rank k there (beside_lpi i) own cause = absurd (never_both entries k distinct there (subst (Contains (processors_of entries)) own cause.0))
+  container_rank k there (of_no_such_state i j) own cause = absurd (never_both entries k distinct there (subst (Contains (processors_of entries)) own cause.0))
+  container_rank k there (of_unfit_domain d) own cause = absurd own
+
+  read_slot : (k : ℕ) (name : Name) → IsReadOf entries k name → slot name < 12
+  read_slot k name (inl read) = rw read.1 (omega arith)
+  read_slot k name (inr read) = is_table name read.1
+
+  processor_rank : (k : ℕ) (c : Cause) → IsOf k c → IsCause entries plan c → rank c < 36
+  processor_rank k (by_method i m) own cause = let l = read_slot i m cause.0 in omega (arith, l)
+  processor_rank k (by_alias i m) own cause = let l = read_slot i m cause.0 in omega (arith, l)
+  processor_rank k (of_no_states i m) own cause = let l = read_slot i m cause.0 in omega (arith, l)
+  processor_rank k (beside_lpi i) own cause = omega arith
+  processor_rank k (of_no_such_state i j) own cause = omega arith
+  processor_rank k (of_unfit_domain d) own cause = absurd own
+
+  -- all of them are before rank b
+  own_yields : {A : Type 0} (k b : ℕ) (P : A → Type 0) (m : Build A) → ((c : Cause) → IsOf k c → IsCause entries plan c → rank c < b) → Makes entries plan k 0 b P m
+      → Yields (note_of entries plan) (OwnOf entries plan k) P m
+  own_yields k b P m low made =
+      yields_same (note_of entries plan) (In entries plan k 0 b) (OwnOf entries plan k) P P m (λ c s. (s.own, s.given))
+      (λ c s. record { own = s.0; low = omega arith; high = low c s.0 s.1; given = s.1 }) (λ x p. p) made
+
+  container_yields : (k : ℕ) → Contains (containers_of entries) k → Yields (note_of entries plan) (OwnOf entries plan k) (IsContainerOf entries k) (container_parts entries k)
+  unfolding container_parts
+  container_yields k there =
+      own_yields k 3 (IsContainerOf entries k) (container_parts entries k) (container_rank k there)
+      (makes_then entries plan k 0 3 3 (AreLpi entries k) (IsContainerOf entries k) (lpi_at entries k) _ (omega arith) (omega arith) (lpi_yields entries plan distinct k (inl (there, refl))) (λ lpi a.
+      makes_done entries plan k 3 (IsContainerOf entries k) (record { path = record { segs = path_in entries k }; parent = parent_of entries k; idle = idle_table lpi None })
+      (record { path = refl; parent = refl; lpi = lpi; lpi_is = a; idle = table_rows lpi None })))
+
+  cpu_yields : (k : ℕ) → Contains (processors_of entries) k → Yields (note_of entries plan) (OwnOf entries plan k) (IsCpuOf entries k) (cpu_parts entries k)
+  unfolding cpu_parts
+  cpu_yields k there =
+      let P = IsCpuOf entries k in
+      own_yields k 36 P (cpu_parts entries k) (processor_rank k)
+      (makes_then entries plan k 0 9 36 (Idle entries k) P (idle_of entries k) _ (omega arith) (omega arith) (idle_yields k there) (λ idle a.
+      makes_then entries plan k 9 21 36 (IsPerf entries k) P (perf_of entries k) _ (omega arith) (omega arith) (perf_yields k there) (λ perf b.
+      makes_then entries plan k 21 33 36 (IsThrottle entries k) P (throttle_of entries k) _ (omega arith) (omega arith) (throttle_yields k there) (λ throttle c.
+      makes_then entries plan k 33 36 36 (IsTable CpcMeans entries (place_below entries k names.Cpc)) P (cpc_at entries k) _ (omega arith) (omega arith)
+      (cpc_yields entries plan distinct k (read_of k names.Cpc there (λ e. cc))) (λ cpc d.
+      makes_done entries plan k 36 P (record { path = record { segs = path_in entries k }; parent = parent_of entries k; idle = idle.0; csd = idle.1; perf = perf; throttle = throttle; cpc = cpc })
+      (record { path = refl; parent = refl; idle = a; perf = b; throttle = c; cpc = d }))))))
+
+  -- # All of them
+
+  one_owner : (y z : ℕ) (c : Cause) → OwnOf entries plan y c → OwnOf entries plan z c → y ≡ z
+  one_owner y z (by_method i m) a b = sym a.0 ∙ b.0
+  one_owner y z (by_alias i m) a b = sym a.0 ∙ b.0
+  one_owner y z (of_no_states i m) a b = sym a.0 ∙ b.0
+  one_owner y z (beside_lpi i) a b = sym a.0 ∙ b.0
+  one_owner y z (of_no_such_state i j) a b = sym a.0 ∙ b.0
+  one_owner y z (of_unfit_domain d) a b = absurd a.0
+
+  owned : (k : ℕ) (c : Cause) → IsOf k c → OfTables c
+  owned k (by_method i m) own = tt
+  owned k (by_alias i m) own = tt
+  owned k (of_no_states i m) own = tt
+  owned k (beside_lpi i) own = tt
+  owned k (of_no_such_state i j) own = tt
+  owned k (of_unfit_domain d) own = own
+
+  by_read : (i : ℕ) (name : Name) (c : Cause) → IsOf i c → IsCause entries plan c → IsReadOf entries i name
+      → Among (OwnOf entries plan) (containers_of entries) c ⊎ Among (OwnOf entries plan) (processors_of entries) c
+  by_read i name c own cause (inl read) = inl (i, read.0, (own, cause))
+  by_read i name c own cause (inr read) = inr (i, read.0, (own, cause))
+
+  owner : (c : Cause) → OfTables c → IsCause entries plan c → Among (OwnOf entries plan) (containers_of entries) c ⊎ Among (OwnOf entries plan) (processors_of entries) c
+  owner (by_method i m) of cause = by_read i m (by_method i m) refl cause cause.0
+  owner (by_alias i m) of cause = by_read i m (by_alias i m) refl cause cause.0
+  owner (of_no_states i m) of cause = by_read i m (of_no_states i m) refl cause cause.0
+  owner (beside_lpi i) of cause = inr (i, cause.0, (refl, cause))
+  owner (of_no_such_state i j) of cause = inr (i, cause.0, (refl, cause))
+  owner (of_unfit_domain d) of cause = absurd of
+
+  joins_parts : Joins (Among (OwnOf entries plan) (containers_of entries)) (Among (OwnOf entries plan) (processors_of entries)) (λ c. OfTables c × IsCause entries plan c)
+  joins_parts = record {
+    apart = λ c s t. never_both entries t.0 distinct (subst (Contains (containers_of entries)) (one_owner s.0 t.0 c s.2 t.2) s.1) t.1;
+    split = λ c u. owner c u.0 u.1;
+    left = λ c s. (owned s.0 c s.2.0, s.2.1);
+    right = λ c t. (owned t.0 c t.2.0, t.2.1);
+  }
+
+  outer_apart : (i j : ℕ) → IsOuter entries i j → i ≡ j → ⊥
+  outer_apart i j (inl less) e = let same = ap (depth_in entries) e in omega (arith, less, same)
+  outer_apart i j (inr more) e = let l = more.1 in omega (arith, l, e)
+
+  containers_apart : IsDistinct (containers_of entries)
+  containers_apart i j d less l same = outer_apart _ _ (containers_in_order entries i j d less l) same
+
+  processors_apart : IsDistinct (processors_of entries)
+  processors_apart i j d less l same = let rise = processors_rise entries i j d less l in omega (arith, rise, same)
+
+  pub parts_yields : Yields (note_of entries plan) (λ c. OfTables c × IsCause entries plan c) (AreParts entries) (parts_of entries)
+  unfolding parts_of
+  parts_yields =
+      let N = note_of entries plan in
+      let S = λ (c : Cause). OfTables c × IsCause entries plan c in
+      let P = AreParts entries in
+      let first = Among (OwnOf entries plan) (containers_of entries) in
+      let second = Among (OwnOf entries plan) (processors_of entries) in
+      yields_then N first second S (AllZip (IsContainerOf entries) (containers_of entries)) P (each (container_parts entries) (containers_of entries)) _ joins_parts
+      (yields_each N (OwnOf entries plan) (IsContainerOf entries) (container_parts entries) (containers_of entries) containers_apart one_owner container_yields) (λ containers a.
+      yields_then N second (λ _. ⊥) second (AllZip (IsCpuOf entries) (processors_of entries)) P (each (cpu_parts entries) (processors_of entries)) _ (joins_nothing second)
+      (yields_each N (OwnOf entries plan) (IsCpuOf entries) (cpu_parts entries) (processors_of entries) processors_apart one_owner cpu_yields) (λ cpus b.
+      yields_done N (λ _. ⊥) P (record { containers = containers; cpus = cpus }) (λ c s. s) (record { containers = a; cpus = b })))

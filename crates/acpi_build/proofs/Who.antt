@@ -170,3 +170,23 @@ containers_are entries k distinct = (
       (All-contains (λ q. is_container entries q ≡ true) (containers_of entries) k (containers_pass entries) there),
   λ is. container_there entries k is.among (container_from entries k distinct is),
 )
+
+-- # Never both
+
+texts_differ : (o : Thing) → is_text container_id o ≡ true → is_text processor_id o ≡ true → ⊥
+texts_differ o first second =
+    let same : is_text processor_id (data_object (Text container_id)) ≡ true = subst (λ t. is_text processor_id t ≡ true) (text_thing container_id o first) second in
+    false≢true (rw (outs-Text container_id) at same)
+
+ids_differ : (entries : List Entry) (o : Option ℕ) → is_text_at entries container_id o ≡ true → is_text_at entries processor_id o ≡ true → ⊥
+ids_differ entries None first second = false≢true first
+ids_differ entries (Some j) first second = texts_differ (entry_in entries j).object first second
+
+no_processor : (entries : List Entry) (k : ℕ) → IsDistinct (places_of entries) → IsContainer entries k → IsProcessor entries k → ⊥
+no_processor entries k distinct c (is_device_one l is hid) =
+    ids_differ entries (number_at entries (place_below entries k Hid)) (hid_from entries k container_id distinct c.hid) (hid_from entries k processor_id distinct hid)
+no_processor entries k distinct c (is_declared_one l is) = let e : device ≡ processor = sym c.device ∙ is in cc
+
+-- no object is a container and a processor
+pub never_both : (entries : List Entry) (k : ℕ) → IsDistinct (places_of entries) → Contains (containers_of entries) k → Contains (processors_of entries) k → ⊥
+never_both entries k distinct outer inner = no_processor entries k distinct ((containers_are entries k distinct).0 outer) ((processors_are entries k distinct).0 inner)

@@ -1,75 +1,171 @@
--- What is made while notes are taken: the notes that are added have a cause, and what is made has a property.
-use Rattle.std.proofs.Common.{◌≡◌, List, [], ◌∷◌, ◌++◌, suc, Result, Ok, Err, append_assoc, refl, sym, ap, ◌∙◌, arith}
-use Rattle.std.specs.Prelude.{All, Contains}
+-- What is made while notes are taken: the notes that are added are those of a set of causes, each once, and what is made
+-- has a property.
+use Rattle.std.proofs.Common.{◌≡◌, ◌⊎◌, zero, suc, List, [], ◌∷◌, ◌++◌, map, get_or, Result, Ok, Err, append_assoc, refl, sym, ap, subst, ◌∙◌, inl, inr, arith}
+use Rattle.std.specs.Prelude.{Contains}
 use Rattle.std.specs.List.{AllZip}
-use Rattle.std.proofs.lemmas.List.{append-nil}
-use Rattle.std.proofs.lemmas.List.Elements.{All-append, All-cons, All-nil, All-weaker}
+use Rattle.std.proofs.lemmas.List.{append-nil, map-append}
+use Rattle.std.proofs.lemmas.List.Elements.{Contains-append_cases, Contains-append_left, Contains-append_right, Contains-get_or}
 use Rattle.acpi_values.specs.declared.fault.Place.{Place as place_in}
 use Rattle.acpi_values.specs.declared.fault.Why.{Why}
+use Rattle.acpi_space.specs.Distinct.{IsDistinct}
 use Rattle.acpi_space.specs.Places.{Place}
 use Rattle.acpi_build.specs.declared.fault.BuildFault.{BuildFault}
 use Rattle.acpi_build.specs.declared.note.Note.{Note}
 use Rattle.acpi_build.specs.declared.note.NoteKind.{NoteKind}
 use Rattle.acpi_build.specs.Building.{◌>>=◌, Build, after, done, each, note_at, noted, refused}
+use Rattle.acpi_build.specs.Causes.{Cause}
+use Rattle.acpi_build.proofs.Parents.{pairs_append}
 
--- notes were added, each with a cause, and what was made has a property
-pub record Adds {A : Type 0} (C : Note → Type 0) (P : A → Type 0) (old : List Note) (x : A) (new : List Note) : Type 0 where
-  pub more : List Note
-  pub grown : new ≡ old ++ more
-  pub caused : All C more
+-- # Lists of causes
+
+-- the list has all causes of a set, each once, and no other
+pub record Lists (S : Cause → Type 0) (causes : List Cause) : Type 0 where
+  pub once : IsDistinct causes
+  pub only : (c : Cause) → Contains causes c → S c
+  pub all : (c : Cause) → S c → Contains causes c
+
+-- a set is two that have nothing in common
+pub record Joins (S T U : Cause → Type 0) : Type 0 where
+  pub apart : (c : Cause) → S c → T c → ⊥
+  pub split : (c : Cause) → U c → S c ⊎ T c
+  pub left : (c : Cause) → S c → U c
+  pub right : (c : Cause) → T c → U c
+
+pub joins_nothing : (S : Cause → Type 0) → Joins S (λ _. ⊥) S
+joins_nothing S = record { apart = λ c s t. t; split = λ c s. inl s; left = λ c s. s; right = λ c t. absurd t }
+
+pub lists_none : (S : Cause → Type 0) → ((c : Cause) → S c → ⊥) → Lists S []
+lists_none S none = record {
+  once = λ i j d less l. absurd (let impossible = l in omega arith);
+  only = λ c among. absurd (let impossible = among.1 in omega arith);
+  all = λ c s. absurd (none c s);
+}
+
+one_of : (c d : Cause) → Contains (c ∷ []) d → c ≡ d
+one_of c d (zero, l, e) = e
+one_of c d (suc k, l, e) = absurd (let impossible = l in omega arith)
+
+pub lists_one : (S : Cause → Type 0) (c : Cause) → S c → ((d : Cause) → S d → d ≡ c) → Lists S (c ∷ [])
+lists_one S c s same = record {
+  once = λ i j d less l. absurd (omega (arith, less, l));
+  only = λ d among. subst S (one_of c d among) s;
+  all = λ d t. (0, omega arith, sym (same d t));
+}
+
+pub lists_both : (S T U : Cause → Type 0) (xs ys : List Cause) → Joins S T U → Lists S xs → Lists T ys → Lists U (xs ++ ys)
+lists_both S T U xs ys joins first second = record {
+  once = pairs_append (λ x y. x ≡ y → ⊥) xs ys first.once second.once (λ i j d l m same.
+      joins.apart (get_or ys j d) (subst S same (first.only (get_or xs i d) (Contains-get_or xs i d l))) (second.only (get_or ys j d) (Contains-get_or ys j d m)));
+  only = λ c among. elim (Contains-append_cases xs ys c among) [
+    | inl before ↦ joins.left c (first.only c before)
+    | inr behind ↦ joins.right c (second.only c behind)
+  ];
+  all = λ c u. elim (joins.split c u) [
+    | inl s ↦ Contains-append_left xs ys c (first.all c s)
+    | inr t ↦ Contains-append_right xs ys c (second.all c t)
+  ];
+}
+
+pub lists_same : (S T : Cause → Type 0) (xs : List Cause) → ((c : Cause) → S c → T c) → ((c : Cause) → T c → S c) → Lists S xs → Lists T xs
+lists_same S T xs to from lists = record {
+  once = lists.once;
+  only = λ c among. to c (lists.only c among);
+  all = λ c t. lists.all c (from c t);
+}
+
+-- # What is made
+
+-- the notes of a set of causes were added, each once, and what was made has a property
+pub record Adds {A : Type 0} (note : Cause → Note) (S : Cause → Type 0) (P : A → Type 0) (old : List Note) (x : A) (new : List Note) : Type 0 where
+  pub causes : List Cause
+  pub grown : new ≡ old ++ map note causes
+  pub lists : Lists S causes
   pub holds : P x
 
-abbrev pub Told : {A : Type 0} → (Note → Type 0) → (A → Type 0) → List Note → Result (A × List Note) BuildFault → Type 0
-Told C P old (Ok made) = Adds C P old made.0 made.1
-Told C P old (Err fault) = Unit {0}
+abbrev pub Told : {A : Type 0} → (Cause → Note) → (Cause → Type 0) → (A → Type 0) → List Note → Result (A × List Note) BuildFault → Type 0
+Told note S P old (Ok made) = Adds note S P old made.0 made.1
+Told note S P old (Err fault) = Unit {0}
 
 -- after any notes
-abbrev pub Yields : {A : Type 0} → (Note → Type 0) → (A → Type 0) → Build A → Type 0
-Yields C P m = (old : List Note) → Told C P old (m old)
+abbrev pub Yields : {A : Type 0} → (Cause → Note) → (Cause → Type 0) → (A → Type 0) → Build A → Type 0
+Yields note S P m = (old : List Note) → Told note S P old (m old)
 
-pub yields_done : {A : Type 0} (C : Note → Type 0) (P : A → Type 0) (x : A) → P x → Yields C P (done x)
-yields_done C P x p old = record { more = []; grown = sym (append-nil old); caused = All-nil C; holds = p }
+pub yields_done : {A : Type 0} (note : Cause → Note) (S : Cause → Type 0) (P : A → Type 0) (x : A) → ((c : Cause) → S c → ⊥) → P x → Yields note S P (done x)
+yields_done note S P x none p old = record { causes = []; grown = sym (append-nil old); lists = lists_none S none; holds = p }
 
-pub yields_noted : {A : Type 0} (C : Note → Type 0) (P : A → Type 0) (path : Place) (kind : NoteKind) (x : A) → C (note_at path kind) → P x → Yields C P (noted path kind x)
-yields_noted C P path kind x cause p old = record { more = note_at path kind ∷ []; grown = refl; caused = All-cons C (note_at path kind) [] cause (All-nil C); holds = p }
+pub yields_noted : {A : Type 0} (note : Cause → Note) (S : Cause → Type 0) (P : A → Type 0) (path : Place) (kind : NoteKind) (x : A) (c : Cause) → note c ≡ note_at path kind
+    → S c → ((d : Cause) → S d → d ≡ c) → P x → Yields note S P (noted path kind x)
+yields_noted note S P path kind x c is s same p old = record {
+  causes = c ∷ [];
+  grown = ap (λ n. old ++ n ∷ []) (sym is);
+  lists = lists_one S c s same;
+  holds = p;
+}
 
-pub yields_refused : {A : Type 0} (C : Note → Type 0) (P : A → Type 0) (path : Place) (place : place_in) (why : Why) → Yields C P (refused path place why)
-yields_refused C P path place why old = tt
+pub yields_refused : {A : Type 0} (note : Cause → Note) (S : Cause → Type 0) (P : A → Type 0) (path : Place) (place : place_in) (why : Why) → Yields note S P (refused path place why)
+yields_refused note S P path place why old = tt
 
-joined : {A B : Type 0} (C : Note → Type 0) (P : A → Type 0) (Q : B → Type 0) (old mid : List Note) (x : A) (r : Result (B × List Note) BuildFault) → Adds C P old x mid → Told C Q mid r
-    → Told C Q old r
-joined C P Q old mid x (Ok made) first second = record {
-  more = first.more ++ second.more;
-  grown = second.grown ∙ ap (λ l. l ++ second.more) first.grown ∙ append_assoc old first.more second.more;
-  caused = All-append C first.more second.more first.caused second.caused;
+joined : {A B : Type 0} (note : Cause → Note) (S T U : Cause → Type 0) (P : A → Type 0) (Q : B → Type 0) (old mid : List Note) (x : A) (r : Result (B × List Note) BuildFault)
+    → Joins S T U → Adds note S P old x mid → Told note T Q mid r → Told note U Q old r
+joined note S T U P Q old mid x (Ok made) joins first second = record {
+  causes = first.causes ++ second.causes;
+  grown = second.grown ∙ ap (λ l. l ++ map note second.causes) first.grown ∙ append_assoc old (map note first.causes) (map note second.causes)
+      ∙ ap (λ l. old ++ l) (sym (map-append note first.causes second.causes));
+  lists = lists_both S T U first.causes second.causes joins first.lists second.lists;
   holds = second.holds;
 }
-joined C P Q old mid x (Err fault) first second = tt
+joined note S T U P Q old mid x (Err fault) joins first second = tt
 
-then_told : {A B : Type 0} (C : Note → Type 0) (P : A → Type 0) (Q : B → Type 0) (old : List Note) (r : Result (A × List Note) BuildFault) (f : A → Build B)
-    → Told C P old r → ((x : A) → P x → Yields C Q (f x)) → Told C Q old (after r f)
-then_told C P Q old (Ok made) f first next = joined C P Q old made.1 made.0 (f made.0 made.1) first (next made.0 first.holds made.1)
-then_told C P Q old (Err fault) f first next = tt
+then_told : {A B : Type 0} (note : Cause → Note) (S T U : Cause → Type 0) (P : A → Type 0) (Q : B → Type 0) (old : List Note) (r : Result (A × List Note) BuildFault) (f : A → Build B)
+    → Joins S T U → Told note S P old r → ((x : A) → P x → Yields note T Q (f x)) → Told note U Q old (after r f)
+then_told note S T U P Q old (Ok made) f joins first next = joined note S T U P Q old made.1 made.0 (f made.0 made.1) joins first (next made.0 first.holds made.1)
+then_told note S T U P Q old (Err fault) f joins first next = tt
 
 -- one thing and then the next
-pub yields_then : {A B : Type 0} (C : Note → Type 0) (P : A → Type 0) (Q : B → Type 0) (m : Build A) (f : A → Build B) → Yields C P m → ((x : A) → P x → Yields C Q (f x)) → Yields C Q (m >>= f)
-yields_then C P Q m f first next old = then_told C P Q old (m old) f (first old) next
+pub yields_then : {A B : Type 0} (note : Cause → Note) (S T U : Cause → Type 0) (P : A → Type 0) (Q : B → Type 0) (m : Build A) (f : A → Build B)
+    → Joins S T U → Yields note S P m → ((x : A) → P x → Yields note T Q (f x)) → Yields note U Q (m >>= f)
+yields_then note S T U P Q m f joins first next old = then_told note S T U P Q old (m old) f joins (first old) next
 
-weaker_told : {A : Type 0} (C D : Note → Type 0) (P Q : A → Type 0) (old : List Note) (r : Result (A × List Note) BuildFault) → ((n : Note) → C n → D n) → ((x : A) → P x → Q x) → Told C P old r
-    → Told D Q old r
-weaker_told C D P Q old (Ok made) c p told = record { more = told.more; grown = told.grown; caused = All-weaker C D c told.more told.caused; holds = p made.0 told.holds }
-weaker_told C D P Q old (Err fault) c p told = tt
+same_told : {A : Type 0} (note : Cause → Note) (S T : Cause → Type 0) (P Q : A → Type 0) (old : List Note) (r : Result (A × List Note) BuildFault)
+    → ((c : Cause) → S c → T c) → ((c : Cause) → T c → S c) → ((x : A) → P x → Q x) → Told note S P old r → Told note T Q old r
+same_told note S T P Q old (Ok made) to from p told = record { causes = told.causes; grown = told.grown; lists = lists_same S T told.causes to from told.lists; holds = p made.0 told.holds }
+same_told note S T P Q old (Err fault) to from p told = tt
 
-pub yields_weaker : {A : Type 0} (C D : Note → Type 0) (P Q : A → Type 0) (m : Build A) → ((n : Note) → C n → D n) → ((x : A) → P x → Q x) → Yields C P m → Yields D Q m
-yields_weaker C D P Q m c p told old = weaker_told C D P Q old (m old) c p (told old)
+-- the same set and a weaker property
+pub yields_same : {A : Type 0} (note : Cause → Note) (S T : Cause → Type 0) (P Q : A → Type 0) (m : Build A)
+    → ((c : Cause) → S c → T c) → ((c : Cause) → T c → S c) → ((x : A) → P x → Q x) → Yields note S P m → Yields note T Q m
+yields_same note S T P Q m to from p told old = same_told note S T P Q old (m old) to from p (told old)
+
+-- # Of each in order
 
 pub later : {X : Type 0} (x : X) (xs : List X) (y : X) → Contains xs y → Contains (x ∷ xs) y
 later x xs y (k, l, e) = (suc k, omega (arith, l), e)
 
--- of each in order
-pub yields_each : {X A : Type 0} (C : Note → Type 0) (P : X → A → Type 0) (f : X → Build A) (xs : List X) → ((x : X) → Contains xs x → Yields C (P x) (f x)) → Yields C (AllZip P xs) (each f xs)
-yields_each C P f [] one = yields_done C (AllZip P []) [] tt
-yields_each C P f (x ∷ xs) one =
-    yields_then C (P x) (AllZip P (x ∷ xs)) (f x) (λ y. each f xs >>= λ ys. done (y ∷ ys)) (one x (0, omega arith, refl)) (λ y p.
-    yields_then C (AllZip P xs) (AllZip P (x ∷ xs)) (each f xs) (λ ys. done (y ∷ ys)) (yields_each C P f xs (λ z among. one z (later x xs z among))) (λ ys ps.
-    yields_done C (AllZip P (x ∷ xs)) (y ∷ ys) (p, ps)))
+-- the set of one of these
+abbrev pub Among : {X : Type 0} → (X → Cause → Type 0) → List X → Cause → Type 0
+Among {X} S xs c = (x : X) × Contains xs x × S x c
+
+not_among : {X : Type 0} (S : X → Cause → Type 0) (c : Cause) → Among S [] c → ⊥
+not_among S c (x, (k, l, e), s) = let impossible = l in omega arith
+
+first_or_later : {X : Type 0} (S : X → Cause → Type 0) (x : X) (xs : List X) (c : Cause) → Among S (x ∷ xs) c → S x c ⊎ Among S xs c
+first_or_later S x xs c (y, (zero, l, e), s) = inl (subst (λ z. S z c) (sym e) s)
+first_or_later S x xs c (y, (suc k, l, e), s) = inr (y, (k, (omega (arith, l)), e), s)
+
+joins_each : {X : Type 0} (S : X → Cause → Type 0) (x : X) (xs : List X) → IsDistinct (x ∷ xs) → ((y z : X) (c : Cause) → S y c → S z c → y ≡ z) → Joins (S x) (Among S xs) (Among S (x ∷ xs))
+joins_each S x xs distinct one = record {
+  apart = λ c s other. let (k, l, e) = other.1 in distinct 0 (suc k) other.0 (omega arith) (omega (arith, l)) (one x other.0 c s other.2 ∙ sym e);
+  split = first_or_later S x xs;
+  left = λ c s. (x, (0, omega arith, refl), s);
+  right = λ c other. (other.0, later x xs other.0 other.1, other.2);
+}
+
+pub yields_each : {X A : Type 0} (note : Cause → Note) (S : X → Cause → Type 0) (P : X → A → Type 0) (f : X → Build A) (xs : List X) → IsDistinct xs
+    → ((y z : X) (c : Cause) → S y c → S z c → y ≡ z) → ((x : X) → Contains xs x → Yields note (S x) (P x) (f x)) → Yields note (Among S xs) (AllZip P xs) (each f xs)
+yields_each note S P f [] distinct one each_one = yields_done note (Among S []) (AllZip P []) [] (not_among S) tt
+yields_each note S P f (x ∷ xs) distinct one each_one =
+    let R = AllZip P (x ∷ xs) in
+    yields_then note (S x) (Among S xs) (Among S (x ∷ xs)) (P x) R (f x) (λ y. each f xs >>= λ ys. done (y ∷ ys)) (joins_each S x xs distinct one) (each_one x (0, omega arith, refl)) (λ y p.
+    yields_then note (Among S xs) (λ _. ⊥) (Among S xs) (AllZip P xs) R (each f xs) (λ ys. done (y ∷ ys)) (joins_nothing (Among S xs))
+    (yields_each note S P f xs (λ i j d less l. distinct (suc i) (suc j) d (omega arith) (omega (arith, l))) one (λ z among. each_one z (later x xs z among))) (λ ys ps.
+    yields_done note (λ _. ⊥) R (y ∷ ys) (λ c s. s) (p, ps)))

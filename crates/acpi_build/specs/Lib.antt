@@ -7,4 +7,5 @@ pub mod Planning
 pub mod Meaning
 pub mod Rows
 pub mod Sources
+pub mod Causes
 pub mod inner

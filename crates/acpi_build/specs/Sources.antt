@@ -1,9 +1,8 @@
--- What the tables of containers and processors are, and why notes are given, in words (ACPI 6.5, 8.4).
-use Rattle.std.specs.Prelude.{◌≡◌, ◌⊎◌, ◌<◌, ◌≤◌, ℕ, List, [], length, map, filter, Option, Some, None, nat_lt, Contains, Any}
+-- What the tables of containers and processors are, in words (ACPI 6.5, 8.4).
+use Rattle.std.specs.Prelude.{◌≡◌, ◌<◌, ℕ, List, [], length, map, filter, Option, Some, None, nat_lt, Any}
 use Rattle.std.specs.Option.{option_map, unwrap_or}
 use Rattle.aml_data.specs.declared.data.Data.{Data}
 use Rattle.aml_data.specs.declared.data.Width.{Width}
-use Rattle.aml_data.specs.declared.path.Path.{Path}
 use Rattle.acpi_values.specs.declared.dependency.CDependency.{CDependency}
 use Rattle.acpi_values.specs.declared.dependency.Dependency.{Dependency}
 use Rattle.acpi_values.specs.declared.idle.CState.{CState}
@@ -15,25 +14,16 @@ use Rattle.acpi_values.specs.declared.performance.TState.{TState}
 use Rattle.acpi_idle.specs.Meaning.{CsdMeans, CstMeans, LpiMeans}
 use Rattle.acpi_perf.specs.Meaning.{ControlMeans, DomainMeans, LimitMeans, PssMeans, TssMeans}
 use Rattle.acpi_cpc.specs.Meaning.{CpcMeans}
-use Rattle.acpi_space.specs.Things.Thing.{data_object, method, alias_of}
+use Rattle.acpi_space.specs.Things.Thing.{data_object}
 use Rattle.acpi_space.specs.Places.{Place}
 use Rattle.acpi_space.specs.Namespace.{Entry}
 use Rattle.acpi_space.specs.Lookup.{path_in}
 use Rattle.pw_plan.specs.declared.parts.ContainerParts.{ContainerParts}
 use Rattle.pw_plan.specs.declared.parts.CpuParts.{CpuParts}
 use Rattle.pw_plan.specs.declared.parts.Scale.{Scale}
-use Rattle.pw_plan.specs.declared.plan.Plan.{Plan}
-use Rattle.pw_plan.specs.Groups.{domain_in, first_of}
-use Rattle.pw_plan.specs.Limits.{in_32_bits}
-use Rattle.pw_plan.specs.Parts.{cpu_in}
-use Rattle.acpi_build.specs.declared.names.Name.{Name}
 use Rattle.acpi_build.specs.declared.names.Name.TheVariants as names
-use Rattle.acpi_build.specs.declared.note.Note.{Note}
-use Rattle.acpi_build.specs.declared.note.NoteKind.TheVariants.{ByMethod, ByAlias, Empty, Ignored, NoSuchState, UnfitDomain}
-use Rattle.acpi_build.specs.Building.{note_at}
-use Rattle.acpi_build.specs.Finding.{containers_of, parent_of, place_below, processors_of}
+use Rattle.acpi_build.specs.Finding.{parent_of, place_below}
 use Rattle.acpi_build.specs.Machine.{scale_with}
-use Rattle.acpi_build.specs.Meaning.{StandsAt}
 use Rattle.acpi_build.specs.Rows.{HasRows}
 
 -- # Tables
@@ -123,45 +113,3 @@ pub record IsCpuOf (entries : List Entry) (k : ℕ) (c : CpuParts) : Type 0 wher
   pub perf : IsPerf entries k c.perf
   pub throttle : IsThrottle entries k c.throttle
   pub cpc : IsTable CpcMeans entries (place_below entries k names.Cpc) c.cpc
-
--- # Notes
-
--- the table of this name has no states
-abbrev pub HasNoStates : List Entry → ℕ → Name → Type 0
-HasNoStates entries k names.Lpi =
-    (lpi : Lpi) × IsTable LpiMeans entries (place_below entries k names.Lpi) (Some lpi) × (length lpi.states ≡ 0)
-HasNoStates entries k names.Cst = IsTable CstMeans entries (place_below entries k names.Cst) (Some [])
-HasNoStates entries k names.Pss = IsTable PssMeans entries (place_below entries k names.Pss) (Some [])
-HasNoStates entries k names.Tss = IsTable TssMeans entries (place_below entries k names.Tss) (Some [])
-HasNoStates entries k names.Hid = ⊥
-HasNoStates entries k names.Csd = ⊥
-HasNoStates entries k names.Pct = ⊥
-HasNoStates entries k names.Ppc = ⊥
-HasNoStates entries k names.Psd = ⊥
-HasNoStates entries k names.Ptc = ⊥
-HasNoStates entries k names.Tpc = ⊥
-HasNoStates entries k names.Tsd = ⊥
-HasNoStates entries k names.Cpc = ⊥
-
--- Why a note is given of the tables of object k: a method or an alias stands there; a table has no states; a `_CST` has
--- states though an `_LPI` has some; an entry of `_CSD` is about a C state that isn't there.
-pub data IsNoteOf (entries : List Entry) (k : ℕ) : Note → Type 0 where
-  by_method : (name : Name) → StandsAt entries (place_below entries k name) method
-      → IsNoteOf entries k (note_at (place_below entries k name) ByMethod)
-  by_alias : (name : Name) (source : Path) → StandsAt entries (place_below entries k name) (alias_of source)
-      → IsNoteOf entries k (note_at (place_below entries k name) ByAlias)
-  of_no_states : (name : Name) → HasNoStates entries k name
-      → IsNoteOf entries k (note_at (place_below entries k name) Empty)
-  beside_lpi : (lpi : Lpi) (cst : List CState) → AreLpi entries k (Some lpi) → AreCst entries k (Some cst)
-      → IsNoteOf entries k (note_at (place_below entries k names.Cst) Ignored)
-  of_no_such_state : (cst : Option (List CState)) (csd : List CDependency) (e : CDependency) → AreLpi entries k None
-      → AreCst entries k cst → IsCsd entries k (Some csd) → Contains csd e → length (unwrap_or cst []) ≤ e.index
-      → IsNoteOf entries k (note_at (place_below entries k names.Csd) NoSuchState)
-
--- Why a note is given: by the tables of a container or a processor, or since a domain can't be coordinated.
-pub data IsCaused (entries : List Entry) (P : Plan) : Note → Type 0 where
-  by_tables : (k : ℕ) (note : Note) → Contains (containers_of entries) k ⊎ Contains (processors_of entries) k
-      → IsNoteOf entries k note → IsCaused entries P note
-  by_unfit_domain : (d : ℕ) → d < length P.domains → 0 < (domain_in P.domains d).unfit
-      → IsCaused entries P
-      (note_at (cpu_in P.cpus (first_of (domain_in P.domains d).members)).path.segs (UnfitDomain (in_32_bits d)))

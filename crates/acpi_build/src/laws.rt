@@ -14,11 +14,12 @@ ghost use Rattle.pw_plan.specs.declared.plan.Plan.{Plan as plan_type};
 ghost use Rattle.acpi_build.specs.declared.note.Note.{Note as note_type};
 ghost use Rattle.acpi_build.specs.Finding.{containers_of, parent_of, processors_of};
 ghost use Rattle.acpi_build.specs.Tables.{AreCountable};
+ghost use Rattle.acpi_build.specs.Causes.{AreNotesOfCauses, IsCaused};
 ghost use Rattle.acpi_build.specs.Machine.{idle_table};
 ghost use Rattle.acpi_build.specs.Rows.{HasRows};
 ghost use Rattle.acpi_build.specs.Planning.{AreSame, IsPlanFrom};
 ghost use Rattle.acpi_build.specs.Meaning.{IsAround, IsContainer, IsOuter, IsParent, IsProcessor};
-ghost use Rattle.acpi_build.specs.Sources.{IsCaused, IsContainerOf, IsCpuOf};
+ghost use Rattle.acpi_build.specs.Sources.{IsContainerOf, IsCpuOf};
 
 /// Which objects are processors and containers, and their orders (ACPI 6.5, 8.4): processors stand in
 /// the order of the objects, containers by the number of their segments and then in that order.
@@ -62,11 +63,13 @@ pub fn idle_rows_are_of_states()
         → HasRows lpi cst t ↔ (t ≡ idle_table lpi cst) }
 {}
 
-/// Each note has a cause: what stands at the names of a container or a processor, or a domain that can't be
-/// coordinated.
+/// Each note has a cause, and each cause has its note, once: what stands at the names of a container or a
+/// processor, an entry of `_CSD`, or a domain that can't be coordinated.
 pub fn notes_have_causes()
-    ensures { (entries : List entry_type) (P : plan_type) (notes : List note_type)
+    ensures caused { (entries : List entry_type) (P : plan_type) (notes : List note_type)
         → IsDistinct (places_of entries) → IsPlanFrom entries P notes → All (IsCaused entries P) notes }
+    ensures each_once { (entries : List entry_type) (P : plan_type) (notes : List note_type)
+        → IsDistinct (places_of entries) → IsPlanFrom entries P notes → AreNotesOfCauses entries P notes }
 {}
 
 /// Objects tell of at most one plan with its notes.
