@@ -4,6 +4,8 @@
 
 mod choices;
 mod governor;
+mod laws;
 
 pub use choices::deepest;
 pub use governor::Governor;
+pub use laws::choices_are_deepest;
