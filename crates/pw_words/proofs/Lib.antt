@@ -15,3 +15,4 @@ pub mod Asking
 pub mod Usual
 pub mod Moving
 pub mod Same
+pub mod Taking

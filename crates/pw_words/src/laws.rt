@@ -2,7 +2,9 @@ ghost use Rattle.std.specs.Prelude.{◌≡◌, ◌≤◌, ◌↔◌, ◌∷◌, 
 ghost use Rattle.std.specs.Prelude.{Bool, List, decimal, length, reverse};
 ghost use Rattle.std.specs.List.{filter};
 ghost use Rattle.std.specs.List.Sorted.{IsPermutation};
+ghost use Rattle.clap.specs.Takes.{takes};
 ghost use Rattle.clap.specs.Words.{Text};
+ghost use Rattle.pw_words.specs.App.{line_app};
 ghost use Rattle.pw_words.specs.Stated.{IsTaken};
 ghost use Rattle.pw_words.specs.Words.{AreFiles, AreMiscounted, AskFor, Asked, IsCommand};
 ghost use Rattle.pw_words.specs.Words.{flag_words, is_bare, is_dashed, is_plain, moved, task_flags};
@@ -83,6 +85,11 @@ pub fn same_words()
 pub fn taken_words()
     ensures { (words : List Text) → is_plain words ≡ false →
         IsCommand words ↔ (IsTaken words × (AreMiscounted words → ⊥)) }
+{}
+
+/// Words that `clap` states that it takes are taken: it has no error for them.
+pub fn stated_words_are_taken()
+    ensures { (words : List Text) → takes line_app words ≡ true → IsTaken words }
 {}
 
 /// Of words that aren't plain: behind `--` a file's name may begin with a hyphen, but a flag ends
