@@ -6,6 +6,7 @@ pub mod Existing
 pub mod Feeds
 pub mod Leading
 pub mod Lined
+pub mod Sourced
 pub mod Making
 pub mod Naming
 pub mod Noticing

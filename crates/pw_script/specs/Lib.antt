@@ -4,6 +4,7 @@ pub mod Looking
 pub mod Asking
 pub mod Reading
 pub mod Lawful
+pub mod Sources
 pub mod Behind
 pub mod Paths
 pub mod Openings

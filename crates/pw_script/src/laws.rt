@@ -1,4 +1,4 @@
-ghost use Rattle.std.specs.Prelude.{◌≡◌, ◌<◌, ◌++◌, ◌∷◌, ℕ, List, None, Option, length};
+ghost use Rattle.std.specs.Prelude.{◌≡◌, ◌<◌, ◌++◌, ◌∷◌, [], ℕ, List, None, Option, length};
 ghost use Rattle.pw_model.specs.declared.state.ScaleKind.{ScaleKind as kind};
 ghost use Rattle.pw_plan.specs.declared.plan.Plan.{Plan as plan};
 ghost use Rattle.pw_plan.specs.declared.request.Request.{Request as request};
@@ -13,6 +13,7 @@ ghost use Rattle.pw_notice.specs.Limits.{AnsweredBy, answer_by};
 ghost use Rattle.pw_script.specs.Asking.{CanBeAsked};
 ghost use Rattle.pw_script.specs.Lawful.{HasLine, Lawful, LawfulSerial};
 ghost use Rattle.pw_script.specs.Reading.{AreLines, Answered, Chosen, LawfullyChosen, requests_of};
+ghost use Rattle.pw_script.specs.Sources.{ComesFrom};
 
 use acpi_values::IdleTable;
 use pw_governor::Governor;
@@ -77,4 +78,28 @@ pub fn serial_histories_are_lawful()
 pub fn entries_have_lines()
     ensures { (P : plan) (asked : List request) (H G : List entry) (e : entry) → e.cpu < length P.cpus
         → Lawful P asked None (H ++ e ∷ G) → HasLine P asked H e }
+{}
+
+/// Whatever the interleaving, each entry of a history that a script allows comes from a line of its text,
+/// behind just those that the entry's processor made before it; and where that line is a notice, the
+/// entry asks for the limit that the handler answers, shown the limit that stands there for its
+/// processor (ACPI 6.5, 8.4.5.3 and 8.4.4.3).
+pub fn entries_come_from_texts<
+    F: Fn(&IdleTable, u32, u32) -> u32,
+    P: Fn(u32, u32, u32) -> u32,
+    T: Fn(u32, u32, u32) -> u32,
+>(governor: &Governor<F>, handlers: &Handlers<P, T>)
+    ensures read { (M : plan) (n : ℕ) (texts : List (List ℕ)) (lines : List line)
+        (H G : List entry) (e : entry)
+        → AreLines M (LawfullyChosen (F.post governor.now))
+        (AnsweredBy (P.post handlers.now.0) (T.post handlers.now.1)) [] n texts lines
+        → Lawful M (requests_of lines) None (H ++ e ∷ G)
+        → ComesFrom M (LawfullyChosen (F.post governor.now))
+        (AnsweredBy (P.post handlers.now.0) (T.post handlers.now.1)) n texts H e }
+    // Where the answers are those of functions.
+    ensures told { (M : plan) (choose : table → ℕ → ℕ → ℕ) (answer : kind → ℕ → ℕ → ℕ → ℕ) (n : ℕ)
+        (texts : List (List ℕ)) (lines : List line) (H G : List entry) (e : entry)
+        → AreLines M (Chosen choose) (Answered answer) [] n texts lines
+        → Lawful M (requests_of lines) None (H ++ e ∷ G)
+        → ComesFrom M (Chosen choose) (Answered answer) n texts H e }
 {}

@@ -26,8 +26,8 @@ mod words;
 pub use digits::{put_decimal, put_hexadecimal};
 pub use index::{find_path, index_path, key_of};
 pub use laws::{
-    entries_have_lines, functions_tell_lines, lines_can_be_asked, names_tell_paths,
-    serial_histories_are_lawful, texts_tell_lines,
+    entries_come_from_texts, entries_have_lines, functions_tell_lines, lines_can_be_asked,
+    names_tell_paths, serial_histories_are_lawful, texts_tell_lines,
 };
 pub use lines::{count_lines, first_field, first_line};
 pub use name::write_name;
