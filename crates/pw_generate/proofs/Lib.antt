@@ -20,3 +20,4 @@ mod SummaryExamples
 pub mod Orders
 pub mod Printed
 pub mod Summaries
+pub mod Adding

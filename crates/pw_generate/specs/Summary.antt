@@ -1,10 +1,11 @@
 -- The summary of a history.
-use Rattle.std.specs.Prelude.{ℕ, Bool, true, false, List, [], ◌∷◌, map, filter, length, count_by, slice_index_or, codes, decimal}
+use Rattle.std.specs.Prelude.{◌≡◌, ◌+◌, ℕ, Bool, true, false, List, [], ◌∷◌, map, filter, length, count_by, slice_index_or, codes, decimal}
 use Rattle.std.specs.List.{range_with_len}
 use Rattle.pw_text.specs.Lines.{spaced, text_of}
 use Rattle.pw_plan.specs.declared.domain.DomainKind.TheVariants.{Perf}
 use Rattle.pw_plan.specs.declared.plan.Plan.{Plan}
 use Rattle.pw_plan.specs.declared.request.Request.{Request}
+use Rattle.pw_plan.specs.declared.request.Request.TheVariants.{Idle, Wake}
 use Rattle.pw_plan.specs.Covering.{same_kind}
 use Rattle.pw_plan.specs.Places.{domain_at}
 use Rattle.pw_model.specs.declared.entry.HistoryEntry.{HistoryEntry}
@@ -38,6 +39,12 @@ is_refused (Entered chain) = false
 is_refused Running = false
 is_refused (Stands index) = false
 is_refused _ = true
+
+-- the kind of what a request is answered where it is accepted
+abbrev pub accepted_kind : Request → Reply → Bool
+accepted_kind (Idle p s t) = is_entered
+accepted_kind (Wake p) = is_running
+accepted_kind _ = is_stands
 
 -- # Where all stand
 
@@ -83,3 +90,17 @@ summary_text P es = text_of (summary_lines P es)
 -- The summary of a script: that of the requests of its lines, made in their order.
 unfoldable pub script_summary : Plan → List Request → List ℕ
 script_summary P asked = summary_text P (map (entry_of 0) asked)
+
+-- # What the counts tell
+
+-- The summary's second line says how many lines there are, and the four behind it numbers that add up to that.
+pub record AddsUp (P : Plan) (es : List HistoryEntry) : Type 0 where
+  pub first : List ℕ
+  pub entered : ℕ
+  pub running : ℕ
+  pub stands : ℕ
+  pub refused : ℕ
+  pub rest : List (List ℕ)
+  pub says : summary_text P es ≡ text_of (first ∷ labelled (codes "lines") ((entered + running + stands + refused) ∷ [])
+      ∷ labelled (codes "entered") (entered ∷ []) ∷ labelled (codes "running") (running ∷ [])
+      ∷ labelled (codes "stands") (stands ∷ []) ∷ labelled (codes "refused") (refused ∷ []) ∷ rest)
