@@ -2,16 +2,16 @@ use crate::bytes::{block_of, put_bytes};
 use crate::outside::{Outside, SOUND};
 use pw_base::{Gate, Memory, MemoryFiles, MemorySink, OpenGate};
 use pw_cli::run;
-use pw_played::Meeting;
+use pw_played::{Meeting, block_bytes};
 use pw_regs::FailingRegisters;
 use std::alloc::Global;
 use std::sync::Wait;
 use std::thread::Threads;
 
-/// One run: what the files `a`, `b` and `c` hold, the words, what the outside is like, and what must
-/// come: what stands on the two outputs, all of it or so many first bytes, and how many operations the
-/// registers saw, unless any number may come. A processor's request may be held until another's has been
-/// answered.
+/// One run: what the files `a`, `b` and `c` hold, the words, what the outside is like, and what must come:
+/// what stands on the two outputs, all of it or so many first bytes, and how many operations the registers
+/// saw, unless any number may come. A processor's request may be held until another's has been answered, and
+/// the file `a` may have to be the block that is generated with so many containers.
 #[derive(Drop)]
 pub(crate) struct Case {
     a: Vec<u8>,
@@ -25,6 +25,7 @@ pub(crate) struct Case {
     err: Vec<u8>,
     err_first: u32,
     ops: Option<u32>,
+    made: Option<u32>,
 }
 
 impl Case {
@@ -41,6 +42,7 @@ impl Case {
             err: Vec::new(alloc),
             err_first: u32::MAX,
             ops: Some(0),
+            made: None,
         }
     }
 
@@ -48,6 +50,7 @@ impl Case {
     pub(crate) fn again(&mut self) {
         self.outside = SOUND;
         self.held = None;
+        self.made = None;
         self.out_first = u32::MAX;
         self.err.clear();
         self.err_first = u32::MAX;
@@ -84,6 +87,7 @@ impl Case {
             "history" => put_line(&mut self.b, rest),
             "ops" => self.read_ops(rest),
             "hold" => self.read_held(rest),
+            "made" => self.read_made(rest),
             _ => self.read_number(alloc, key, rest),
         }
     }
@@ -117,6 +121,11 @@ impl Case {
     fn read_held(&mut self, rest: &str) -> Option<()> {
         let (held, other) = rest.split_once(" ")?;
         self.held = Some((held.parse::<u32>().ok()?, other.parse::<u32>().ok()?));
+        Some(())
+    }
+
+    fn read_made(&mut self, rest: &str) -> Option<()> {
+        self.made = Some(rest.parse::<u32>().ok()?);
         Some(())
     }
 
@@ -191,7 +200,18 @@ impl Case {
         if outcome.status != status {
             return Some("another status");
         }
+        if !self.is_made(alloc)? {
+            return Some("another block is generated");
+        }
         Some(self.told_by(&out, &err, &outcome.regs))
+    }
+
+    /// Whether the file `a` is the block that is generated, where it must be.
+    fn is_made(&self, alloc: Global) -> Option<bool> {
+        let Some(containers) = self.made else {
+            return Some(true);
+        };
+        Some(block_bytes(alloc, containers)?.as_slice() == self.a.as_slice())
     }
 
     /// What the outputs and the registers tell, where the status is as it must be.

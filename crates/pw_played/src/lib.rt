@@ -1,5 +1,6 @@
-//! Runs of scripts on registers in memory, by one caller and by workers, with what came of them as text,
-//! and a gate at which requests meet: what the programs that compare such runs share.
+//! Runs of scripts on registers in memory, by one caller and by workers, with what came of them as text, and
+//! a gate at which requests meet; and the machines, loads and blocks that are generated: what the programs
+//! of cases share.
 #![tactic(auto)]
 
 mod gates;
@@ -8,6 +9,6 @@ mod running;
 mod telling;
 
 pub use gates::Meeting;
-pub use made::machine_of;
+pub use made::{block_bytes, machine_of};
 pub use running::{play, play_alone};
 pub use telling::Played;

@@ -10,13 +10,20 @@ use pw_plan::Plan;
 use pw_script::Script;
 use std::alloc::Global;
 
+/// The bytes of the block of so many containers.
+fn bytes_of(alloc: Global, n: u32) -> Option<Vec<u8>>
+    requires { n ≤ MOST_CONTAINERS }
+{
+    let made = generate_block(alloc, n).ok()?;
+    encode_block(alloc, &made).ok()
+}
+
 /// The block of so many containers, written and read again.
 fn block_of(alloc: Global, n: u32) -> Option<Block>
     requires { n ≤ MOST_CONTAINERS }
     ensures { IfSome result IsWritableBlock }
 {
-    let made = generate_block(alloc, n).ok()?;
-    let bytes = encode_block(alloc, &made).ok()?;
+    let bytes = bytes_of(alloc, n)?;
     parse(alloc, bytes.as_slice()).ok()
 }
 
@@ -40,4 +47,13 @@ pub fn machine_of(alloc: Global, n: u32) -> Option<(Plan, Script)> {
     let plan = plan_of(alloc, &blocks)?;
     let script = generate_script(alloc, n).ok()?;
     Some((plan, script))
+}
+
+/// The bytes of the block that is generated with so many containers. None where there are more than a
+/// machine may have, and for want of memory.
+pub fn block_bytes(alloc: Global, n: u32) -> Option<Vec<u8>> {
+    if n > MOST_CONTAINERS {
+        return None;
+    }
+    bytes_of(alloc, n)
 }
