@@ -158,18 +158,18 @@ module _ (entries : List Entry) (plan : Plan) (distinct : IsDistinct (places_of 
       let path = place_below entries k names.Csd in
       yields_same (note_of entries plan) (Dropped k count 0 es) (In entries plan k 8 9) (Keeps count [] es) (λ r. r ≡ filter (fits count) es) (kept_from path count 1 [] es)
       (λ d s. let (j, is, l, past) = s in
-        let e : d ≡ of_no_such_state k j = is ∙ ap (of_no_such_state k) (omega arith) in
-        subst (In entries plan k 8 9) (sym e) (record {
-          own = refl;
-          low = omega arith;
-          high = omega arith;
-          given = (there, record { cst = cst; csd = es; no_lpi = a; cst_is = b; csd_is = c; among = l; past = not_below _ count past });
-        }))
+      let e : d ≡ of_no_such_state k j = is ∙ ap (of_no_such_state k) (omega arith) in
+      subst (In entries plan k 8 9) (sym e) (record {
+        own = refl;
+        low = omega arith;
+        high = omega arith;
+        given = (there, record { cst = cst; csd = es; no_lpi = a; cst_is = b; csd_is = c; among = l; past = not_below _ count past });
+      }))
       (λ d s. let (j, is, lack) = lacks k d s in
-        let same : lack.csd ≡ es = same_some (same_csd k (Some lack.csd) (Some es) lack.csd_is c) in
-        let states : lack.cst ≡ cst = same_cst k lack.cst cst lack.cst_is b in
-        let e : d ≡ of_no_such_state k (0 + j) = is ∙ ap (of_no_such_state k) (omega arith) in
-        subst (λ xs. Dropped k count 0 xs d) same (j, e, lack.among, past_all _ count (subst (λ o. length (unwrap_or o []) ≤ (dependency_in lack.csd j).index) states lack.past)))
+      let same : lack.csd ≡ es = same_some (same_csd k (Some lack.csd) (Some es) lack.csd_is c) in
+      let states : lack.cst ≡ cst = same_cst k lack.cst cst lack.cst_is b in
+      let e : d ≡ of_no_such_state k (0 + j) = is ∙ ap (of_no_such_state k) (omega arith) in
+      subst (λ xs. Dropped k count 0 xs d) same (j, e, lack.among, past_all _ count (subst (λ o. length (unwrap_or o []) ≤ (dependency_in lack.csd j).index) states lack.past)))
       (λ r is. is) (kept_yields k count 0 1 [] es)
 
   ignored_yields : (k : ℕ) (lpi : Option Lpi) (cst : Option (List CState)) → Contains (processors_of entries) k → AreLpi entries k lpi → AreCst entries k cst

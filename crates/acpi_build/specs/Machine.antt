@@ -1,5 +1,5 @@
 -- The machine that objects tell of: its containers and processors with what they need for a plan.
-use Rattle.std.specs.Prelude.{◌==◌, ◌%◌, ◌+◌, ◌&&◌, ℕ, Bool, true, List, [], ◌∷◌, ◌++◌, length, map, Option, Some, None, unwrap_or, nat_lt, if◌then◌else◌}
+use Rattle.std.specs.Prelude.{◌==◌, ◌%◌, ◌+◌, ℕ, Bool, true, List, [], ◌∷◌, ◌++◌, length, map, Option, Some, None, unwrap_or, nat_lt, if◌then◌else◌}
 use Rattle.std.specs.Option.{option_map}
 use Rattle.std.specs.List.{list_any}
 use Rattle.acpi_values.specs.declared.dependency.CDependency.{CDependency}
@@ -16,6 +16,7 @@ use Rattle.acpi_values.specs.declared.performance.ControlPair.{ControlPair}
 use Rattle.acpi_values.specs.declared.performance.PState.{PState}
 use Rattle.acpi_values.specs.declared.performance.TState.{TState}
 use Rattle.acpi_values.specs.declared.register.Register.{Register}
+use Rattle.acpi_values.specs.Null.{is_null}
 use Rattle.acpi_fields.specs.Reading.{place}
 use Rattle.acpi_space.specs.Places.{Place}
 use Rattle.acpi_space.specs.Namespace.{Entry}
@@ -85,9 +86,6 @@ idle_of entries k =
     done (idle_table lpi cst, kept)
 
 -- # Performance and throttling states
-
-abbrev pub is_null : Register → Bool
-is_null r = (r.space == 0) && (r.width == 0) && (r.offset == 0) && (r.access == 0) && (r.address == 0)
 
 -- the control register, unless it is absent or null
 abbrev pub register_in : Option ControlPair → Option Register

@@ -1,6 +1,6 @@
 //! What the definitions mean.
 
-ghost use Rattle.std.specs.Prelude.{◌≡◌, ◌↔◌, ◌<◌, ◌≤◌, ℕ, List, Option, Some, None};
+ghost use Rattle.std.specs.Prelude.{◌≡◌, ◌≢◌, ◌↔◌, ◌<◌, ◌≤◌, ℕ, List, Option, Some, None};
 ghost use Rattle.std.specs.Prelude.{length, slice_index, Contains};
 ghost use Rattle.std.specs.List.{All, AllPairs, AllZip};
 ghost use Rattle.aml_block.specs.declared.block.Block.{Block as block_type};
@@ -8,6 +8,9 @@ ghost use Rattle.aml_block.specs.Written.{IsWritableBlock};
 ghost use Rattle.acpi_values.specs.declared.idle.CState.{CState as c_state};
 ghost use Rattle.acpi_values.specs.declared.idle.IdleTable.{IdleTable as idle_type};
 ghost use Rattle.acpi_values.specs.declared.lpi.Lpi.{Lpi as lpi_type};
+ghost use Rattle.acpi_values.specs.declared.performance.ControlPair.{ControlPair as pair_type};
+ghost use Rattle.acpi_values.specs.declared.register.Register.{Register as register_type};
+ghost use Rattle.acpi_values.specs.Null.{null_register};
 ghost use Rattle.acpi_space.specs.Distinct.{IsDistinct};
 ghost use Rattle.acpi_space.specs.Namespace.{Entry as entry_type, entries_in, places_of};
 ghost use Rattle.pw_plan.specs.declared.plan.Plan.{Plan as plan_type};
@@ -15,7 +18,7 @@ ghost use Rattle.acpi_build.specs.declared.note.Note.{Note as note_type};
 ghost use Rattle.acpi_build.specs.Finding.{containers_of, parent_of, processors_of};
 ghost use Rattle.acpi_build.specs.Tables.{AreCountable};
 ghost use Rattle.acpi_build.specs.Causes.{AreNotesOfCauses, IsCaused};
-ghost use Rattle.acpi_build.specs.Machine.{idle_table};
+ghost use Rattle.acpi_build.specs.Machine.{idle_table, register_in};
 ghost use Rattle.acpi_build.specs.Rows.{HasRows};
 ghost use Rattle.acpi_build.specs.Planning.{AreSame, IsPlanFrom};
 ghost use Rattle.acpi_build.specs.Meaning.{IsAround, IsContainer, IsOuter, IsParent, IsProcessor};
@@ -61,6 +64,13 @@ pub fn tables_are_meant()
 pub fn idle_rows_are_of_states()
     ensures { (lpi : Option lpi_type) (cst : Option (List c_state)) (t : idle_type)
         → HasRows lpi cst t ↔ (t ≡ idle_table lpi cst) }
+{}
+
+/// The control register of a scale is that of `_PCT` or `_PTC`, unless that is the null register (ACPI 6.5,
+/// 8.4.4.1 and 8.4.5.1).
+pub fn control_registers_are_not_null()
+    ensures { (pair : pair_type) (r : register_type)
+        → (register_in (Some pair) ≡ Some r) ↔ ((pair.control ≡ r) × (r ≢ null_register)) }
 {}
 
 /// Each note has a cause, and each cause has its note, once: what stands at the names of a container or a

@@ -16,8 +16,9 @@ mod tables;
 
 pub use fault::BuildFault;
 pub use laws::{
-    blocks_are_countable, idle_rows_are_of_states, notes_have_causes, one_plan,
-    parents_are_innermost, processors_and_containers, tables_are_meant,
+    blocks_are_countable, control_registers_are_not_null, idle_rows_are_of_states,
+    notes_have_causes, one_plan, parents_are_innermost, processors_and_containers,
+    tables_are_meant,
 };
 pub use note::{Note, NoteKind};
 pub use planning::plan;

@@ -7,7 +7,7 @@ ghost use Rattle.acpi_values.specs.declared.performance.TState.{TState as t_stat
 ghost use Rattle.pw_plan.specs.Parts.{has_states};
 ghost use Rattle.acpi_build.specs.inner.Answers.{Builds};
 ghost use Rattle.acpi_build.specs.Tables.{AreCountable};
-ghost use Rattle.acpi_build.specs.Machine.{is_null, perf_of, register_in};
+ghost use Rattle.acpi_build.specs.Machine.{perf_of, register_in};
 ghost use Rattle.acpi_build.specs.Machine.{scale_of, throttle_of};
 
 use crate::fault::BuildFault;
@@ -20,16 +20,6 @@ use pw_base::{List, Memory};
 use pw_plan::Scale;
 use std::alloc::Global;
 
-fn stands_for_none(register: Register) -> bool
-    ensures { result ≡ is_null register }
-{
-    register.space == 0
-        && register.width == 0
-        && register.offset == 0
-        && register.access == 0
-        && register.address == 0
-}
-
 /// The control register, unless it is absent or null.
 fn control_register(pair: Option<ControlPair>) -> Option<Register>
     ensures { result ≡ register_in pair }
@@ -37,7 +27,7 @@ fn control_register(pair: Option<ControlPair>) -> Option<Register>
     match pair {
         None => None,
         Some(pair) => {
-            if stands_for_none(pair.control) {
+            if pair.control.is_null() {
                 None
             } else {
                 Some(pair.control)

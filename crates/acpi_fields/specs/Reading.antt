@@ -72,10 +72,6 @@ layer_register at (layer.Path path) = Err (shape at Kind)
 abbrev pub register_at : Place → Data → Read Register
 register_at at object = layer_register at (out-Data object)
 
--- the register that stands for none (ACPI 6.5, 5.2.3.2)
-abbrev pub null_register : Register
-null_register = record { space = 0; width = 0; offset = 0; access = 0; address = 0 }
-
 -- # Strings
 
 abbrev pub layer_text : Place → Data-F Data → Read (List ℕ)

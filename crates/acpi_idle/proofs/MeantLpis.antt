@@ -12,8 +12,9 @@ use Rattle.acpi_values.specs.declared.lpi.EntryMethod.TheVariants as entry
 use Rattle.acpi_values.specs.declared.lpi.Lpi.{Lpi}
 use Rattle.acpi_values.specs.declared.lpi.LpiState.{LpiState}
 use Rattle.acpi_values.specs.declared.register.Register.{Register}
+use Rattle.acpi_values.specs.Null.{null_register}
 use Rattle.acpi_fields.specs.Meaning.{IsNumber, IsPackageOf}
-use Rattle.acpi_fields.specs.Reading.{Read, count_at, field, fields_of, integer_at, most_32, most_64, null_register, number_of, place, register_at}
+use Rattle.acpi_fields.specs.Reading.{Read, count_at, field, fields_of, integer_at, most_32, most_64, number_of, place, register_at}
 use Rattle.acpi_fields.specs.Reading.{rows_from, shape, text_at, whole_of}
 use Rattle.acpi_fields.proofs.Inversion.{bound, count_means, count_read, fields_means, fields_read, integer_means, integer_read, means_32, means_64}
 use Rattle.acpi_fields.proofs.Inversion.{no_integer, ok_same, read_32, read_64, register_means, register_read, rows_means, rows_read, text_means}

@@ -10,8 +10,9 @@ use Rattle.acpi_values.specs.declared.lpi.EntryMethod.TheVariants as entry
 use Rattle.acpi_values.specs.declared.lpi.Lpi.{Lpi}
 use Rattle.acpi_values.specs.declared.lpi.LpiState.{LpiState}
 use Rattle.acpi_values.specs.declared.register.Register.{Register}
+use Rattle.acpi_values.specs.Null.{null_register}
 use Rattle.pw_base.specs.Answers.{◌>>=◌}
-use Rattle.acpi_fields.specs.Reading.{Read, shape, place, count_at, field, fields_of, integer_at, number_of, null_register, register_at, rows_from, text_at, whole_of, most_32, most_64}
+use Rattle.acpi_fields.specs.Reading.{Read, shape, place, count_at, field, fields_of, integer_at, number_of, register_at, rows_from, text_at, whole_of, most_32, most_64}
 
 abbrev pub entry_by : Place → Data → Option ℕ → Read EntryMethod
 entry_by at object (Some n) = Ok (entry.Integer n)

@@ -10,8 +10,9 @@ use Rattle.acpi_values.specs.declared.lpi.EntryMethod.TheVariants as entry
 use Rattle.acpi_values.specs.declared.lpi.Lpi.{Lpi}
 use Rattle.acpi_values.specs.declared.lpi.LpiState.{LpiState}
 use Rattle.acpi_values.specs.declared.register.Register.{Register}
+use Rattle.acpi_values.specs.Null.{null_register}
 use Rattle.acpi_fields.specs.Meaning.{AreRows, DependencyMeans, IsInteger, IsNumber, IsPackageOf, IsRegisterObject}
-use Rattle.acpi_fields.specs.Reading.{field, null_register}
+use Rattle.acpi_fields.specs.Reading.{field}
 
 -- # C states
 

@@ -5,6 +5,7 @@
 mod dependency;
 mod fault;
 mod idle;
+mod laws;
 mod lpi;
 mod operation;
 mod performance;
@@ -13,6 +14,7 @@ mod register;
 pub use dependency::{CDependency, Coord, Dependency};
 pub use fault::{Place, ReadFault, Shape, Why};
 pub use idle::{CState, IdleKind, IdleRow, IdleTable};
+pub use laws::one_null_register;
 pub use lpi::{EntryMethod, Lpi, LpiState};
 pub use operation::{Chain, Composite, Op};
 pub use performance::{ControlPair, Cpc, CpcEntry, PState, TState};

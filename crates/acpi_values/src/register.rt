@@ -71,7 +71,19 @@ fn address_bytes(address: u64) -> [u8; 8]
 
 impl Register {
     ghost use Rattle.std.specs.Prelude.{◌≡◌, Ok};
+    ghost use Rattle.acpi_values.specs.Null.{is_null};
     ghost use Rattle.acpi_values.specs.Registers.{register_bytes, register_of};
+
+    /// Whether it is the null register, which stands for none (ACPI 6.5, 8.4.6.1).
+    pub fn is_null(&self) -> bool
+        ensures { result ≡ is_null self.now }
+    {
+        self.space == 0
+            && self.width == 0
+            && self.offset == 0
+            && self.access == 0
+            && self.address == 0
+    }
 
     /// The register of a resource template of one register (ACPI 6.5, 6.4.3.7), or what is wrong
     /// first. A checksum of 0 counts as right. It takes no memory.

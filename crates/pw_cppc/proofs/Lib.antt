@@ -24,3 +24,4 @@ pub mod Reasoning
 pub mod LastSet
 pub mod Controls
 pub mod Asked
+pub mod Registers

@@ -1,9 +1,10 @@
 -- What a processor's `_CPC` and `_PSD` say of its performance (ACPI 6.5, 8.4.6.1 and 8.4.5.5).
-use Rattle.std.specs.Prelude.{◌==◌, ◌&&◌, ℕ, Bool, true, false, List, nat_le, slice_get, slice_index_or, is_some, Option, Some, None, if◌then◌else◌}
+use Rattle.std.specs.Prelude.{◌&&◌, ℕ, Bool, true, false, List, nat_le, slice_get, slice_index_or, is_some, Option, Some, None, if◌then◌else◌}
 use Rattle.acpi_values.specs.declared.performance.Cpc.{Cpc}
 use Rattle.acpi_values.specs.declared.performance.CpcEntry.{CpcEntry}
 use Rattle.acpi_values.specs.declared.performance.CpcEntry.TheVariants.{Number, Register}
 use Rattle.acpi_values.specs.declared.register.Register.{Register as register}
+use Rattle.acpi_values.specs.Null.{is_null}
 use Rattle.pw_cppc.specs.declared.parts.Control.{Control}
 use Rattle.pw_cppc.specs.declared.parts.Control.TheVariants.{Desired, Minimum, Maximum}
 use Rattle.pw_cppc.specs.declared.parts.CppcParts.{CppcParts}
@@ -38,10 +39,6 @@ abbrev pub number_in : Option CpcEntry → ℕ
 number_in None = 0
 number_in (Some (Number n)) = n
 number_in (Some (Register r)) = 0
-
--- the null register stands for none (ACPI 6.5, 5.2.3.2)
-abbrev pub is_null : register → Bool
-is_null r = (r.space == 0) && (r.width == 0) && (r.offset == 0) && (r.access == 0) && (r.address == 0)
 
 -- the register, unless it is none or null
 abbrev pub register_in : Option CpcEntry → Option register

@@ -27,7 +27,7 @@ pub use history::{
     entries_state_requests, histories_join, histories_stay_numbers, histories_stop_at_faults,
     legal_histories_grow,
 };
-pub use laws::{domains_have_reasons, domains_hold_those_together};
+pub use laws::{control_registers_are_not_null, domains_have_reasons, domains_hold_those_together};
 pub use numbers::CppcNumbers;
 pub use opening::open_all;
 pub use parts::{Control, CppcParts};

@@ -1,5 +1,5 @@
 ghost use Rattle.std.specs.Prelude.{◌≡◌};
-ghost use Rattle.pw_cppc.specs.Parts.{is_null, is_number, number_in, place_of, register_in};
+ghost use Rattle.pw_cppc.specs.Parts.{is_number, number_in, place_of, register_in};
 
 use acpi_values::{Cpc, CpcEntry, Dependency, Register};
 
@@ -61,17 +61,6 @@ fn number_in(entry: Option<CpcEntry>) -> u64
     }
 }
 
-/// Whether it is the null register.
-fn is_null(register: Register) -> bool
-    ensures { result ≡ is_null register }
-{
-    register.space == 0
-        && register.width == 0
-        && register.offset == 0
-        && register.access == 0
-        && register.address == 0
-}
-
 /// The register, unless an element is none or null.
 fn register_in(entry: Option<CpcEntry>) -> Option<Register>
     ensures { result ≡ register_in entry }
@@ -79,7 +68,7 @@ fn register_in(entry: Option<CpcEntry>) -> Option<Register>
     match entry {
         None => None,
         Some(CpcEntry::Number(_)) => None,
-        Some(CpcEntry::Register(register)) => if is_null(register) {
+        Some(CpcEntry::Register(register)) => if register.is_null() {
             None
         } else {
             Some(register)

@@ -10,7 +10,7 @@ use Rattle.acpi_values.specs.declared.lpi.LpiState.{LpiState}
 use Rattle.acpi_values.specs.declared.performance.ControlPair.{ControlPair}
 use Rattle.acpi_values.specs.declared.performance.PState.{PState}
 use Rattle.acpi_values.specs.declared.register.Register.{Register}
-use Rattle.acpi_fields.specs.Reading.{null_register}
+use Rattle.acpi_values.specs.Null.{null_register}
 use Rattle.aml_block.specs.declared.block.Header.{Header}
 use Rattle.aml_block.specs.declared.block.Signature.TheVariants.{Ssdt}
 use Rattle.pw_generate.specs.declared.tables.TheConstants.{CPUS_EACH}
