@@ -134,7 +134,7 @@ did_or_lost (cppc serial script names) within sealed before after status text li
       | inr f ↦ inr (record { five = f.five; unheld = λ held. held f.rose; made = f.made })
     ]
 did_or_lost (generate n) within sealed before after status text line o =
-    elim (tries_or_failed n within sealed before.outputs after.outputs before.regs after.regs status text line o) [
+    elim (tries_or_failed n sealed before.outputs after.outputs before.regs after.regs status text line o) [
       | inl did ↦ inl did
       | inr f ↦ inr (record { five = f.five; unheld = λ held. held f.rose; made = λ tells. (f.text, f.made) })
     ]

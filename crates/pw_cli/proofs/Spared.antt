@@ -90,9 +90,9 @@ module _ (before after : Seen) (room : MOST_OPERATIONS ≤ before.regs.room) whe
     generates_counts status text said (tried machine few run prints seals) = (run_spared (machine_load n).lines few run.operates).1
 
     summary_not_5 : (P : Plan) (opening : Option ℕ) (es : List HistoryEntry) → stopped_at opening es ≡ None → (status : ℕ) (text said : List ℕ)
-        → PrintsSummary P opening es before.outputs after.outputs status text said → status ≡ 5 → ⊥
-    summary_not_5 P opening es held status text said (all_summed none) five = absurd (omega (arith, five))
-    summary_not_5 P opening es held status text said (part_summed n none rose) five = absurd (omega (arith, five))
+        → PrintsSummary n P opening es before.outputs after.outputs status text said → status ≡ 5 → ⊥
+    summary_not_5 P opening es held status text said (all_summed none sums) five = absurd (omega (arith, five))
+    summary_not_5 P opening es held status text said (part_summed m none sums rose) five = absurd (omega (arith, five))
     summary_not_5 P opening es held status text said (never_summed at) five = none_or_some held at
     summary_not_5 P opening es held status text said unsummed five = absurd (omega (arith, five))
 

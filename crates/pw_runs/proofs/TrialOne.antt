@@ -1,34 +1,25 @@
 -- What is generated has one summary, and it is printed unless a register failed.
-use Rattle.std.proofs.Common.{◌≡◌, ◌≤◌, ℕ, List, [], ◌∷◌, Option, Some, None, inl, inr, ◌⊎◌, refl, sym, ap, ◌∙◌}
+use Rattle.std.proofs.Common.{◌≡◌, ℕ, List, [], ◌∷◌, Option, Some, None, inl, inr, ◌⊎◌, refl, sym, ap, ◌∙◌}
 use Rattle.std.specs.Prelude.{is_some}
-use Rattle.std.specs.List.{AllByRecursion}
 use Rattle.pw_base.specs.Outside.{Rose}
 use Rattle.acpi_space.specs.Namespace.{entries_in}
 use Rattle.acpi_build.proofs.Planned.{same_plan}
 use Rattle.pw_plan.specs.declared.plan.Plan.{Plan}
 use Rattle.pw_model.specs.declared.entry.HistoryEntry.{HistoryEntry}
-use Rattle.pw_model.proofs.Joining.{fault_none}
-use Rattle.pw_plan.specs.Requests.{Has}
 use Rattle.pw_regs.specs.Seen.{RegistersSeen}
 use Rattle.pw_turns.specs.declared.close.Sealed.{Sealed}
-use Rattle.pw_script.specs.declared.script.Line.{Line as line}
 use Rattle.pw_script.specs.Reading.{requests_of}
 use Rattle.pw_drive.specs.Driven.{stopped_at}
 use Rattle.pw_drive.specs.Drives.{Runs}
-use Rattle.pw_generate.specs.declared.tables.TheConstants.{MOST_CONTAINERS}
 use Rattle.pw_generate.specs.Loads.{machine_load}
 use Rattle.pw_generate.specs.Machines.{machine_block}
-use Rattle.pw_generate.proofs.Loads.{load_has}
-use Rattle.pw_generate.proofs.Whole.{machine_plans}
-use Rattle.pw_generate.specs.Summary.{script_summary, summary_text}
-use Rattle.pw_generate.proofs.Summaries.{summary-script}
+use Rattle.pw_generate.specs.Summary.{script_summary}
 use Rattle.pw_load.specs.Seen.{Outputs}
 use Rattle.pw_load.specs.Ends.{Does}
 use Rattle.pw_load.specs.Ends.Stops.{without_memory as no_memory}
 use Rattle.pw_load.specs.Ends.Prints.{whole as all_printed, unwritten as part_printed}
 use Rattle.pw_load.specs.Ends.Does.{stopped as stops, printed as printed_so}
 use Rattle.pw_load.proofs.Completeness.{IsOne}
-use Rattle.pw_runs.proofs.Many.{asked_have}
 use Rattle.pw_runs.proofs.OnePlan.{same_plans}
 use Rattle.pw_runs.specs.Trials.{Generates, IsMachine, IsSummaryOf, PrintsSummary, trying}
 use Rattle.pw_runs.specs.Trials.Generates.{drove, opened, undone}
@@ -52,16 +43,6 @@ trying_is_one n = record {
 
 -- # It is printed
 
--- the processors of the load exist
-load_asks : (n : ℕ) (P : Plan) → n ≤ MOST_CONTAINERS → IsMachine n P → AllByRecursion (Has P) (requests_of (machine_load n).lines)
-load_asks n P small machine = asked_have P (machine_load n).lines (load_has n P (machine_plans n small P machine.notes machine.made).1)
-
--- The summary of a run in which no register failed is that of the lines.
-summed : (P : Plan) (lines : List line) (opening : Option ℕ) (es : List HistoryEntry) (old new : RegistersSeen) → AllByRecursion (Has P) (requests_of lines)
-    → Runs P lines opening es old new → stopped_at opening es ≡ None → summary_text P es ≡ script_summary P (requests_of lines)
-summed P lines (Some k) es old new has run none = absurd (cc)
-summed P lines None es old new has run none = summary-script P (requests_of lines) es has run.lawful (fault_none es none)
-
 -- a register failed, and without that there is a summary
 pub record Failed (n : ℕ) (old new : RegistersSeen) (status : ℕ) : Type 0 where
   pub five : status ≡ 5
@@ -69,12 +50,7 @@ pub record Failed (n : ℕ) (old new : RegistersSeen) (status : ℕ) : Type 0 wh
   pub text : List ℕ
   pub made : IsSummaryOf n text
 
-module _ (n : ℕ) (small : n ≤ MOST_CONTAINERS) (sealed : Option Sealed) (before after : Outputs) (old new : RegistersSeen) where
-  text_of : {P : Plan} {opening : Option ℕ} {es : List HistoryEntry} → IsMachine n P → Runs P (machine_load n).lines opening es old new
-      → stopped_at opening es ≡ None → IsSummaryOf n (summary_text P es)
-  text_of {P} {opening} {es} machine run none =
-      record { plan = P; machine = machine; says = summed P (machine_load n).lines opening es old new (load_asks n P small machine) run none }
-
+module _ (n : ℕ) (sealed : Option Sealed) (before after : Outputs) (old new : RegistersSeen) where
   failed_of : {P : Plan} {opening : Option ℕ} {es : List HistoryEntry} {k : ℕ} → IsMachine n P → Runs P (machine_load n).lines opening es old new
       → stopped_at opening es ≡ Some k → Failed n old new 5
   failed_of {P} {opening} {es} {k} machine run at = record {
@@ -85,10 +61,10 @@ module _ (n : ℕ) (small : n ≤ MOST_CONTAINERS) (sealed : Option Sealed) (bef
   }
 
   by_print : (P : Plan) (opening : Option ℕ) (es : List HistoryEntry) → IsMachine n P → Runs P (machine_load n).lines opening es old new
-      → (status : ℕ) (text said : List ℕ) → PrintsSummary P opening es before after status text said
+      → (status : ℕ) (text said : List ℕ) → PrintsSummary n P opening es before after status text said
       → Does (trying n) before after status text said ⊎ Failed n old new status
-  by_print P opening es machine run status text said (whole none) = inl (printed_so (text_of machine run none) all_printed)
-  by_print P opening es machine run status text said (unwritten m none rose) = inl (printed_so (text_of machine run none) (part_printed m rose))
+  by_print P opening es machine run status text said (whole none sums) = inl (printed_so sums all_printed)
+  by_print P opening es machine run status text said (unwritten m none sums rose) = inl (printed_so sums (part_printed m rose))
   by_print P opening es machine run status text said (failed at) = inr (failed_of machine run at)
   by_print P opening es machine run status text said without_memory = inl (stops no_memory)
 
@@ -99,6 +75,6 @@ module _ (n : ℕ) (small : n ≤ MOST_CONTAINERS) (sealed : Option Sealed) (bef
   by_way status text said (drove {P = P} {opening = opening} {es = es} machine few run prints seals) = by_print P opening es machine run status text said prints
 
 -- It stops or prints as a command does, or a register failed.
-pub does_or_failed : (n : ℕ) → n ≤ MOST_CONTAINERS → (sealed : Option Sealed) (before after : Outputs) (old new : RegistersSeen) (status : ℕ) (text said : List ℕ)
+pub does_or_failed : (n : ℕ) (sealed : Option Sealed) (before after : Outputs) (old new : RegistersSeen) (status : ℕ) (text said : List ℕ)
     → Generates n sealed before after old new status text said → Does (trying n) before after status text said ⊎ Failed n old new status
-does_or_failed n small sealed before after old new = by_way n small sealed before after old new
+does_or_failed n sealed before after old new = by_way n sealed before after old new

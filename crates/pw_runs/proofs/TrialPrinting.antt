@@ -13,13 +13,13 @@ use Rattle.pw_generate.specs.Summary.{summary_text}
 use Rattle.pw_load.specs.Seen.{outputs_seen}
 use Rattle.pw_load.specs.Ends.{Ended, print_line, print_status}
 use Rattle.pw_load.proofs.Outcomes.{part_taken}
-use Rattle.pw_runs.specs.Trials.{PrintsSummary}
-use Rattle.pw_runs.specs.Trials.PrintsSummary.{whole, unwritten, without_memory}
+use Rattle.pw_runs.specs.inner.Trying.{SumsUp}
+use Rattle.pw_runs.specs.inner.Trying.SumsUp.{whole, unwritten, without_memory}
 
 module _ {S : Type 0} (K : Sink S) (out out' err err' : S) (P : Plan) (opening : Option ℕ) (es : List HistoryEntry) where
   abbrev Printed : ℕ → Type 0
   Printed status =
-      Ended (PrintsSummary P opening es (outputs_seen K out err) (outputs_seen K out' err')) (outputs_seen K out err) (outputs_seen K out' err') status
+      Ended (SumsUp P opening es (outputs_seen K out err) (outputs_seen K out' err')) (outputs_seen K out err) (outputs_seen K out' err') status
 
   abbrev text : List ℕ
   text = summary_text P es

@@ -39,15 +39,16 @@ trying n = record { text = IsSummaryOf n; refusal = λ status line. ⊥; unread 
 
 -- # How it ends
 
--- The summary of a history was printed, whole or a beginning of it; where a register failed nothing was, and that is what the
--- status and the line say.
-pub data PrintsSummary (P : Plan) (opening : Option ℕ) (es : List HistoryEntry) (before after : Outputs) : ℕ → List ℕ → List ℕ
-    → Type 0 where
-  whole : stopped_at opening es ≡ None → PrintsSummary P opening es before after 0 (summary_text P es) []
-  unwritten : (n : ℕ) → stopped_at opening es ≡ None → Rose before.out.faults after.out.faults
-      → PrintsSummary P opening es before after 4 (take n (summary_text P es)) (codes "write fault\n")
-  failed : {k : ℕ} → stopped_at opening es ≡ Some k → PrintsSummary P opening es before after 5 [] (register_line k)
-  without_memory : PrintsSummary P opening es before after 6 [] (codes "no memory\n")
+-- The summary of a history was printed, which is that of the load, whole or a beginning of it; where a register failed nothing was, and
+-- that is what the status and the line say.
+pub data PrintsSummary (n : ℕ) (P : Plan) (opening : Option ℕ) (es : List HistoryEntry) (before after : Outputs)
+    : ℕ → List ℕ → List ℕ → Type 0 where
+  whole : stopped_at opening es ≡ None → IsSummaryOf n (summary_text P es)
+      → PrintsSummary n P opening es before after 0 (summary_text P es) []
+  unwritten : (m : ℕ) → stopped_at opening es ≡ None → IsSummaryOf n (summary_text P es) → Rose before.out.faults after.out.faults
+      → PrintsSummary n P opening es before after 4 (take m (summary_text P es)) (codes "write fault\n")
+  failed : {k : ℕ} → stopped_at opening es ≡ Some k → PrintsSummary n P opening es before after 5 [] (register_line k)
+  without_memory : PrintsSummary n P opening es before after 6 [] (codes "no memory\n")
 
 -- The load, which is no longer than a script may be, was run on the machine by workers, or memory ran out before a request was made.
 pub data Generates (n : ℕ) (sealed : Option Sealed) (before after : Outputs) (old new : RegistersSeen) : ℕ → List ℕ → List ℕ → Type 0 where
@@ -57,5 +58,5 @@ pub data Generates (n : ℕ) (sealed : Option Sealed) (before after : Outputs) (
       → Generates n sealed before after old new 6 [] (codes "no memory\n")
   drove : {status : ℕ} {written text : List ℕ} {P : Plan} {opening : Option ℕ} {es : List HistoryEntry}
       → IsMachine n P → operations P (machine_load n).lines ≤ MOST_OPERATIONS → Runs P (machine_load n).lines opening es old new
-      → PrintsSummary P opening es before after status written text → Seals P opening es status sealed
+      → PrintsSummary n P opening es before after status written text → Seals P opening es status sealed
       → Generates n sealed before after old new status written text

@@ -4,7 +4,7 @@ ghost use Rattle.pw_model.specs.History.{Faultless, Legal};
 ghost use Rattle.pw_drive.specs.Driven.{stopped_at};
 ghost use Rattle.pw_load.specs.Seen.{outputs_seen};
 ghost use Rattle.pw_load.specs.Ends.{Ended};
-ghost use Rattle.pw_runs.specs.Trials.{PrintsSummary};
+ghost use Rattle.pw_runs.specs.inner.Trying.{SumsUp};
 
 use crate::{failed_after, say_register};
 use pw_base::Sink;
@@ -31,7 +31,7 @@ pub fn print_run<K: Sink>(
     requires faultless { stopped_at opening entries.now ≡ None → Faultless entries.now }
     ensures keeps_out { KeepsSink K.told K.faults out.old out.new }
     ensures keeps_err { KeepsSink K.told K.faults err.old err.new }
-    ensures printed { Ended (PrintsSummary plan.now opening entries.now
+    ensures printed { Ended (SumsUp plan.now opening entries.now
         (outputs_seen K.Sink out.old err.old) (outputs_seen K.Sink out.new err.new))
         (outputs_seen K.Sink out.old err.old) (outputs_seen K.Sink out.new err.new) result }
 {

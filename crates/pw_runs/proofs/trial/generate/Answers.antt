@@ -28,4 +28,4 @@ returns-clause-did g c =
     let few = c.generated_loads_fit.ensures.operations c.args.n c.in-Ok.plan c.requires plan.1 in
     let ran = rw c.in-Ok.ensures.load at c.run.ensures.ran in
     ended_as (tried c.args.n c.in-Ok.plan c.run.result.sealed (outputs_seen g.K.Sink c.args.out.now c.args.err.now) (outputs_seen g.K.Sink c.run.new.out c.run.new.err)
-    (registers_seen g.R.Registers c.args.regs) (registers_seen g.R.Registers c.run.result.regs) machine few c.run.result.status) ran
+    (registers_seen g.R.Registers c.args.regs) (registers_seen g.R.Registers c.run.result.regs) c.requires machine few c.run.result.status) ran

@@ -1,7 +1,7 @@
 use Rattle.std.proofs.Common.{◌∙◌, sym}
 use Rattle.pw_load.proofs.Outcomes.{ended_saying}
 use Rattle.pw_runs.specs.Runs.{register_line}
-use Rattle.pw_runs.specs.Trials.PrintsSummary.{failed}
+use Rattle.pw_runs.specs.inner.Trying.SumsUp.{failed}
 use Rattle.pw_runs.proofs.TrialPrinting.{printed_whole}
 use Rattle.pw_runs.proofs.trial_print.print_run.Goals as goal
 
