@@ -71,7 +71,7 @@ terms_counted width depth (t ∷ ts) w inside scope before =
     All-append IsCountableStep (steps_of width t scope before) _ (layer_counted width depth t (out-Term t) refl w.0 inside scope before)
     (terms_counted width depth ts w.1 inside scope (before ++ steps_of width t scope before))
 
-inside_counted : (width : Width) (depth : ℕ) → Inside width depth
+pub inside_counted : (width : Width) (depth : ℕ) → Inside width depth
 unfolding AreWritable
 inside_counted width zero terms w scope before = absurd w
 inside_counted width (suc depth) terms w scope before = terms_counted width depth terms w (inside_counted width depth) scope before

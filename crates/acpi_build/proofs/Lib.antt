@@ -12,8 +12,8 @@ mod Labelled
 mod Rows
 mod Yielding
 mod Ranks
-mod OneTable
+pub mod OneTable
 mod Tabled
 mod Sourced
 mod Causes
-mod Countability
+pub mod Countability

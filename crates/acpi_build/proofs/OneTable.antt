@@ -15,6 +15,7 @@ use Rattle.acpi_space.proofs.Trees.{same_some}
 use Rattle.acpi_build.specs.Meaning.{StandsAt}
 use Rattle.acpi_build.specs.Sources.{AreStates, are_absent, are_given, are_none, GivenAt, IsTable, is_absent, is_given}
 use Rattle.acpi_build.proofs.Parents.{none_some}
+use Rattle.pw_base.proofs.Facts.{same_ok}
 
 -- what stands at a place has the number that is found there
 pub stands : (entries : List Entry) (place : Place) (o : Thing) → IsDistinct (places_of entries) → StandsAt entries place o
@@ -30,18 +31,15 @@ given_there entries place d width distinct (j, x, l, is, (path, object, sized)) 
     let same : entry_in entries j ≡ x = get_or_default entries j no_entry x l ∙ is in
     (j, numbered entries j place distinct l (ap (λ (e : Entry). e.path) same ∙ path), ap (λ (e : Entry). e.object) same ∙ object, ap (λ (e : Entry). e.width) same ∙ sized)
 
-same_data : {d e : Data} → data_object d ≡ data_object e → d ≡ e
+pub same_data : {d e : Data} → data_object d ≡ data_object e → d ≡ e
 same_data is = cc
 
-one_data : (entries : List Entry) (place : Place) (d e : Data) (w v : Width) → IsDistinct (places_of entries) → GivenAt entries place d w → GivenAt entries place e v → (d ≡ e) × (w ≡ v)
+pub one_data : (entries : List Entry) (place : Place) (d e : Data) (w v : Width) → IsDistinct (places_of entries) → GivenAt entries place d w → GivenAt entries place e v → (d ≡ e) × (w ≡ v)
 one_data entries place d e w v distinct first second =
     let (i, here, object, width) = given_there entries place d w distinct first in
     let (j, there, other, wide) = given_there entries place e v distinct second in
     let one : i ≡ j = same_some (sym here ∙ there) in
     (same_data (sym object ∙ ap (λ n. (entry_in entries n).object) one ∙ other), sym width ∙ ap (λ n. (entry_in entries n).width) one ∙ wide)
-
-same_ok : {A E : Type 0} {x y : A} (r : Result A E) → r ≡ Ok x → r ≡ Ok y → x ≡ y
-same_ok r first second = cc
 
 -- where what an object means is what is read of it, it means one table
 pub one_table : {A : Type 0} (Means : Width → Data → A → Type 0) (reads : Width → Data → Read A) (entries : List Entry) (place : Place) (o p : Option A) → IsDistinct (places_of entries)

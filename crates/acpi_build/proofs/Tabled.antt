@@ -43,16 +43,13 @@ use Rattle.acpi_build.proofs.OneTable.{given_there, one_table, stands}
 use Rattle.acpi_build.proofs.Parents.{none_some, number_told}
 use Rattle.acpi_build.proofs.Ranks.{first_there, In, Makes, makes_done, makes_then, makes_up_to, second_there, slot, third_free}
 use Rattle.acpi_build.proofs.Yielding.{yields_done, yields_noted, yields_refused}
+use Rattle.pw_base.proofs.Facts.{empty}
 
 -- # What stands at a place
 
 abbrev Looked : List Entry → Place → Option Given → Type 0
 Looked entries place None = (d : Data) (width : Width) → GivenAt entries place d width → ⊥
 Looked entries place (Some given) = GivenAt entries place given.object given.width
-
-no_elements : {X : Type 0} (xs : List X) → length xs ≡ 0 → xs ≡ []
-no_elements [] e = refl
-no_elements (x ∷ xs) e = absurd (let impossible = e in omega arith)
 
 module _ (entries : List Entry) (plan : Plan) (distinct : IsDistinct (places_of entries)) where
   -- no data object stands where another object does
@@ -217,7 +214,7 @@ module _ (entries : List Entry) (plan : Plan) (distinct : IsDistinct (places_of 
   pub cst_yields : (k : ℕ) → IsReadOf entries k names.Cst → Makes entries plan k 3 5 (AreCst entries k) (cst_at entries k)
   unfolding cst_at
   cst_yields k read = states_yields k 3 CstMeans cst_of length names.Cst read refl cst_means cst_read
-      (λ x t e. subst (λ xs. IsTable CstMeans entries (place_below entries k names.Cst) (Some xs)) (no_elements x e) t) (λ has. ([], has, refl))
+      (λ x t e. subst (λ xs. IsTable CstMeans entries (place_below entries k names.Cst) (Some xs)) (empty x e) t) (λ has. ([], has, refl))
 
   pub csd_yields : (k : ℕ) → IsReadOf entries k names.Csd → Makes entries plan k 6 8 (IsCsd entries k) (csd_at entries k)
   unfolding csd_at
@@ -227,13 +224,13 @@ module _ (entries : List Entry) (plan : Plan) (distinct : IsDistinct (places_of 
   unfolding pss_at
   pss_yields k read = whole_yields k 9 (AreStates PssMeans length entries (place_below entries k names.Pss)) names.Pss (pss_at entries k) refl (inr (omega arith))
       (states_yields k 9 PssMeans pss_of length names.Pss read refl pss_means pss_read
-      (λ x t e. subst (λ xs. IsTable PssMeans entries (place_below entries k names.Pss) (Some xs)) (no_elements x e) t) (λ has. ([], has, refl)))
+      (λ x t e. subst (λ xs. IsTable PssMeans entries (place_below entries k names.Pss) (Some xs)) (empty x e) t) (λ has. ([], has, refl)))
 
   pub tss_yields : (k : ℕ) → IsReadOf entries k names.Tss → Makes entries plan k 21 24 (AreStates TssMeans length entries (place_below entries k names.Tss)) (tss_at entries k)
   unfolding tss_at
   tss_yields k read = whole_yields k 21 (AreStates TssMeans length entries (place_below entries k names.Tss)) names.Tss (tss_at entries k) refl (inr (omega arith))
       (states_yields k 21 TssMeans tss_of length names.Tss read refl tss_means tss_read
-      (λ x t e. subst (λ xs. IsTable TssMeans entries (place_below entries k names.Tss) (Some xs)) (no_elements x e) t) (λ has. ([], has, refl)))
+      (λ x t e. subst (λ xs. IsTable TssMeans entries (place_below entries k names.Tss) (Some xs)) (empty x e) t) (λ has. ([], has, refl)))
 
   -- # Other tables
 

@@ -17,11 +17,12 @@ use Rattle.acpi_fields.proofs.Writable.{IsBounded, all_mapped, bounded_32, bound
 use Rattle.acpi_fields.proofs.Writable.{bounded_small, bounded_text, bounded_width, bounded_writable, wider}
 use Rattle.acpi_idle.specs.Written.{IsCDependency, IsCState, IsEntryMethod, IsLpi, IsLpiState, IsName, csd_object, csd_row_object, cst_object}
 use Rattle.acpi_idle.specs.Written.{cst_row_object, entry_object, lpi_object, lpi_row_object}
+use Rattle.pw_base.proofs.Facts.{both}
 
 -- # C states
 
 -- a number, in a row whose elements have at most 33 bytes
-wide_32 : (n : ℕ) → n < 2 ^ 32 → IsBounded 0 33 (Int n)
+pub wide_32 : (n : ℕ) → n < 2 ^ 32 → IsBounded 0 33 (Int n)
 wide_32 n lt = wider 0 9 33 (Int n) (omega arith) (bounded_32 n lt)
 
 cst_row_bounded : (s : CState) → IsCState s → IsBounded 1 138 (cst_row_object s)
@@ -109,10 +110,6 @@ lpi_row_bounded width s h =
         ),
       ),
     )
-
-both : {A : Type 0} (P Q : A → Type 0) (xs : List A) → AllByRecursion P xs → AllByRecursion Q xs → AllByRecursion (λ x. P x × Q x) xs
-both P Q [] p q = tt
-both P Q (x ∷ xs) p q = ((p.0, q.0), both P Q xs p.1 q.1)
 
 pub lpi_writable : (width : Width) (lpi : Lpi) → length lpi.states ≤ 250 → IsLpi width lpi → AllByRecursion (λ s. IsName s.name) lpi.states → IsWritable (lpi_object lpi)
 lpi_writable width lpi few r names =

@@ -12,7 +12,7 @@ use Rattle.acpi_fields.specs.Writing.{package_object, register_object}
 use Rattle.acpi_fields.proofs.Writable.{IsBounded, bounded_32, bounded_coord, bounded_package, bounded_register, bounded_rows, bounded_small, bounded_writable}
 use Rattle.acpi_perf.specs.Written.{IsDependency, IsPState, IsTState, control_object, domain_object, pss_object, pss_row_object, tss_object, tss_row_object}
 
-pss_row_bounded : (s : PState) → IsPState s → IsBounded 1 60 (pss_row_object s)
+pub pss_row_bounded : (s : PState) → IsPState s → IsBounded 1 60 (pss_row_object s)
 pss_row_bounded s r =
     bounded_package 0 9 6 (Int s.frequency ∷ Int s.power ∷ Int s.latency ∷ Int s.bus_latency ∷ Int s.control ∷ Int s.status ∷ []) (omega arith) (omega arith) (
       bounded_32 s.frequency r.frequency,

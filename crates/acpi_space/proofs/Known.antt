@@ -27,7 +27,8 @@ use Rattle.acpi_space.specs.inner.Trees.{IsAt, IsBeginning, IsClosed, IsGrown, I
 use Rattle.acpi_space.specs.Standing.{AreObjects, IsFaultOf, IsFound, entry_from}
 use Rattle.acpi_space.specs.inner.Standing.{entry_in, entries_at, told_at, IsIndex, IsNoted, Stands}
 use Rattle.acpi_space.proofs.Seen.{IsDistinct-push}
-use Rattle.acpi_space.proofs.Trees.{shorter_there, same_index, choice, some_none, same_some}
+use Rattle.acpi_space.proofs.Trees.{shorter_there, same_index, some_none, same_some}
+use Rattle.pw_base.proofs.Facts.{choice}
 
 -- ---- beginnings
 

@@ -24,7 +24,7 @@ use Rattle.acpi_space.proofs.Known.{distinct_places, free_place, no_object, path
 pub place_decides : (p q : Place) → Decides (is_place p q) (p ≡ q)
 place_decides p q = slice_eq-Decides seg_decides p q (is_place p q) refl
 
-not_place : (p q : Place) → p ≢ q → is_place p q ≡ false
+pub not_place : (p q : Place) → p ≢ q → is_place p q ≡ false
 not_place p q apart = by (is_place p q) (λ e. apart ((place_decides p q).0 e))
   where
     by : (b : Bool) → b ≢ true → b ≡ false

@@ -21,6 +21,7 @@ use Rattle.acpi_space.specs.Things.Thing.{method}
 use Rattle.acpi_space.specs.Places.{Place, up}
 use Rattle.acpi_space.specs.Steps.{gives, method_steps}
 use Rattle.acpi_space.specs.inner.Naming.{named_by, path_of, with_a_segment}
+use Rattle.aml_data.proofs.WrittenLengths.{length-joined_segments}
 
 -- the bytes don't begin with this one
 abbrev pub NotStart : ℕ → List ℕ → Type 0
@@ -31,20 +32,11 @@ heads e = (cc, cc)
 
 -- ---- segments
 
-joined_size : (ss : List (List ℕ)) → AllByRecursion IsSegment ss → length (joined ss) ≡ 4 * length ss
-joined_size [] all = refl
-joined_size ((a ∷ b ∷ c ∷ d ∷ []) ∷ ss) all = let rest = joined_size ss all.1 in omega (arith, rest)
-joined_size ([] ∷ ss) all = absurd all.0
-joined_size ((a ∷ []) ∷ ss) all = absurd all.0
-joined_size ((a ∷ b ∷ []) ∷ ss) all = absurd all.0
-joined_size ((a ∷ b ∷ c ∷ []) ∷ ss) all = absurd all.0
-joined_size ((a ∷ b ∷ c ∷ d ∷ e ∷ s) ∷ ss) all = absurd all.0
-
 segments_size : (ss : List (List ℕ)) (s : List ℕ) → Segments ss s → length s ≤ 1022
 segments_size ss s spells_no_segment = omega arith
-segments_size ss s (spells_one_segment ts count all) = let size = joined_size ts all in omega (arith, size, count)
-segments_size ss s (spells_two_segments ts count all) = let size = joined_size ts all in omega (arith, size, count)
-segments_size ss s (spells_many_segments ts some few all) = let size = joined_size ts all in omega (arith, size, few)
+segments_size ss s (spells_one_segment ts count all) = let size = length-joined_segments ts all in omega (arith, size, count)
+segments_size ss s (spells_two_segments ts count all) = let size = length-joined_segments ts all in omega (arith, size, count)
+segments_size ss s (spells_many_segments ts some few all) = let size = length-joined_segments ts all in omega (arith, size, few)
 
 first_letter : (a : ℕ) (s : List ℕ) → IsSegment (a ∷ s) → is_letter a ≡ true
 first_letter a (b ∷ c ∷ d ∷ []) is = is.0

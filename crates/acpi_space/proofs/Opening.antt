@@ -6,8 +6,8 @@ use Rattle.std.proofs.lemmas.Bool.Decides.{eqb_tells}
 use Rattle.std.proofs.lemmas.List.{take-append-drop, take_at, take_all}
 use Rattle.aml_data.specs.declared.path.Path.{Path}
 use Rattle.acpi_space.specs.Places.{Place, place_of, up, is_known, is_single, opened, IsKnown, Opens, opens_there, opens_nearest, opens_new}
-use Rattle.acpi_space.proofs.Trees.{choice}
 use Rattle.acpi_space.proofs.Known.{begins_from, begins_to, or_true, true_or, begin, found_there, found_nowhere}
+use Rattle.pw_base.proofs.Facts.{choice}
 
 -- ---- known places
 

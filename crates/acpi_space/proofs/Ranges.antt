@@ -13,7 +13,8 @@ use Rattle.std.proofs.lemmas.Bool.{false≢true}
 use Rattle.acpi_space.specs.declared.tree.Name.{Name}
 use Rattle.acpi_space.specs.Places.{Place}
 use Rattle.acpi_space.specs.inner.Trees.{Key, key, key_cmp, below, places_in, IsTree, IsAt, IsLast, HasNoneFrom}
-use Rattle.acpi_space.proofs.Trees.{child_told, child_there, subst2, told_child}
+use Rattle.acpi_space.proofs.Trees.{child_told, child_there, told_child}
+use Rattle.pw_base.proofs.Facts.{subst2}
 
 -- two orders that are each other's reverse, and neither is above
 both_equal : (o p low high : Ordering) → o ≡ ordering_reverse p → is_gt (ordering_then o low) ≡ false → is_gt (ordering_then p high) ≡ false → (o ≡ Equal) × (is_gt high ≡ false)

@@ -8,7 +8,8 @@ use Rattle.std.proofs.lemmas.List.{length_push, get_or_default, take_all, take-t
 use Rattle.acpi_space.specs.declared.tree.Name.{Name}
 use Rattle.acpi_space.specs.Places.{Place}
 use Rattle.acpi_space.specs.inner.Trees.{Key, below, places_in, IsTree, IsAt, back_of, no_name, IsBeginning, IsClosed, IsNearest, IsNowhere, IsOrdered, IsRisen, IsLast, HasNoneFrom}
-use Rattle.acpi_space.proofs.Trees.{subst2, take_none, length_in, root_at, named, same_index, root_or_below}
+use Rattle.acpi_space.proofs.Trees.{take_none, length_in, root_at, named, same_index, root_or_below}
+use Rattle.pw_base.proofs.Facts.{subst2}
 
 -- ---- what stands above a place
 

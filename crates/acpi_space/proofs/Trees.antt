@@ -15,9 +15,7 @@ use Rattle.acpi_space.specs.Distinct.{IsDistinct}
 use Rattle.acpi_space.specs.Places.{Place, up}
 use Rattle.acpi_space.specs.inner.Trees.{Key, key, key_cmp, key_of, below, places_from, places_in, IsTree, IsAt, back_of, no_name, IsBeginning, IsClosed, IsNext, IsSame, Reaches}
 use Rattle.acpi_space.proofs.Seen.{IsDistinct-push}
-
-pub subst2 : {A B : Type 0} (P : A → B → Type 0) {a a' : A} {b b' : B} → a ≡ a' → b ≡ b' → P a b → P a' b'
-subst2 P {a} {a'} {b} {b'} e f p = subst (λ x. P x b') e (subst (P a) f p)
+use Rattle.pw_base.proofs.Facts.{choice}
 
 pub ap2 : {A B C : Type 0} (f : A → B → C) {a a' : A} {b b' : B} → a ≡ a' → b ≡ b' → f a b ≡ f a' b'
 ap2 f {a} {a'} {b} {b'} e g = ap (λ x. f x b) e ∙ ap (f a') g
@@ -108,10 +106,6 @@ pub equal_keys : (a b : Key) → is_at (key_cmp a) b ≡ true → a ≡ b
 equal_keys a b e =
     let both = then_equal _ _ (is_equal _ e) in
     sym (ap2 key (slice_cmp-IsAntisymmetric nat_cmp-IsAntisymmetric b.0.0 a.0.0 both.0) (nat_cmp-IsAntisymmetric b.0.1 a.0.1 both.1))
-
-pub choice : (b : Bool) → (b ≡ true) ⊎ (b ≡ false)
-choice true = inl refl
-choice false = inr refl
 
 pub some_none : {X : Type 0} {o : Option X} {x : X} → o ≡ Some x → o ≡ None → ⊥
 some_none e f = absurd (let g = sym e ∙ f in cc)

@@ -13,18 +13,10 @@ use Rattle.aml_block.specs.declared.header.TheConstants.{LARGEST, HEADER_SIZE}
 use Rattle.aml_block.specs.Header.{signature_text, field, number_field, IsHeader, HasSize, HasSignature, HasLength, HasSum}
 use Rattle.aml_block.specs.Faults.{HeaderFails}
 use Rattle.aml_block.specs.inner.Reading.{signature_at, fields_at, signed_at, header_at}
-
--- a property of a choice, by the two ways that its test goes
-by_test : {A : Type 0} (P : A → Type 0) (b : Bool) (x y : A) → (b ≡ true → P x) → (b ≡ false → P y) → P (cond b x y)
-by_test P true x y p q = p refl
-by_test P false x y p q = q refl
+use Rattle.pw_base.proofs.Facts.{is_false, by_test}
 
 differs : (text other : List ℕ) → bytes_eq text other ≡ false → text ≢ other
 differs text other e p = let q = (bytes_eq-Decides text other).1 p in cc
-
-differ_test : (b : Bool) → (b ≡ true → ⊥) → b ≡ false
-differ_test true n = absurd (n refl)
-differ_test false n = refl
 
 abbrev SignatureTold : List ℕ → Result Signature HeaderFault → Type 0
 SignatureTold text (Ok s) = text ≡ signature_text s
@@ -45,8 +37,8 @@ signature_again Ssdt = refl
 signature_refused : (text : List ℕ) → (text ≢ signature_text Dsdt) → (text ≢ signature_text Ssdt) → signature_at text ≡ Err no_signature
 unfolding signature_at
 signature_refused text d s =
-    let e1 : bytes_eq text (signature_text Dsdt) ≡ false = differ_test _ (λ t. d ((bytes_eq-Decides text (signature_text Dsdt)).0 t)) in
-    let e2 : bytes_eq text (signature_text Ssdt) ≡ false = differ_test _ (λ t. s ((bytes_eq-Decides text (signature_text Ssdt)).0 t)) in
+    let e1 : bytes_eq text (signature_text Dsdt) ≡ false = is_false _ (λ t. d ((bytes_eq-Decides text (signature_text Dsdt)).0 t)) in
+    let e2 : bytes_eq text (signature_text Ssdt) ≡ false = is_false _ (λ t. s ((bytes_eq-Decides text (signature_text Ssdt)).0 t)) in
     rw (e1, e2) refl
 
 has_signature : (bytes : List ℕ) (s : Signature) → field 0 4 bytes ≡ signature_text s → HasSignature bytes
@@ -107,13 +99,13 @@ header_again h bytes size i long sums =
 
 wrong_length : (bytes : List ℕ) (s : Signature) → (HasLength bytes → ⊥) → signed_at bytes (Ok s) ≡ Err Length
 wrong_length bytes s n =
-    let e1 : eqb (number_field 4 bytes) (length bytes) ≡ false = differ_test _ (λ t. n (eqb-true _ _ t)) in
+    let e1 : eqb (number_field 4 bytes) (length bytes) ≡ false = is_false _ (λ t. n (eqb-true _ _ t)) in
     rw e1 refl
 
 wrong_sum : (bytes : List ℕ) (s : Signature) → HasLength bytes → (HasSum bytes → ⊥) → signed_at bytes (Ok s) ≡ Err Sum
 wrong_sum bytes s long n =
     let e1 : eqb (number_field 4 bytes) (length bytes) ≡ true = eq-eqb _ _ long in
-    let e2 : eqb (sum bytes % 256) 0 ≡ false = differ_test _ (λ t. n (eqb-true _ _ t)) in
+    let e2 : eqb (sum bytes % 256) 0 ≡ false = is_false _ (λ t. n (eqb-true _ _ t)) in
     rw (e1, e2) refl
 
 pub header_refused : (bytes : List ℕ) (why : HeaderFault) → HeaderFails bytes why → header_at bytes ≡ Err why

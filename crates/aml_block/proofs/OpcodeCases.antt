@@ -2,12 +2,12 @@
 use Rattle.std.proofs.Common.{◌≡◌, ◌<◌, ◌+◌, ◌-◌, ℕ, Bool, true, false, eqb, ltb, ◌||◌, List, [], ◌∷◌, ◌++◌, Ok, refl, ap, sym, subst, ◌∙◌, arith, inl, inr}
 use Rattle.std.proofs.lemmas.Bool.{eqb-true}
 use Rattle.std.proofs.lemmas.Bool.Decides.{nat_tests}
-use Rattle.aml_data.proofs.Steps.{known}
 use Rattle.aml_data.specs.declared.opcode.TheConstants.{EXT_OP_PREFIX}
 use Rattle.aml_block.specs.declared.opcode.TheConstants.{EXTENDED, ALIAS_OP, NAME_OP, SCOPE_OP, METHOD_OP, EXTERNAL_OP, IF_OP, ELSE_OP, WHILE_OP, MUTEX_OP, EVENT_OP}
 use Rattle.aml_block.specs.declared.opcode.TheConstants.{OP_REGION_OP, FIELD_OP, DEVICE_OP, PROCESSOR_OP, POWER_RES_OP, THERMAL_ZONE_OP, INDEX_FIELD_OP, BANK_FIELD_OP}
 use Rattle.aml_block.specs.Opcodes.{opcode_bytes, is_plain, is_holder, is_unread, is_term}
 use Rattle.aml_block.specs.inner.ReadingParts.{opcode_at}
+use Rattle.pw_base.proofs.Facts.{choice}
 
 pub data OpcodeCase : ℕ → Type 0 where
   begins_name_term : OpcodeCase NAME_OP
@@ -23,7 +23,7 @@ pub data OpcodeCase : ℕ → Type 0 where
 -- an opcode is this number, or it isn't
 pub or_else : (P : ℕ → Type 0) (opcode k : ℕ) → P k → (eqb opcode k ≡ false → P opcode) → P opcode
 or_else P opcode k here other =
-    elim (known (eqb opcode k)) [
+    elim (choice (eqb opcode k)) [
       | inl h ↦ subst P (sym (eqb-true opcode k h)) here
       | inr h ↦ other h
     ]
@@ -36,10 +36,10 @@ opcode_case opcode =
     or_else OpcodeCase opcode MUTEX_OP begins_mutex (λ d.
     or_else OpcodeCase opcode EVENT_OP begins_event (λ e.
     or_else OpcodeCase opcode OP_REGION_OP begins_region (λ f.
-    elim (known (is_holder opcode)) [
+    elim (choice (is_holder opcode)) [
       | inl g ↦ begins_holder g
       | inr g ↦
-          elim (known (is_unread opcode)) [
+          elim (choice (is_unread opcode)) [
             | inl u ↦ begins_unread u
             | inr u ↦ begins_nothing (rw (a, b, c, d, e, f, g, u) refl)
           ]
@@ -71,7 +71,7 @@ holder_cases P p1 p2 p3 opcode is =
 -- an opcode that fails a test is none that passes it
 pub test_ne : (test : ℕ → Bool) (opcode k : ℕ) → test opcode ≡ false → test k ≡ true → eqb opcode k ≡ false
 test_ne test opcode k fails passes =
-    elim (known (eqb opcode k)) [
+    elim (choice (eqb opcode k)) [
       | inl h ↦ absurd (let impossible : false ≡ true = sym fails ∙ ap test (eqb-true opcode k h) ∙ passes in cc)
       | inr h ↦ h
     ]

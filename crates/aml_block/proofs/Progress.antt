@@ -18,6 +18,7 @@ use Rattle.aml_block.specs.declared.blocks_fault.BlocksFault.TheVariants.{Large}
 use Rattle.aml_block.specs.BlocksCauses.{numbered}
 use Rattle.aml_block.specs.Held.{IsBlock, HasFault, AreBlocks, no_block, one_block, IsFirstFault, in_this, too_large, behind_this}
 use Rattle.aml_block.specs.Held.{HoldBlocks, FailFirst, HoldBefore, IsCauseOf, name_at, names_of, RoseIfUnread}
+use Rattle.pw_base.proofs.Facts.{subst2}
 
 -- These blocks were read, of so many bytes, and these names are left: what stands under these stands behind those.
 pub record SoFar (holds : List ℕ → Option (List ℕ)) (Told : Type 0) (names rest : List (List ℕ)) (done : List Block) (total : ℕ) : Type 0 where
@@ -28,9 +29,6 @@ pub record SoFar (holds : List ℕ → Option (List ℕ)) (Told : Type 0) (names
   pub writable : All IsWritableBlock done
   pub found : Told → (others : List (List ℕ)) (more : List Block) → AreBlocks holds total others more → HoldBlocks holds (front ++ others) (done ++ more)
   pub fault : Told → (f : BlocksFault) → IsFirstFault holds (length done + 1) total rest f → FailFirst holds names f
-
-subst2 : {A B : Type 0} (P : A → B → Type 0) {a a' : A} {b b' : B} → a ≡ a' → b ≡ b' → P a b → P a' b'
-subst2 P {a} {a'} {b} {b'} e f p = subst (λ x. P x b') e (subst (P a) f p)
 
 -- what holds of an element holds of each of a list of it alone
 only : (block : Block) (k : ℕ) (d : Block) → IsWritableBlock block → k < 1 → IsWritableBlock (get_or (block ∷ []) k d)

@@ -7,7 +7,7 @@ use Rattle.aml_data.specs.declared.fault.DataFault.TheVariants.{Short, TooDeep}
 use Rattle.aml_data.specs.Grammar.{Len}
 use Rattle.aml_data.specs.Faults.{LenFails}
 use Rattle.aml_data.specs.inner.Reading.{window_at}
-use Rattle.aml_data.proofs.Steps.{known, IsBytes, IsBytes-rest, Takes}
+use Rattle.aml_data.proofs.Steps.{IsBytes, IsBytes-rest, Takes}
 use Rattle.aml_data.proofs.LengthSpellings.{window_takes, window_again, window_fails, window_refused}
 use Rattle.aml_block.specs.declared.term.Term.{Term}
 use Rattle.aml_block.specs.declared.term.Term.TheVariants.{Name, Unread, Alias, External, Mutex, Event, Region}
@@ -32,6 +32,7 @@ use Rattle.aml_block.proofs.OpcodeCases.{begins_unread, begins_nothing}
 use Rattle.aml_block.proofs.OpcodeCases.{opcode_case, unread_cases, holder_cases, test_ne, not_holder, not_unread, one_byte_opcode, two_byte_opcode, unread_opcode}
 use Rattle.aml_block.proofs.TermParts.{Takes-met, plain_takes, plain_again, plain_fails, plain_refused, TermLaws}
 use Rattle.aml_block.proofs.Holders.{Inner, any_takes, any_again, any_fails, deep_refused, length_refused, head_refused, terms_refused}
+use Rattle.pw_base.proofs.Facts.{choice}
 
 -- ---- which reading an opcode asks for
 
@@ -139,7 +140,7 @@ by_takes : (depth : ℕ) (inner : Option (ℕ → List ℕ → Read Term)) → I
     → Takes (TermSpellsWithin depth) bytes x
 by_takes depth inner i end [] x fits e = absurd (let impossible = sym (none_by inner end) ∙ e in cc)
 by_takes depth inner i end (lead ∷ rest) x fits e =
-    elim (known (eqb lead EXT_OP_PREFIX)) [
+    elim (choice (eqb lead EXT_OP_PREFIX)) [
       | inl h ↦
           let is = eqb-true lead EXT_OP_PREFIX h in
           subst (λ (n : ℕ). Takes (TermSpellsWithin depth) (n ∷ rest) x) (sym is)
@@ -252,7 +253,7 @@ by_fails : (depth : ℕ) (inner : Option (ℕ → List ℕ → Read Term)) → I
     → TermFailsWithin depth end bytes fault
 by_fails depth inner i end [] fault fits e = subst (λ (f : TermFault). TermFailsWithin depth end [] f) (err_is {A = Term × List ℕ} _ fault (sym (none_by inner end) ∙ e)) fails_no_term
 by_fails depth inner i end (lead ∷ rest) fault fits e =
-    elim (known (eqb lead EXT_OP_PREFIX)) [
+    elim (choice (eqb lead EXT_OP_PREFIX)) [
       | inl h ↦
           let is = eqb-true lead EXT_OP_PREFIX h in
           subst (λ (n : ℕ). TermFailsWithin depth end (n ∷ rest) fault) (sym is)

@@ -2,7 +2,6 @@
 use Rattle.std.proofs.Common.{◌≡◌, ◌<◌, ◌≤◌, ◌-◌, ◌^◌, ℕ, zero, suc, List, [], ◌∷◌, ◌++◌, length, sym, ap, subst, ◌∙◌, inl, inr, ltb, arith, length-append, ◌+◌, drop}
 use Rattle.std.specs.List.{AllByRecursion}
 use Rattle.std.proofs.lemmas.List.{append-nil, drop_at}
-use Rattle.aml_data.proofs.Steps.{known}
 use Rattle.aml_data.proofs.WrittenLengths.{content_fits}
 use Rattle.aml_data.specs.declared.data.Data.{Data}
 use Rattle.aml_data.specs.declared.path.Path.{Path}
@@ -15,6 +14,7 @@ use Rattle.aml_block.specs.declared.opcode.TheConstants.{ALIAS_OP, NAME_OP, SCOP
 use Rattle.aml_block.specs.Opcodes.{opcode_bytes}
 use Rattle.aml_block.specs.Layouts.{HasSegment}
 use Rattle.aml_block.specs.WrittenTerms.{written_layer, written_registers, written_term, written_terms, AreWritable, IsWritableTerm}
+use Rattle.pw_base.proofs.Facts.{choice}
 
 -- ---- the written form
 
@@ -101,7 +101,7 @@ processor_parts depth path id block len terms t e w = rw (e, outs-Processor path
 
 some_opcode : (opcode : ℕ) → 0 < length (opcode_bytes opcode)
 some_opcode opcode =
-    elim (known (ltb opcode 0x100)) [
+    elim (choice (ltb opcode 0x100)) [
       | inl h ↦ rw h (omega arith)
       | inr h ↦ rw h (omega arith)
     ]

@@ -5,8 +5,8 @@ use Rattle.std.proofs.lemmas.Bool.{eqb-true, eqb-false}
 use Rattle.aml_data.specs.declared.path.Path.{Path}
 use Rattle.aml_data.specs.Segment.{is_letter, IsSegment, joined, begins_name}
 use Rattle.aml_data.specs.Grammar.{Prefix, spells_root, spells_ups, Segments, spells_no_segment, spells_one_segment, spells_two_segments, spells_many_segments, NameOf, spells_name, HasPart}
-use Rattle.aml_data.proofs.Steps.{known}
 use Rattle.aml_data.proofs.Names.{first_letter}
+use Rattle.pw_base.proofs.Facts.{choice}
 
 -- ---- the lead byte of an object
 
@@ -43,7 +43,7 @@ other_by lead ones revision string buffer pack var_pack name = record {
 }
 
 pub same_or_not : (lead k : ℕ) → (k ≡ lead) ⊎ (lead ≢ k)
-same_or_not lead k = elim (known (eqb lead k)) [ inl h ↦ inl (sym (eqb-true lead k h)) | inr h ↦ inr (eqb-false lead k h) ]
+same_or_not lead k = elim (choice (eqb lead k)) [ inl h ↦ inl (sym (eqb-true lead k h)) | inr h ↦ inr (eqb-false lead k h) ]
 
 pub lead_case : (lead : ℕ) → LeadCase lead
 lead_case lead =
@@ -65,7 +65,7 @@ lead_case lead =
                                   elim (same_or_not lead 19) [
                                     | inl e ↦ subst LeadCase e leads_var_package
                                     | inr var_pack ↦
-                                        elim (known (begins_name lead)) [
+                                        elim (choice (begins_name lead)) [
                                           | inl name ↦ leads_name name
                                           | inr name ↦
                                               leads_constant (record { ones = ones; revision = revision; string = string; buffer = buffer; pack = pack; var_pack = var_pack; name = name })

@@ -8,7 +8,8 @@ use Rattle.aml_data.specs.declared.fault.DataFault.TheVariants.{Short, BadLength
 use Rattle.aml_data.specs.Grammar.{Len, spells_one_byte_length, spells_two_byte_length, spells_three_byte_length, spells_four_byte_length}
 use Rattle.aml_data.specs.inner.Reading.{length_value, left_at, length_at, window_at}
 use Rattle.aml_data.specs.Faults.{LenFails, fails_no_length, fails_reserved_bit, fails_few_following, fails_wrong_length}
-use Rattle.aml_data.proofs.Steps.{failed, bind_ok, bind_err, chosen, known, ok_is, err_is, IsBytes, IsBytes-drop, IsBytes-take, IsBytes-rest}
+use Rattle.aml_data.proofs.Steps.{failed, bind_ok, bind_err, chosen, ok_is, err_is, IsBytes, IsBytes-drop, IsBytes-take, IsBytes-rest}
+use Rattle.pw_base.proofs.Facts.{choice}
 
 -- ---- the two bits and the four of a lead byte
 
@@ -41,7 +42,7 @@ reserved_cases lead =
     elim (cases_lt lead 64) [
       | inl lt ↦ let none : HasNoReserved lead = λ le. absurd (omega arith) in inr (reserved_false lead none, none)
       | inr le ↦
-          elim (known (eqb (lead / 16 % 4) 0)) [
+          elim (choice (eqb (lead / 16 % 4) 0)) [
             | inl e ↦ let none : HasNoReserved lead = λ _. eqb-true _ _ e in inr (reserved_false lead none, none)
             | inr e ↦ let set = eqb-false _ _ e in inl (reserved_true lead le set, le, set)
           ]

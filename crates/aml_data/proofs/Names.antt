@@ -8,7 +8,8 @@ use Rattle.aml_data.specs.Segment.{is_letter, is_word, IsSegment, joined}
 use Rattle.aml_data.specs.Grammar.{Prefix, spells_root, spells_ups, Segments, spells_no_segment, spells_one_segment, spells_two_segments, spells_many_segments, NameOf, spells_name}
 use Rattle.aml_data.specs.inner.Reading.{◌>>=◌, letter_at, segment_at, several_at, many_at, segments_at, ups_at, prefix_at, name_at}
 use Rattle.aml_data.specs.Faults.{EndsPrefix, ends_root, ends_bytes, ends_ups}
-use Rattle.aml_data.proofs.Steps.{done, bind_ok, chosen, known, ok_is, IsBytes, IsBytes-rest, IsBytes-after, Takes}
+use Rattle.aml_data.proofs.Steps.{done, bind_ok, chosen, ok_is, IsBytes, IsBytes-rest, IsBytes-after, Takes}
+use Rattle.pw_base.proofs.Facts.{choice}
 
 -- ---- one segment
 
@@ -193,7 +194,7 @@ ups_none b bytes h = rw h refl
 ups_parts : (bytes : List ℕ) → bytes ≡ replicate (ups_at bytes).0 94 ++ (ups_at bytes).1
 ups_parts [] = refl
 ups_parts (b ∷ bytes) =
-    elim (known (eqb b 94)) [
+    elim (choice (eqb b 94)) [
       | inl h ↦
           let same : b ≡ 94 = eqb-true b 94 h in
           let whole : b ∷ bytes ≡ 94 ∷ (replicate (ups_at bytes).0 94 ++ (ups_at bytes).1) = ap (λ (c : ℕ). c ∷ bytes) same ∙ ap (λ (r : List ℕ). 94 ∷ r) (ups_parts bytes) in
@@ -213,7 +214,7 @@ later n b (c ∷ bytes) = λ none. absurd (omega arith)
 ups_end : (n : ℕ) (bytes : List ℕ) → BeginsOther n bytes → EndsPrefix false (n + (ups_at bytes).0) (ups_at bytes).1
 ups_end n [] other = ends_bytes
 ups_end n (b ∷ bytes) other =
-    elim (known (eqb b 94)) [
+    elim (choice (eqb b 94)) [
       | inl h ↦
           let inner = ups_end (n + 1) bytes (later n b bytes) in
           let count : n + 1 + (ups_at bytes).0 ≡ n + suc (ups_at bytes).0 = omega arith in
@@ -254,7 +255,7 @@ no_prefix = refl
 pub prefix_parts : (bytes : List ℕ) → PrefixParts bytes (prefix_at bytes)
 prefix_parts [] = subst (λ (x : Bool × ℕ × List ℕ). PrefixParts [] x) (sym no_prefix) (here_parts [] tt)
 prefix_parts (b ∷ bytes) =
-    elim (known (eqb b 92)) [
+    elim (choice (eqb b 92)) [
       | inl h ↦ subst (λ (x : Bool × ℕ × List ℕ). PrefixParts (b ∷ bytes) x) (sym (root_prefix b bytes h)) (root_parts b bytes (eqb-true _ _ h))
       | inr h ↦ subst (λ (x : Bool × ℕ × List ℕ). PrefixParts (b ∷ bytes) x) (sym (here_prefix b bytes h)) (here_parts (b ∷ bytes) (λ _. eqb-false _ _ h))
     ]

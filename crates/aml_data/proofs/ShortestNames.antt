@@ -5,8 +5,8 @@ use Rattle.std.proofs.lemmas.Bool.{eqb-true, eqb-false}
 use Rattle.aml_data.specs.declared.path.Path.{Path}
 use Rattle.aml_data.specs.Segment.{IsSegment, joined}
 use Rattle.aml_data.specs.Grammar.{Prefix, spells_root, spells_ups, Segments, spells_no_segment, spells_one_segment, spells_two_segments, spells_many_segments, NameOf, spells_name}
-use Rattle.aml_data.proofs.ShortestParts.{by_test}
 use Rattle.aml_data.specs.Written.{written_prefix, segments_lead, written_segments, written_name, IsWritablePath}
+use Rattle.pw_base.proofs.Facts.{by_test}
 
 prefix_spelled : (root : Bool) (ups : ℕ) → (root ≡ true → ups ≡ 0) → Prefix root ups (cond root (92 ∷ []) (replicate ups 94))
 prefix_spelled true ups none = subst (λ (n : ℕ). Prefix true n (92 ∷ [])) (sym (none refl)) spells_root

@@ -6,11 +6,7 @@ use Rattle.std.specs.Int.{w16, w32, w64, to_le_bytes}
 use Rattle.aml_data.specs.Grammar.{Const, spells_zero, spells_one, spells_byte, spells_word, spells_double, spells_quad}
 use Rattle.aml_data.specs.Grammar.{Len, spells_one_byte_length, spells_two_byte_length, spells_three_byte_length, spells_four_byte_length}
 use Rattle.aml_data.specs.Written.{written_constant, written_length, one_byte_length, two_byte_length, three_byte_length, four_byte_length}
-
--- what holds of either way that a test may go
-pub by_test : {A : Type 0} (P : A → Type 0) (b : Bool) (x y : A) → (b ≡ true → P x) → (b ≡ false → P y) → P (cond b x y)
-by_test P true x y passed failed = passed refl
-by_test P false x y passed failed = failed refl
+use Rattle.pw_base.proofs.Facts.{by_test}
 
 below : (a b : ℕ) → ltb a b ≡ true → a < b
 below a b e = grind (arith, nat_tests)

@@ -6,16 +6,13 @@ use Rattle.pw_text.specs.Lines.{text_of, with_feed}
 use Rattle.pw_audit.specs.declared.answer.AuditFault.{AuditFault}
 use Rattle.pw_audit.specs.declared.answer.AuditFault.TheVariants.{TooLong, Wrong, Unfinished, Memory}
 use Rattle.pw_audit.specs.inner.Stopping.{MissesLine, StopsIn}
+use Rattle.pw_base.proofs.Facts.{empty}
 
 pub text_of-append : (xs ys : List (List ℕ)) → text_of (xs ++ ys) ≡ text_of xs ++ text_of ys
 text_of-append xs ys = flat_map-append with_feed xs ys
 
 pub text_of-one : (l : List ℕ) → text_of (l ∷ []) ≡ with_feed l
 text_of-one l = append-nil (with_feed l)
-
-no_bytes : (xs : List ℕ) → length xs ≡ 0 → xs ≡ []
-no_bytes [] e = refl
-no_bytes (x ∷ xs) e = absurd (omega arith)
 
 -- a text that misses line k of these
 pub stops_here : (ls : List (List ℕ)) (n k : ℕ) (left rest line : List ℕ) (fault : AuditFault) → k < length ls → left ≡ text_of (take k ls) ++ rest → line ≡ with_feed (get_or ls k [])
@@ -34,7 +31,7 @@ stops_here ls n k left rest line (Wrong number) lt is same h = (
 )
 stops_here ls n k left rest line (Unfinished lines) lt is same h = (
   k,
-  record { within = lt; is = is ∙ ap (λ (l : List ℕ). text_of (take k ls) ++ l) (no_bytes rest h.1) ∙ append-nil (text_of (take k ls)) },
+  record { within = lt; is = is ∙ ap (λ (l : List ℕ). text_of (take k ls) ++ l) (empty rest h.1) ∙ append-nil (text_of (take k ls)) },
   h.0,
 )
 stops_here ls n k left rest line Memory lt is same h = absurd h

@@ -11,7 +11,7 @@ use Rattle.pw_script.specs.HistoryText.{history_lines, history_text}
 use Rattle.pw_script.specs.Lawful.{Begins}
 use Rattle.pw_script.specs.Telling.{HasSegments}
 use Rattle.pw_script.specs.Wholes.{BeginsWhole, HasFeed, IsWhole, Starts, onto_first, pieces_of}
-use Rattle.pw_script.proofs.Beginnings.{begins-whole}
+use Rattle.pw_script.proofs.Beginnings.{begins-whole, one_line}
 use Rattle.pw_script.proofs.Cuts.{AllOver, Over, ended-same}
 use Rattle.pw_script.proofs.Determined.{lines-over}
 use Rattle.pw_script.proofs.Ends.{begins-shorter, each-feed}
@@ -19,13 +19,6 @@ use Rattle.pw_script.proofs.Firsts.{each_first, each_rest}
 use Rattle.pw_audit.specs.Audited.{IsUnfinished, IsWrong}
 
 -- # Pieces
-
-one_line : (l r : List ℕ) → Over 10 l → pieces_of (l ++ 10 ∷ r) ≡ with_feed l ∷ pieces_of r
-one_line [] r o = refl
-one_line (b ∷ l) r o =
-    let over = o.0 in
-    let other : (b == 10) ≡ false = ne_eqb b 10 (λ e. absurd (omega (arith, over, e))) in
-    rw (other, one_line l r o.1) refl
 
 regroup : (l t r : List ℕ) → (with_feed l ++ t) ++ r ≡ l ++ 10 ∷ (t ++ r)
 regroup l t r = simp append_assoc

@@ -12,19 +12,16 @@ use Rattle.pw_audit.specs.Audited.{Shows}
 use Rattle.pw_audit.specs.inner.Stopping.{known}
 use Rattle.pw_audit.proofs.Following.{opening_whole, text_is}
 use Rattle.pw_audit.proofs.Knowing.{shows_to}
-
-no_bytes : (xs : List ℕ) → length xs ≡ 0 → xs ≡ []
-no_bytes [] e = refl
-no_bytes (x ∷ xs) e = absurd (omega arith)
+use Rattle.pw_base.proofs.Facts.{empty}
 
 pub shows_opening : (P : Plan) (qs : List Request) (text left : List ℕ) (o : Option ℕ) (k : ℕ) (entries : List HistoryEntry) → o ≡ Some k → k < length (opening_ops P)
     → text ≡ text_of (opening_lines P (Some k)) ++ left → length left ≡ 0 → entries ≡ [] → Shows P qs text (record { opening = o; entries = entries })
-shows_opening P qs text left o k entries fault lt is none empty =
+shows_opening P qs text left o k entries fault lt is none nothing =
     subst (λ (f : Option ℕ). Shows P qs text (record { opening = f; entries = entries })) (sym fault)
-    (subst (λ (es : List HistoryEntry). Shows P qs text (record { opening = Some k; entries = es })) (sym empty)
+    (subst (λ (es : List HistoryEntry). Shows P qs text (record { opening = Some k; entries = es })) (sym nothing)
     (record {
       lawful = (lt, refl);
-      is = is ∙ ap (λ (l : List ℕ). text_of (opening_lines P (Some k)) ++ l) (no_bytes left none) ∙ append-nil (text_of (opening_lines P (Some k)))
+      is = is ∙ ap (λ (l : List ℕ). text_of (opening_lines P (Some k)) ++ l) (empty left none) ∙ append-nil (text_of (opening_lines P (Some k)))
           ∙ sym (text_is P (Some k) [] ∙ ap text_of (opening_whole P (Some k)));
       seats = tt;
     }))

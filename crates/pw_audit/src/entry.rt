@@ -20,11 +20,8 @@ use crate::outcome::read_outcome;
 use acpi_values::Op;
 use pw_core::{Ops, State};
 use pw_model::HistoryEntry;
-use pw_plan::Request;
+use pw_plan::{ANY_LATENCY, Request};
 use std::collections::HashMap;
-
-/// The tolerance of an entry that isn't an idle request.
-const ANY_LATENCY: u32 = u32::MAX;
 
 /// An entry of seat 0, of a processor.
 fn plain(cpu: u32, code: u32, argument: u32, tolerance: u32, fault: u32) -> HistoryEntry

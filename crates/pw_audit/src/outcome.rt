@@ -55,7 +55,7 @@ fn read_reply<'a>(
 
 /// Which fault, 0 for none, a text says of a request in this state, at the end of a line, and what stands
 /// behind it. Leaves the operations of the request, and the state after it.
-#[tactic(auto, using(pw_script::proofs::Printed::bound_small))]
+#[tactic(auto, using(pw_plan::proofs::RequestBounds::bound_small))]
 pub(crate) fn read_outcome<'a>(
     line: &mut Vec<u8>,
     plan: &Plan,

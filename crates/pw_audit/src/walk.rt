@@ -22,13 +22,10 @@ use crate::opening::read_opening;
 use pw_base::List;
 use pw_core::{Ops, State, open_all};
 use pw_model::HistoryEntry;
-use pw_plan::{Plan, Request};
+use pw_plan::{MOST_OF_A_REQUEST, Plan, Request};
 use pw_script::{Line, plans_have_segments};
 use std::alloc::Global;
 use std::collections::HashMap;
-
-/// How many operations a request has at most.
-const MOST_OF_A_REQUEST: u32 = 256;
 
 /// The numbers of a request are of 32 bits.
 fn request_known(request: Request)

@@ -1,6 +1,5 @@
 //! Words of the lines of a history, each put behind what a line has so far.
-ghost use Rattle.std.specs.Prelude.{◌≡◌, ◌≤◌, ◌∷◌, ◌++◌, codes, decimal, drop, length, take, true, OnOk};
-ghost use Rattle.std.specs.Fmt.{digits};
+ghost use Rattle.std.specs.Prelude.{◌≡◌, ◌∷◌, ◌++◌, codes, decimal, length, take, true, OnOk};
 ghost use Rattle.std.specs.List.{flat_map};
 ghost use Rattle.pw_text.specs.Text.{hex_text};
 ghost use Rattle.pw_script.specs.HistoryText.{fault_words, reply_words, request_words, tolerance_words};
@@ -10,11 +9,8 @@ use acpi_values::Chain;
 use itoa::Buffer;
 use pw_base::Memory;
 use pw_model::Reply;
-use pw_plan::Request;
-use pw_text::hex_digit;
-
-/// The tolerance that bears any wake latency.
-const ANY_LATENCY: u32 = u32::MAX;
+use pw_plan::{ANY_LATENCY, Request};
+use pw_text::write_hex;
 
 /// Puts bytes.
 pub(crate) fn push(line: &mut Vec<u8>, bytes: &[u8]) -> Result<(), Memory>
@@ -38,24 +34,6 @@ pub(crate) fn push_labelled(line: &mut Vec<u8>, label: &[u8], number: u32) -> Re
 {
     push(line, label)?;
     push_decimal(line, u64::from(number))
-}
-
-/// Writes hexadecimal digits at the end of the buffer, and says where they begin.
-fn write_hex(number: u64, buf: &mut [u8; 64]) -> usize
-    ensures within { result ≤ 64 }
-    ensures text { drop result buf.new ≡ digits 16 true number }
-{
-    let mut at = 64;
-    let mut rest = number;
-    while at > 0 {
-        at -= 1;
-        buf[at] = hex_digit((rest % 16) as u8);
-        rest /= 16;
-        if rest == 0 {
-            break;
-        }
-    }
-    at
 }
 
 /// Puts a number in upper-case hexadecimal behind `0x`.

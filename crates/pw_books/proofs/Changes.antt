@@ -56,3 +56,7 @@ module _ {E : Type 0} (seat_of : E → ℕ) (Good : List E → Type 0) where
         })
         (at_set m.views j k w u e);
   }
+
+pub at_most_le : (o : Option ℕ) (k n : ℕ) → AtMost o k → k ≤ n → AtMost o n
+at_most_le None k n a le = tt
+at_most_le (Some r) k n a le = omega (arith, a, le)

@@ -13,7 +13,7 @@ use Rattle.pw_books.proofs.Lists.{at_longer, elem_below, set_else, set_here}
 use Rattle.pw_books.proofs.Keeps.{opens, step_keeps}
 use Rattle.pw_books.proofs.Told.{is_told}
 
-at_end : {A : Type 0} (l : List A) (a : A) → get_elem? (l ++ a ∷ []) (length l) ≡ some a
+pub at_end : {A : Type 0} (l : List A) (a : A) → get_elem? (l ++ a ∷ []) (length l) ≡ some a
 at_end [] a = refl
 at_end (x ∷ xs) a = at_end xs a
 

@@ -17,11 +17,11 @@ use Rattle.pw_books.proofs.Facts.{other_unmarked, live_holds, number_below, othe
 
 -- # Sums over views of which one counts
 
-total_zero : {A : Type 0} (g : A → ℕ) (l : List A) → ((k : ℕ) (u : A) → get_elem? l k ≡ some u → g u ≡ 0) → total g l ≡ 0
+pub total_zero : {A : Type 0} (g : A → ℕ) (l : List A) → ((k : ℕ) (u : A) → get_elem? l k ≡ some u → g u ≡ 0) → total g l ≡ 0
 total_zero g [] z = refl
 total_zero g (y ∷ ys) z = omega (arith, z 0 y refl, total_zero g ys (λ k u e. z (suc k) u e))
 
-total_only : {A : Type 0} (g : A → ℕ) (l : List A) (j : ℕ) (v : A) → get_elem? l j ≡ some v
+pub total_only : {A : Type 0} (g : A → ℕ) (l : List A) (j : ℕ) (v : A) → get_elem? l j ≡ some v
     → ((k : ℕ) (u : A) → k ≢ j → get_elem? l k ≡ some u → g u ≡ 0) → total g l ≡ g v
 total_only g [] j v at z = absurd (some-ne-none v (sym at))
 total_only g (x ∷ xs) zero v at z = omega (arith, ap g (some-injective x v at), total_zero g xs (λ k u e. z (suc k) u (λ h. omega (arith, h)) e))

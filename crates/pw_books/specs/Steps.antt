@@ -24,7 +24,7 @@ module _ {E : Type 0} where
   -- # The view after a step
 
   abbrev pub led : List E → ℕ → View E → View E
-  led history count v = record v { holds = true; seen = history; first = Some count }
+  led history count v = record v { holds = true; seen = history; at_lock = Some count }
 
   abbrev pub met_with : ℕ → View E → View E
   met_with holder v = record v { met = Some holder; meets = v.meets + 1 }
@@ -37,7 +37,7 @@ module _ {E : Type 0} where
   in_place v = record v { out = false }
 
   abbrev pub let_go : ℕ → View E → View E
-  let_go count v = record v { holds = false; second = Some count; mark = false }
+  let_go count v = record v { holds = false; at_unlock = Some count; mark = false }
 
   abbrev pub drawn : ℕ → View E → View E
   drawn n v = record v { book = calls_of n [] ∷ v.book; read = Some (n + 1) }
@@ -75,7 +75,7 @@ module _ {E : Type 0} where
 module _ {E : Type 0} (seat_of : E → ℕ) where
   -- it made its entry
   abbrev pub entered : E → ℕ → View E → View E
-  entered e count v = record v { holds = false; seen = v.seen ++ e ∷ []; book = grown seat_of v.book e; second = Some count }
+  entered e count v = record v { holds = false; seen = v.seen ++ e ∷ []; book = grown seat_of v.book e; at_unlock = Some count }
 
   -- who has the turn, with the slot's value back, adds an entry of its own with which the history may be
   pub record Enters (Good : List E → Type 0) (m : Machine E) (v : View E) (e : E) : Type 0 where

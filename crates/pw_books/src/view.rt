@@ -14,8 +14,8 @@ pub struct View<E> {
     /// The slot is empty: it has its value in hand.
     pub out: bool,
     /// The registers' count when it last took the turn, and when it last released it.
-    pub first: Option<u64>,
-    pub second: Option<u64>,
+    pub at_lock: Option<u64>,
+    pub at_unlock: Option<u64>,
     /// The seat that held the turn when this one last looked for it in vain.
     pub met: Option<u32>,
     pub meets: u64,

@@ -3,14 +3,6 @@
 //! told is a status, and changes nothing.
 #![tactic(auto)]
 
-mod handle;
-mod kept;
-mod machines;
-mod parts;
-mod performance;
-mod place;
-mod seats;
-
 ghost use Rattle.std.specs.Prelude.{◌≡◌, []};
 ghost use Rattle.pw_embed.specs.declared.machine.Machine.TheVariants.{Blocks};
 ghost use Rattle.pw_embed.specs.Cppc.{Asked};
@@ -19,17 +11,15 @@ ghost use Rattle.pw_embed.specs.Operations.{Listed};
 ghost use Rattle.pw_embed.specs.Statuses.{Tells};
 ghost use Rattle.pw_embed.specs.Seats.{Asks as SeatAsks, Counts as SeatCounts, Lists as SeatLists};
 ghost use Rattle.pw_embed.specs.Seats.{Seals, Shows, TellsEntry};
-ghost use Rattle.pw_c.specs.declared.kept.Kept.TheVariants.{Machine as machine};
-ghost use Rattle.pw_c.specs.Handled.{Closes, KeptSo, OnCppc, OnMachine, Opens, OpensCppc};
-ghost use Rattle.pw_c.specs.Seated.{JoinsTo, OnSeat, OpensSeatOf, OweOneCoordinator, SplitsTo};
+ghost use Rattle.pw_handles.specs.declared.kept.Kept.TheVariants.{Machine as machine};
+ghost use Rattle.pw_handles.specs.Handled.{Closes, KeptSo, OnCppc, OnMachine, Opens, OpensCppc};
+ghost use Rattle.pw_handles.specs.Seated.{JoinsTo, OnSeat, OpensSeatOf, OweOneCoordinator, SplitsTo};
 
-pub use handle::{Handle, handles_cross};
-pub use kept::Kept;
-pub use place::Place;
 use pw_embed::{
     Counts, CppcReplyNumbers, CppcRequestNumbers, CpuNumbers, EntryNumbers, FaultNumbers,
     OpNumbers, ReplyNumbers, RequestNumbers, SeatFacts,
 };
+use pw_handles::Handle;
 use std::alloc::Global;
 
 /// Opens a closed handle for a machine without blocks.

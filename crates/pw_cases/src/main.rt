@@ -1,13 +1,16 @@
 //! Whole runs of the program over files and outputs in memory. `data/cases.txt` lists them: of each its
 //! name, its files, its words, and the status, output and error output that must come. One line a case
-//! says whether they came.
+//! says whether they came. Then come runs by workers (`races`).
 #![tactic(auto)]
 
 mod bytes;
 mod case;
 mod outside;
+mod races;
 
 use case::Case;
+use races::case::run_case;
+use races::generated;
 use std::alloc::Global;
 use std::sync::Wait;
 use std::thread::Threads;
@@ -49,6 +52,22 @@ fn took<T: Threads + Wait + Sync>(
     }
 }
 
+/// Tells of each run of a list, and of those of machines that are generated.
+fn print_races<T: Threads + Wait + Sync>(rt: &HostRuntime, threads: &T) -> io::Result<()> {
+    let list = fs::read_to_string(rt, "runs.txt")?;
+    for block in list.as_str().split("\ncase ").skip(1) {
+        let (name, lines) = block.split_once("\n").unwrap_or((block, ""));
+        match run_case(threads, rt.alloc(), lines) {
+            None => println!(rt; "{name}: can't be read, or want of memory")?,
+            Some(told) => print!(rt; "{name}\n{told}")?,
+        }
+    }
+    match generated(threads, rt.alloc()) {
+        None => println!(rt; "want of memory"),
+        Some(told) => print!(rt; "{told}"),
+    }
+}
+
 fn main(rt: HostRuntime) -> io::Result<()> {
     let list = fs::read_to_string(&rt, "cases.txt")?;
     let mut case = Case::new(rt.alloc());
@@ -64,5 +83,5 @@ fn main(rt: HostRuntime) -> io::Result<()> {
             Some(None) => {}
         }
     }
-    Ok(())
+    print_races(&rt, &rt)
 }

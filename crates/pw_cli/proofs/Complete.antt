@@ -42,17 +42,17 @@ module _ {words : List (List ℕ)} {sealed : Option Sealed} {before after : Seen
   settled : IsSettled asked → (a b : List ℕ) → work.text a → work.text b → a ≡ b
   settled = settled_is_one asked before.files after.files tells
 
-  unread-never : work.unread → ⊥
-  unread-never = none_unread asked before.files after.files none
+  read_fault-never : work.read_fault → ⊥
+  read_fault-never = none_unread asked before.files after.files none
 
   complete_by : Obeys asked sealed before after status ran.text ran.line → IsCompleteFor asked before after status
   complete_by o = elim (did_or_lost asked (within_of words asked is) sealed before after status ran.text ran.line o) [
     | inl does ↦ record {
-      prints = λ text made held holds. so_printed text judged unread-never holds made does ran.on_out ran.on_err;
+      prints = λ text made held holds. so_printed text judged read_fault-never holds made does ran.on_out ran.on_err;
       one = settled;
-      refuses = λ so line refusal. so_refused so line judged unread-never refusal does ran.on_out ran.on_err;
-      unprinted = λ never. so_unprinted unread-never never does;
-      printable = λ text made held. so_printable text judged unread-never made does;
+      refuses = λ so line refusal. so_refused so line judged read_fault-never refusal does ran.on_out ran.on_err;
+      unprinted = λ never. so_unprinted read_fault-never never does;
+      printable = λ text made held. so_printable text judged read_fault-never made does;
     }
     | inr lost ↦ record {
       prints = λ text made held holds. absurd (lost.unheld held);

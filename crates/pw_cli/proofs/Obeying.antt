@@ -7,22 +7,22 @@ use Rattle.pw_words.specs.Words.Asked.{on_blocks, drive, audit, cppc, generate}
 use Rattle.pw_words.proofs.Asking.{few_counted}
 use Rattle.pw_load.specs.Seen.{Seen, NoneFailed}
 use Rattle.pw_load.specs.Ends.{Does}
-use Rattle.pw_load.specs.Ends.Stops.{refused, unread, without_memory}
-use Rattle.pw_load.specs.Ends.Prints.{whole, unwritten, cut}
+use Rattle.pw_load.specs.Ends.Stops.{refused, read_fault, without_memory}
+use Rattle.pw_load.specs.Ends.Prints.{whole, write_fault, cut}
 use Rattle.pw_load.specs.Ends.Does.{stopped, printed}
 use Rattle.pw_load.proofs.Completeness.{IsJudged, judged_of}
-use Rattle.pw_tasks.proofs.One.{never_unread, refusal_is_1, task_is_one}
+use Rattle.pw_tasks.proofs.One.{never_read_fault, refusal_is_1, task_is_one}
 use Rattle.pw_turns.specs.declared.close.Sealed.{Sealed}
 use Rattle.pw_runs.proofs.One.{drive_is_one, refusal_is_1_or_7, working_apart, working_refuses_once}
-use Rattle.pw_runs.proofs.One.{never_unread as never_unread_drive}
+use Rattle.pw_runs.proofs.One.{never_read_fault as never_unread_drive}
 use Rattle.pw_runs.proofs.TrialOne.{trying_is_one}
 use Rattle.pw_runs.proofs.TrialOne.{does_or_failed as tries_or_failed}
 use Rattle.pw_runs.proofs.AuditOne.{refusal_is_1_7_or_8, reviewing_is_one}
-use Rattle.pw_runs.proofs.AuditOne.{never_unread as never_unread_audit}
+use Rattle.pw_runs.proofs.AuditOne.{never_read_fault as never_unread_audit}
 use Rattle.pw_runs.proofs.CppcEnding.{Failed as LostBy, works_or_failed}
 use Rattle.pw_runs.proofs.CppcEnding.{does_or_failed as steers_or_failed}
 use Rattle.pw_runs.proofs.CppcOne.{steer_is_one, together_is_judged}
-use Rattle.pw_runs.proofs.CppcOne.{never_unread as never_unread_cppc, refusal_is_1_or_7 as cppc_refusal}
+use Rattle.pw_runs.proofs.CppcOne.{never_read_fault as never_unread_cppc, refusal_is_1_or_7 as cppc_refusal}
 use Rattle.pw_cli.specs.Runs.{DrivesBy, IsSettled, IsWithin, Obeys, RegistersHeld, SteersBy, driving_by, names_in, steering_by, work_of}
 use Rattle.pw_cli.proofs.Driving.{does_or_failed}
 use Rattle.pw_cli.proofs.Working.{does_or_failed as worked_or_failed}
@@ -76,17 +76,17 @@ settled_is_one (cppc serial script names) before after tells is = one_steering s
 settled_is_one (generate n) before after tells is = (trying_is_one n).texts
 
 unread_by : (serial step : Bool) (script : List ℕ) (names : List (List ℕ)) (before after : FilesSeen) → NoneFailed (script ∷ names) before after
-    → (driving_by serial step script names before after).unread → ⊥
+    → (driving_by serial step script names before after).read_fault → ⊥
 unread_by true step script names before after none u = never_unread_drive step script names before after none u
 unread_by false step script names before after none u = never_unread_drive step script names before after none u
 
 unread_steering : (serial : Bool) (script : List ℕ) (names : List (List ℕ)) (before after : FilesSeen) → NoneFailed (script ∷ names) before after
-    → (steering_by serial script names before after).unread → ⊥
+    → (steering_by serial script names before after).read_fault → ⊥
 unread_steering true script names before after none u = never_unread_cppc script names before after none u
 unread_steering false script names before after none u = never_unread_cppc script names before after none u
 
-pub none_unread : (asked : Asked) (before after : FilesSeen) → NoneFailed (names_in asked) before after → (work_of asked before after).unread → ⊥
-none_unread (on_blocks task names) before after none u = never_unread names before after none u
+pub none_unread : (asked : Asked) (before after : FilesSeen) → NoneFailed (names_in asked) before after → (work_of asked before after).read_fault → ⊥
+none_unread (on_blocks task names) before after none u = never_read_fault names before after none u
 none_unread (drive way script names) before after none u = unread_by way.serial way.step script names before after none u
 none_unread (audit step script history names) before after none u = never_unread_audit step script history names before after none u
 none_unread (cppc serial script names) before after none u = unread_steering serial script names before after none u
@@ -182,8 +182,8 @@ apart s k ne nf (inr five) e = let z : s ≡ 5 = omega (arith, five, e) in nf z
 pub does_not : (k : ℕ) → (k ≡ 2) ⊎ (k ≡ 5) → (asked : Asked) (before after : Seen) (status : ℕ) (text line : List ℕ)
     → Does (work_of asked before.files after.files) before.outputs after.outputs status text line → status ≡ k → ⊥
 does_not k is asked before after status text line (stopped (refused r)) e = neither status k (refusal_status asked before.files after.files status line r) is e
-does_not k is asked before after status text line (stopped (unread u)) e = apart 3 k (λ z. absurd (omega (arith, z))) (λ z. absurd (omega (arith, z))) is e
+does_not k is asked before after status text line (stopped (read_fault u)) e = apart 3 k (λ z. absurd (omega (arith, z))) (λ z. absurd (omega (arith, z))) is e
 does_not k is asked before after status text line (stopped without_memory) e = apart 6 k (λ z. absurd (omega (arith, z))) (λ z. absurd (omega (arith, z))) is e
 does_not k is asked before after status text line (printed made whole) e = apart 0 k (λ z. absurd (omega (arith, z))) (λ z. absurd (omega (arith, z))) is e
-does_not k is asked before after status text line (printed made (unwritten n rose)) e = apart 4 k (λ z. absurd (omega (arith, z))) (λ z. absurd (omega (arith, z))) is e
+does_not k is asked before after status text line (printed made (write_fault n rose)) e = apart 4 k (λ z. absurd (omega (arith, z))) (λ z. absurd (omega (arith, z))) is e
 does_not k is asked before after status text line (printed made (cut n pieces)) e = apart 6 k (λ z. absurd (omega (arith, z))) (λ z. absurd (omega (arith, z))) is e

@@ -16,21 +16,18 @@ use Rattle.pw_load.specs.Ends.{Does}
 use Rattle.pw_load.specs.Ends.Does.{stopped as stops}
 use Rattle.pw_runs.specs.Runs.{PrintsRun}
 use Rattle.pw_runs.specs.Runs.DrivesSerially.{stopped, drove}
-use Rattle.pw_runs.specs.Runs.PrintsRun.{whole, unwritten, failed, failed_unwritten, without_memory}
+use Rattle.pw_runs.specs.Runs.PrintsRun.{whole, write_fault, failed, failed_write_fault, without_memory}
 use Rattle.pw_runs.specs.Workers.Drives.{stopped as work_stopped, opened as work_opened, drove as workers_drove}
 use Rattle.pw_generate.specs.Loads.{machine_load}
 use Rattle.pw_runs.specs.Trials.{Generates, PrintsSummary}
 use Rattle.pw_runs.specs.Trials.Generates.{undone, opened}
 use Rattle.pw_runs.specs.Trials.Generates.{drove as tried}
-use Rattle.pw_runs.specs.Trials.PrintsSummary.{whole as all_summed, unwritten as part_summed, failed as never_summed, without_memory as unsummed}
-use Rattle.pw_runs.proofs.CppcSpared.{steers_counts, steers_not_5, works_counts, works_not_5}
+use Rattle.pw_runs.specs.Trials.PrintsSummary.{whole as all_summed, write_fault as part_summed, failed as never_summed, without_memory as unsummed}
+use Rattle.pw_runs.proofs.CppcSpared.{steers_counts, steers_not_5, works_counts, works_not_5, none_or_some}
 use Rattle.pw_cli.specs.Runs.{DrivesBy, EndsBy, IsSpared, Obeys, Ran, SteersBy, driving_by}
 use Rattle.pw_cli.specs.Runs.EndsBy.{misworded, commanded}
 use Rattle.pw_cli.specs.Runs.EndsBy.{without_memory as without_memory_of}
 use Rattle.pw_cli.proofs.Obeying.{does_not}
-
-none_or_some : {k : ℕ} {at : Option ℕ} → at ≡ None → at ≡ Some k → ⊥
-none_or_some e f = absurd (cc)
 
 counted : (before after : Seen) → after.regs ≡ before.regs → after.regs.faults ≡ before.regs.faults
 counted before after same = ap (λ (r : RegistersSeen). r.faults) same
@@ -57,9 +54,9 @@ module _ (before after : Seen) (room : MOST_OPERATIONS ≤ before.regs.room) whe
     print_not_5 : (P : Plan) (opening : Option ℕ) (es : List HistoryEntry) → stopped_at opening es ≡ None → (status : ℕ) (text said : List ℕ)
         → PrintsRun P opening es before.outputs after.outputs status text said → status ≡ 5 → ⊥
     print_not_5 P opening es held status text said (whole none) five = absurd (omega (arith, five))
-    print_not_5 P opening es held status text said (unwritten n none rose) five = absurd (omega (arith, five))
+    print_not_5 P opening es held status text said (write_fault n none rose) five = absurd (omega (arith, five))
     print_not_5 P opening es held status text said (failed at) five = none_or_some held at
-    print_not_5 P opening es held status text said (failed_unwritten n at rose) five = none_or_some held at
+    print_not_5 P opening es held status text said (failed_write_fault n at rose) five = none_or_some held at
     print_not_5 P opening es held status text said without_memory five = absurd (omega (arith, five))
 
     drives_not_5 : (serial : Bool) (status : ℕ) (text said : List ℕ) → DrivesBy serial step script names sealed before after status text said

@@ -14,10 +14,10 @@ use Rattle.pw_drive.specs.Drives.{Runs}
 use Rattle.pw_load.specs.Seen.{Seen}
 use Rattle.pw_load.specs.Ends.{Does}
 use Rattle.pw_load.specs.Ends.Stops.{without_memory as no_memory}
-use Rattle.pw_load.specs.Ends.Prints.{whole as all_printed, unwritten as part_printed}
+use Rattle.pw_load.specs.Ends.Prints.{whole as all_printed, write_fault as part_printed}
 use Rattle.pw_load.specs.Ends.Does.{stopped as stops, printed as printed_so}
 use Rattle.pw_runs.specs.Runs.{AreGiven, IsTextOn, PrintsRun, entries_of}
-use Rattle.pw_runs.specs.Runs.PrintsRun.{whole, unwritten, failed, failed_unwritten, without_memory}
+use Rattle.pw_runs.specs.Runs.PrintsRun.{whole, write_fault, failed, failed_write_fault, without_memory}
 use Rattle.pw_runs.specs.Workers.{Drives, IsTextBy, working}
 use Rattle.pw_runs.specs.Workers.Drives.{stopped, opened, drove}
 use Rattle.pw_runs.proofs.Many.{serial_text_is_one}
@@ -52,9 +52,9 @@ module _ (step : Bool) (script : List ℕ) (names : List (List ℕ)) (sealed : O
       → Runs P lines opening es before.regs after.regs → (status : ℕ) (text said : List ℕ) → PrintsRun P opening es before.outputs after.outputs status text said
       → Does (working step script names before.files after.files) before.outputs after.outputs status text said ⊎ Failed step script names before after status
   by_print P lines opening es given run status text said (whole none) = inl (printed_so (text_of opening given run none) all_printed)
-  by_print P lines opening es given run status text said (unwritten n none rose) = inl (printed_so (text_of opening given run none) (part_printed n rose))
+  by_print P lines opening es given run status text said (write_fault n none rose) = inl (printed_so (text_of opening given run none) (part_printed n rose))
   by_print P lines opening es given run status text said (failed at) = inr (failed_of given run at)
-  by_print P lines opening es given run status text said (failed_unwritten n at rose) = inr (failed_of given run at)
+  by_print P lines opening es given run status text said (failed_write_fault n at rose) = inr (failed_of given run at)
   by_print P lines opening es given run status text said without_memory = inl (stops no_memory)
 
   -- It stops or prints as a command does, or a register failed.

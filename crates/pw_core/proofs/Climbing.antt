@@ -21,16 +21,18 @@ use Rattle.pw_model.specs.Answers.{chain_of, states_along, states_of, states_by}
 use Rattle.pw_model.proofs.Enabling.{container_vote-le}
 use Rattle.pw_model.proofs.Greatest.{greatest-le}
 use Rattle.pw_core.specs.Chains.{IsChain, states_in, AreStates, AreStatesOf}
+use Rattle.pw_model.proofs.Loops.{parents_fall}
+use Rattle.pw_model.proofs.Routes.{along_length}
 
 -- # A chain and its states
 
-same_chain : (m n : ℕ) (xs ys : List ℕ) → m ≡ n → xs ≡ ys → ◌≡◌ {A = Chain} (record { len = m; states = xs }) (record { len = n; states = ys })
+pub same_chain : (m n : ℕ) (xs ys : List ℕ) → m ≡ n → xs ≡ ys → ◌≡◌ {A = Chain} (record { len = m; states = xs }) (record { len = n; states = ys })
 same_chain m n xs ys e f = rw (e, f) refl
 
 pub length-states_in : (c : Chain) → IsChain c → length (states_in c) ≡ c.len
 length-states_in c h = let r : c.len ≤ 9 = h.room in let n : length c.states ≡ 9 = h.places in length-take-le c.len c.states (omega arith)
 
-chain_is : (c : Chain) → IsChain c → c ≡ chain_of (states_in c)
+pub chain_is : (c : Chain) → IsChain c → c ≡ chain_of (states_in c)
 chain_is c h =
     let n : length (take c.len c.states) ≡ c.len = length-states_in c h in
     same_chain c.len (length (states_in c)) c.states (states_in c ++ replicate (9 - length (states_in c)) 0) (sym n)
@@ -60,16 +62,6 @@ chain-extended c s h room =
     put xs k m j n e = rw (e, ← n, append_assoc) (set-append_seam xs 0 (replicate j 0) s)
 
 -- # Lines upwards
-
-pub parents_fall : (P : Plan) → ParentsFall P.containers
-parents_fall P n lt = step (container_at P n).parent refl
-  where
-    below : (m : ℕ) → m < n → nat_lt m n ≡ true
-    below m lt = grind (arith, nat_tests)
-
-    step : (p : Option ℕ) → (container_at P n).parent ≡ p → is_below n p ≡ true
-    step None e = refl
-    step (Some m) e = below m (P.sound.tree.falls n m lt e)
 
 pub line-Some : (P : Plan) (n : ℕ) → n < length P.containers → line_from P.containers (Some n) ≡ n ∷ line_from P.containers (container_at P n).parent
 line-Some P n lt = line_from-Some P.containers (parents_fall P) n lt
@@ -168,14 +160,6 @@ states_along-fit P S (n ∷ ns) = step ((container_vote P S n).state == 0) refl 
     step true e le above = tt
     step false e le above = (positive (container_vote P S n).state e, le, above)
 
-length-states_along : (P : Plan) (S : State) (ns : List ℕ) → length (states_along P S ns) ≤ length ns
-length-states_along P S [] = omega arith
-length-states_along P S (n ∷ ns) = step ((container_vote P S n).state == 0) (length-states_along P S ns)
-  where
-    step : (b : Bool) → length (states_along P S ns) ≤ length ns → length (cond b [] ((container_vote P S n).state ∷ states_along P S ns)) ≤ suc (length ns)
-    step true le = omega arith
-    step false le = omega arith
-
 -- what is told of a chain of a processor's states whose first is above 0
 pub record Fits (P : Plan) (p : ℕ) (states : List ℕ) (c : Chain) : Type 0 where
   pub chain : IsChain c
@@ -192,7 +176,7 @@ chain_fits P S p c lt h e above = by (cpu_at P p).idle.kind e
     depth = P.sound.small.depth p
 
     few : length (states_along P S (ancestors P p)) ≤ 8
-    few = let le = length-states_along P S (ancestors P p) in omega (arith, le, depth)
+    few = let le = along_length P S (ancestors P p) in omega (arith, le, depth)
 
     own_le : (vote_of S p).state ≤ length (rows_of (cpu_at P p).idle)
     own_le = h.vote p lt

@@ -14,10 +14,10 @@ use Rattle.pw_model.specs.States.{any_latency, idling, running}
 use Rattle.pw_model.specs.Containers.{all_allow, child_vote, child_votes, container_vote, enables_to, greatest, least_tolerance, may_idle, vote_over}
 use Rattle.pw_model.proofs.Enabling.{all_allow-least, container_vote-some, vote_over-idles}
 use Rattle.pw_model.proofs.Greatest.{greatest-agree, greatest-here}
-use Rattle.pw_model.proofs.Maps.{map_map}
-use Rattle.pw_core.specs.declared.tree.Known.{Known}
+use Rattle.pw_core.specs.declared.tree.KnownVote.{KnownVote}
 use Rattle.pw_core.specs.declared.tree.Allowance.{Allowance}
 use Rattle.pw_core.specs.inner.Known.{IsKnown, known_vote}
+use Rattle.pw_base.proofs.Facts.{map_map}
 
 -- the deepest state that all children of a container enable
 abbrev pub least_reach : Plan → State → ℕ → ℕ
@@ -124,7 +124,7 @@ is_allowed P S c own t v e table vote lt = record {
 
 -- # What is known
 
-pub known_is : (P : Plan) (S : State) (known : Option Known) (n : ℕ) (v : Vote) → IsKnown P S known → known_vote known n ≡ Some v → v ≡ container_vote P S n
+pub known_is : (P : Plan) (S : State) (known : Option KnownVote) (n : ℕ) (v : Vote) → IsKnown P S known → known_vote known n ≡ Some v → v ≡ container_vote P S n
 known_is P S None n v h e = cc
 known_is P S (Some k) n v h e = step (k.node == n) refl e
   where

@@ -15,7 +15,7 @@ ghost use Rattle.pw_regs.specs.Rooms.{HasRoom};
 use crate::c_states::is_drawn;
 use crate::chain::chain_under;
 use crate::composite::chain_composite;
-use crate::setting::{set_domain, stands_under};
+use crate::setting::{set_domain, stands_after};
 use acpi_values::{Chain, IdleKind, Op};
 use pw_model::{Change, Reply, State};
 use pw_plan::{DomainKind, Plan, Request};
@@ -37,10 +37,10 @@ pub fn accepted_reply(plan: &Plan, state: &State, change: Change, request: Reque
             chain: chain_under(plan, state, change, cpu),
         },
         Request::Wake { .. } => Reply::Running,
-        Request::Perf { cpu, .. } => stands_under(plan, state, change, perf, cpu),
-        Request::Throttle { cpu, .. } => stands_under(plan, state, change, throttle, cpu),
-        Request::PerfLimit { cpu, .. } => stands_under(plan, state, change, perf, cpu),
-        Request::ThrottleLimit { cpu, .. } => stands_under(plan, state, change, throttle, cpu),
+        Request::Perf { cpu, .. } => stands_after(plan, state, change, perf, cpu),
+        Request::Throttle { cpu, .. } => stands_after(plan, state, change, throttle, cpu),
+        Request::PerfLimit { cpu, .. } => stands_after(plan, state, change, perf, cpu),
+        Request::ThrottleLimit { cpu, .. } => stands_after(plan, state, change, throttle, cpu),
     }
 }
 

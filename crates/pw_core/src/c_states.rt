@@ -7,7 +7,7 @@ ghost use Rattle.pw_model.specs.Domains.{c_state, governs};
 ghost use Rattle.pw_model.specs.Domains.{is_gathered, is_sw_all, may_enter};
 ghost use Rattle.pw_model.specs.Operations.{is_drawn};
 
-use crate::reads::vote_under;
+use crate::reads::vote_after;
 use acpi_values::Coord;
 use pw_model::{Change, State};
 use pw_plan::{Domain, Plan};
@@ -18,7 +18,7 @@ fn is_gathered(state: &State, change: Change, domain: &Domain) -> bool
     ensures { result ≡ is_gathered (with_change state.now change) domain.now }
 {
     for member in domain.members.as_slice() {
-        if u32::from(vote_under(state, change, *member).state) <= domain.index {
+        if u32::from(vote_after(state, change, *member).state) <= domain.index {
             return false;
         }
     }
@@ -53,7 +53,7 @@ pub fn c_state(plan: &Plan, state: &State, change: Change, cpu: u32) -> u8
     requires fits { IsState plan.now state.now }
     ensures { result ≡ c_state plan.now (with_change state.now change) cpu }
 {
-    let mut level = vote_under(state, change, cpu).state;
+    let mut level = vote_after(state, change, cpu).state;
     while level > 0 {
         if may_enter(plan, state, change, cpu, level) {
             return level;

@@ -5,8 +5,8 @@ ghost use Rattle.pw_model.specs.Answers.{chain_of, states_along, states_of};
 ghost use Rattle.pw_core.specs.Chains.{IsChain, states_in};
 
 use crate::c_states::c_state;
-use crate::reads::vote_under;
-use crate::tree::{Known, container_vote};
+use crate::reads::vote_after;
+use crate::tree::{KnownVote, container_vote};
 use acpi_values::{Chain, IdleKind};
 use pw_model::{Change, State};
 use pw_plan::Plan;
@@ -41,7 +41,7 @@ fn climbed(plan: &Plan, state: &State, change: Change, cpu: u32) -> Chain
         result ≡ chain_of ((vote_of after cpu).state
         ∷ states_along plan.now after (ancestors plan.now cpu)) }
 {
-    let mut chain = chain_of_one(vote_under(state, change, cpu).state);
+    let mut chain = chain_of_one(vote_after(state, change, cpu).state);
     let mut next = plan.cpu(cpu).parent;
     let mut known = None;
     while let Some(node) = next {
@@ -50,7 +50,7 @@ fn climbed(plan: &Plan, state: &State, change: Change, cpu: u32) -> Chain
             return chain;
         }
         chain = extended(chain, vote.state);
-        known = Some(Known { node, vote });
+        known = Some(KnownVote { node, vote });
         next = plan.container(node).parent;
     }
     chain

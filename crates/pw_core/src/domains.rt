@@ -3,7 +3,7 @@ ghost use Rattle.pw_model.specs.States.{IsState, ask_of, limit_of};
 ghost use Rattle.pw_model.specs.States.{with_change};
 ghost use Rattle.pw_model.specs.Domains.{standing, stands_at};
 
-use crate::reads::{ask_under, asks_of, limit_under, limits_of};
+use crate::reads::{ask_after, asks_of, limit_after, limits_of};
 use acpi_values::Coord;
 use pw_model::{Change, State};
 use pw_plan::{DomainKind, Plan};
@@ -19,8 +19,8 @@ fn stands_at(plan: &Plan, state: &State, change: Change, kind: DomainKind, membe
     let mut limit = 0;
     let mut ask = u8::MAX;
     for member in members {
-        limit = limit_under(kind, state, change, *member).max(limit);
-        ask = ask_under(kind, state, change, *member).min(ask);
+        limit = limit_after(kind, state, change, *member).max(limit);
+        ask = ask_after(kind, state, change, *member).min(ask);
     }
     limit.max(ask)
 }
@@ -39,7 +39,7 @@ pub fn standing(plan: &Plan, state: &State, change: Change, place: usize, cpu: u
         Coord::SwAll => stands_at(plan, state, change, kind, domain.members.as_slice()),
         Coord::SwAny => stands_at(plan, state, change, kind, domain.members.as_slice()),
         Coord::HwAll => {
-            limit_under(kind, state, change, cpu).max(ask_under(kind, state, change, cpu))
+            limit_after(kind, state, change, cpu).max(ask_after(kind, state, change, cpu))
         }
     }
 }

@@ -7,7 +7,7 @@ use pw_model::{Change, ScaleKind, State, Vote};
 use pw_plan::DomainKind;
 
 /// The vote of a processor in the changed state.
-pub fn vote_under(state: &State, change: Change, cpu: u32) -> Vote
+pub fn vote_after(state: &State, change: Change, cpu: u32) -> Vote
     requires { cpu < length state.now.votes }
     ensures { result ≡ vote_of (with_change state.now change) cpu }
 {
@@ -18,7 +18,7 @@ pub fn vote_under(state: &State, change: Change, cpu: u32) -> Vote
 }
 
 /// What a processor asks for in the changed state.
-pub fn ask_under(kind: DomainKind, state: &State, change: Change, cpu: u32) -> u8
+pub fn ask_after(kind: DomainKind, state: &State, change: Change, cpu: u32) -> u8
     requires perf_asks { cpu < length state.now.perf_asks }
     requires throttle_asks { cpu < length state.now.throttle_asks }
     ensures { result ≡ ask_of kind (with_change state.now change) cpu }
@@ -45,7 +45,7 @@ pub fn ask_under(kind: DomainKind, state: &State, change: Change, cpu: u32) -> u
 }
 
 /// The limit of a processor in the changed state.
-pub fn limit_under(kind: DomainKind, state: &State, change: Change, cpu: u32) -> u8
+pub fn limit_after(kind: DomainKind, state: &State, change: Change, cpu: u32) -> u8
     requires perf_limits { cpu < length state.now.perf_limits }
     requires throttle_limits { cpu < length state.now.throttle_limits }
     ensures { result ≡ limit_of kind (with_change state.now change) cpu }

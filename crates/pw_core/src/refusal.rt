@@ -9,7 +9,7 @@ ghost use Rattle.pw_model.specs.Refusals.{fixed_refusal};
 ghost use Rattle.pw_model.specs.Refusals.{idle_refusal};
 ghost use Rattle.pw_model.specs.Refusals.{refusal, unfit_refusal};
 
-use crate::reads::limit_under;
+use crate::reads::limit_after;
 use crate::tree::row;
 use acpi_values::IdleKind;
 use pw_model::{Change, Reply, State};
@@ -124,7 +124,7 @@ pub fn above_limit(
     requires fits { IsState plan.now state.now }
     ensures { result ≡ above_limit state.now kind cpu index }
 {
-    let limit = u32::from(limit_under(kind, state, Change::Nothing, cpu));
+    let limit = u32::from(limit_after(kind, state, Change::Nothing, cpu));
     if index < limit {
         Some(Reply::AboveLimit { limit })
     } else {

@@ -1,6 +1,6 @@
 ghost use Rattle.std.specs.Prelude.{◌≡◌, ◌<◌, ◌++◌, ◌==◌, [], length, map, All, if◌then◌else◌};
 ghost use Rattle.pw_plan.specs.Parts.{scale_of};
-ghost use Rattle.pw_plan.specs.Requests.{domain_bound, set_by};
+ghost use Rattle.pw_plan.specs.Requests.{domain_bound, set_count};
 ghost use Rattle.pw_plan.specs.Places.{domain_at, domain_of};
 ghost use Rattle.pw_model.specs.States.{IsState, with_change};
 ghost use Rattle.pw_model.specs.Answers.{stands};
@@ -72,7 +72,7 @@ pub fn set_each(plan: &Plan, kind: DomainKind, state: u8, members: &[u32], ops: 
 }
 
 /// Where the processor's domain of this kind stands in the changed state.
-pub fn stands_under(plan: &Plan, state: &State, change: Change, kind: DomainKind, cpu: u32) -> Reply
+pub fn stands_after(plan: &Plan, state: &State, change: Change, kind: DomainKind, cpu: u32) -> Reply
     requires cpu { cpu < length plan.now.cpus }
     requires place { domain_of plan.now kind cpu < length plan.now.domains }
     requires fits { IsState plan.now state.now }
@@ -87,7 +87,7 @@ pub fn stands_under(plan: &Plan, state: &State, change: Change, kind: DomainKind
 }
 
 /// Sets where a domain stands, if that isn't where it stood before, and says it.
-pub fn set_between(
+pub fn set_changed(
     plan: &Plan,
     kind: DomainKind,
     place: usize,
@@ -98,7 +98,7 @@ pub fn set_between(
 ) -> Reply
     requires place { place < length plan.now.domains }
     requires cpu { cpu < length plan.now.cpus }
-    requires room { HasRoom ops.old (set_by (domain_at plan.now place).coord
+    requires room { HasRoom ops.old (set_count (domain_at plan.now place).coord
         (length (domain_at plan.now place).members)) }
     ensures reply { result ≡ Reply.Stands after }
     ensures list { ops.new ≡ record ops.old {
@@ -145,5 +145,5 @@ pub fn set_domain(
     };
     let before = standing(plan, state, Change::Nothing, membership.place, cpu);
     let after = standing(plan, state, change, membership.place, cpu);
-    set_between(plan, kind, membership.place, cpu, before, after, ops)
+    set_changed(plan, kind, membership.place, cpu, before, after, ops)
 }

@@ -13,7 +13,7 @@ use crate::accepting::idle;
 use crate::changing::{capped, make};
 use crate::domains::standing_now;
 use crate::refusal::{above_limit, ask_refusal, domain_refusal, idle_refusal};
-use crate::setting::set_between;
+use crate::setting::set_changed;
 use pw_model::{Change, Reply, ScaleKind, State, Vote};
 use pw_plan::{DomainKind, Plan, Request};
 use pw_regs::Ops;
@@ -89,7 +89,7 @@ fn set(
     let before = standing_now(plan, lists, membership.place, cpu);
     make(lists, change);
     let after = standing_now(plan, lists, membership.place, cpu);
-    set_between(plan, kind, membership.place, cpu, before, after, ops)
+    set_changed(plan, kind, membership.place, cpu, before, after, ops)
 }
 
 /// Answers a request for a state of this kind, appends its operations and notes the state.

@@ -6,7 +6,7 @@ ghost use Rattle.pw_model.specs.Containers.{child_vote, container_vote};
 ghost use Rattle.pw_model.specs.Containers.{enables_to, greatest};
 ghost use Rattle.pw_core.specs.inner.Known.{IsKnown, known_vote};
 
-use crate::reads::vote_under;
+use crate::reads::vote_after;
 use acpi_values::{IdleKind, IdleRow, IdleTable};
 use pw_model::{Change, State, Vote};
 use pw_plan::{Child, Plan};
@@ -19,7 +19,7 @@ pub const RUNNING: Vote = Vote {
 
 /// A container whose vote was computed before.
 #[derive(Clone, Copy)]
-pub struct Known {
+pub struct KnownVote {
     pub node: u32,
     pub vote: Vote,
 }
@@ -89,7 +89,7 @@ fn cpu_vote(plan: &Plan, state: &State, change: Change, cpu: u32) -> Vote
     ensures { result ≡ child_vote plan.now (with_change state.now change) (Child.Cpu cpu) }
 {
     match plan.cpu(cpu).idle.kind {
-        IdleKind::Lpi => vote_under(state, change, cpu),
+        IdleKind::Lpi => vote_after(state, change, cpu),
         IdleKind::Cst => RUNNING,
         IdleKind::Absent => RUNNING,
     }
@@ -108,7 +108,7 @@ fn vote_in(state: u8, tolerance: u32) -> Vote
 }
 
 /// The vote of this container, where it is known.
-fn known_vote(known: Option<Known>, node: u32) -> Option<Vote>
+fn known_vote(known: Option<KnownVote>, node: u32) -> Option<Vote>
     ensures { result ≡ known_vote known node }
 {
     match known {
@@ -123,7 +123,7 @@ pub fn container_vote(
     state: &State,
     change: Change,
     node: u32,
-    known: Option<Known>,
+    known: Option<KnownVote>,
 ) -> Vote
     requires node { node < length plan.now.containers }
     requires old { IsState plan.now state.now }

@@ -8,7 +8,6 @@ use Rattle.acpi_values.specs.declared.dependency.Coord.{Coord}
 use Rattle.acpi_values.specs.declared.dependency.Coord.TheVariants.{HwAll, SwAll, SwAny}
 use Rattle.acpi_values.specs.declared.register.Register.{Register}
 use Rattle.pw_plan.specs.Groups.{has_member}
-use Rattle.pw_model.proofs.Maps.{weaker}
 use Rattle.pw_model.specs.Operations.{opening_at}
 use Rattle.pw_cppc.specs.declared.parts.Control.{Control}
 use Rattle.pw_cppc.specs.declared.parts.Control.TheVariants as controls
@@ -21,6 +20,7 @@ use Rattle.pw_cppc.specs.Sound.{no_domain}
 use Rattle.pw_cppc.proofs.MembersAsked.{each_member, same_number}
 use Rattle.pw_cppc.specs.States.{opening, standing}
 use Rattle.pw_cppc.specs.Operations.{opening_ops_of, range_ops, set_in, set_on}
+use Rattle.pw_base.proofs.Facts.{weaker}
 
 pub count_le : (control : Control) (c : CppcParts) → register_count control c ≤ 1
 count_le control c = step (is_some (register_of control c))

@@ -5,13 +5,14 @@ use Rattle.std.specs.List.{AllByRecursion}
 use Rattle.std.proofs.lemmas.Bool.{cases_lt}
 use Rattle.pw_plan.specs.Groups.{has_member, is_software}
 use Rattle.pw_model.proofs.Gathering.{of_member}
-use Rattle.pw_model.proofs.Maps.{fold_min-each, fold_min-least, weaker}
+use Rattle.pw_model.proofs.Maps.{fold_min-each, fold_min-least}
 use Rattle.pw_cppc.specs.declared.plan.CppcPlan.{CppcPlan}
 use Rattle.pw_cppc.specs.Planning.{domain_at}
 use Rattle.pw_cppc.specs.declared.numbers.CppcNumbers.{CppcNumbers}
 use Rattle.pw_cppc.specs.States.{any_performance, ask_of, maximum_of, minimum_of, standing, stands_at, within}
 use Rattle.pw_cppc.specs.Laws.{IsAllowed, Satisfies}
-use Rattle.pw_cppc.proofs.MembersAsked.{each_member}
+use Rattle.pw_base.proofs.Facts.{weaker}
+use Rattle.pw_model.proofs.Standings.{each_member}
 
 -- # The greatest
 
@@ -26,10 +27,6 @@ max-each f least (m ∷ ms) = (let a = max-le f (max least (f m)) ms in omega (a
 max-least : (f : ℕ → ℕ) (t least : ℕ) (ms : List ℕ) → least ≤ t → AllByRecursion (λ m. f m ≤ t) ms → fold max least (map f ms) ≤ t
 max-least f t least [] le a = le
 max-least f t least (m ∷ ms) le a = max-least f t (max least (f m)) ms (let b = a.0 in omega (arith, b)) a.1
-
--- what holds of each member holds of each in the list
-listed : (Q : ℕ → Type 0) (ms : List ℕ) → ((q : ℕ) → has_member ms q ≡ true → Q q) → AllByRecursion Q ms
-listed Q ms h = weaker (λ q. has_member ms q ≡ true) Q h ms (each_member ms)
 
 module _ (P : CppcPlan) (S : CppcNumbers) (d p : ℕ) (soft : is_software (domain_at P d).coord ≡ true) where
   abbrev members : List ℕ
@@ -56,12 +53,12 @@ module _ (P : CppcPlan) (S : CppcNumbers) (d p : ℕ) (soft : is_software (domai
   pub stands_least : (v : ℕ) → Satisfies P S d v → standing P S d p ≤ v
   stands_least v h =
       let is = stands in
-      let asks = max-least (ask_of S) v 0 members (omega arith) (listed (λ q. ask_of S q ≤ v) members (λ q m. (h q m).0)) in
-      let minima = max-least (minimum_of S) v 0 members (omega arith) (listed (λ q. minimum_of S q ≤ v) members (λ q m. (h q m).1)) in
+      let asks = max-least (ask_of S) v 0 members (omega arith) (each_member (λ q. ask_of S q ≤ v) members (λ q m. (h q m).0)) in
+      let minima = max-least (minimum_of S) v 0 members (omega arith) (each_member (λ q. minimum_of S q ≤ v) members (λ q m. (h q m).1)) in
       omega (arith, is, asks, minima)
 
   allowed_most : (v : ℕ) → v ≤ any_performance → IsAllowed P S d v → v ≤ maximum
-  allowed_most v le h = fold_min-least (maximum_of S) v any_performance members le (listed (λ q. v ≤ maximum_of S q) members h)
+  allowed_most v le h = fold_min-least (maximum_of S) v any_performance members le (each_member (λ q. v ≤ maximum_of S q) members h)
 
   satisfied_from : (v : ℕ) → ask ≤ v → minimum ≤ v → Satisfies P S d v
   satisfied_from v asks minima q m =

@@ -12,6 +12,7 @@ use Rattle.pw_cppc.specs.declared.entry.CppcEntry.{CppcEntry}
 use Rattle.pw_cppc.specs.declared.numbers.CppcNumbers.{CppcNumbers}
 use Rattle.pw_cppc.specs.States.{opening}
 use Rattle.pw_cppc.specs.History.{FaultIsLast, Faultless, FaultsFit, Legal, MayFollow, StatesRequest, after_entry, entry_of, entry_ops, fault_at, history_ops, ops_from, replay, replay_from, request_of, requests}
+use Rattle.pw_model.proofs.Joining.{each_first, each_last}
 
 -- # Entries
 
@@ -64,14 +65,6 @@ last_of_first : (es fs : List CppcEntry) → FaultIsLast (es ++ fs) → FaultIsL
 last_of_first [] fs a = tt
 last_of_first (d ∷ []) fs a = tt
 last_of_first (d ∷ f ∷ es) fs a = (a.0, last_of_first (f ∷ es) fs a.1)
-
-each_first : {X : Type 0} (Q : X → Type 0) (xs ys : List X) → AllByRecursion Q (xs ++ ys) → AllByRecursion Q xs
-each_first Q [] ys a = tt
-each_first Q (x ∷ xs) ys a = (a.0, each_first Q xs ys a.1)
-
-each_last : {X : Type 0} (Q : X → Type 0) (xs ys : List X) → AllByRecursion Q (xs ++ ys) → AllByRecursion Q ys
-each_last Q [] ys a = a
-each_last Q (x ∷ xs) ys a = each_last Q xs ys a.1
 
 module _ (P : CppcPlan) where
   fit_first : (S : CppcNumbers) (es fs : List CppcEntry) → FaultsFit P S (es ++ fs) → FaultsFit P S es

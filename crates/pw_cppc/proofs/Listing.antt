@@ -15,11 +15,7 @@ use Rattle.pw_cppc.specs.Parts.{has_cpc}
 use Rattle.pw_cppc.specs.Domains.{AreDomains, IsDomain, domain_led_by, domains_of, leads, members_of, shown, together, why_unfit}
 use Rattle.pw_cppc.proofs.Kept.{all_range, each_made, first_least, in_range, kept_each, kept_has, kept_only, kept_rises, made_sorted, range_all}
 use Rattle.pw_cppc.proofs.Together.{together_back, together_itself, together_second, together_through}
-
-pub same_truth : (a b : Bool) → (a ≡ true → b ≡ true) → (b ≡ true → a ≡ true) → a ≡ b
-same_truth true b f g = sym (f refl)
-same_truth false true f g = g refl
-same_truth false false f g = refl
+use Rattle.pw_base.proofs.Facts.{same_truth}
 
 -- whether a domain's first member is before that of another
 abbrev pub stands_before : CppcDomain → CppcDomain → Bool

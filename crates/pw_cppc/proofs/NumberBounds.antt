@@ -5,7 +5,7 @@ use Rattle.std.specs.List.{flat_map, range_with_len}
 use Rattle.std.proofs.lemmas.List.Sums.{sum_by-cons}
 use Rattle.acpi_values.specs.declared.dependency.Coord.{Coord}
 use Rattle.acpi_values.specs.declared.dependency.Coord.TheVariants.{HwAll, SwAll, SwAny}
-use Rattle.pw_plan.specs.Requests.{set_by}
+use Rattle.pw_plan.specs.Requests.{set_count}
 use Rattle.pw_model.specs.Operations.{set_at}
 use Rattle.pw_cppc.specs.declared.parts.Control.TheVariants as controls
 use Rattle.pw_cppc.specs.declared.plan.CppcPlan.{CppcPlan}
@@ -20,6 +20,7 @@ use Rattle.pw_cppc.specs.States.{changed, stands}
 use Rattle.pw_cppc.specs.Answers.{if_accepted, refusal}
 use Rattle.pw_cppc.specs.Operations.{bound_ops, opening_ops, opening_ops_of, ops_of, set_on, standing_ops}
 use Rattle.pw_cppc.proofs.Counting.{opening_of_length, set_on_le}
+use Rattle.pw_model.proofs.Bounds.{set_at-length, total}
 
 -- # Requests
 
@@ -36,16 +37,11 @@ each-le P v (m ∷ ms) =
     let both = length-append (set_on P controls.Desired m v) (flat_map (λ q. set_on P controls.Desired q v) ms) in
     omega (arith, here, later, both)
 
-set_at-length : (coord : Coord) (members : List ℕ) (p : ℕ) → length (set_at coord members p) ≡ set_by coord (length members)
-set_at-length SwAll members p = refl
-set_at-length SwAny members p = refl
-set_at-length HwAll members p = refl
-
-standing_ops-le : (P : CppcPlan) (S T : CppcNumbers) (p : ℕ) → length (standing_ops P S T p) ≤ set_by (domain_at P (domain_of P p)).coord (length (domain_at P (domain_of P p)).members)
+standing_ops-le : (P : CppcPlan) (S T : CppcNumbers) (p : ℕ) → length (standing_ops P S T p) ≤ set_count (domain_at P (domain_of P p)).coord (length (domain_at P (domain_of P p)).members)
 standing_ops-le P S T p = step (stands P S p == stands P T p)
   where
     step : (b : Bool) → length (cond b [] (flat_map (λ q. set_on P controls.Desired q (stands P T p)) (set_at (domain_at P (domain_of P p)).coord (domain_at P (domain_of P p)).members p)))
-        ≤ set_by (domain_at P (domain_of P p)).coord (length (domain_at P (domain_of P p)).members)
+        ≤ set_count (domain_at P (domain_of P p)).coord (length (domain_at P (domain_of P p)).members)
     step true = omega arith
     step false =
         let le = each-le P (stands P T p) (set_at (domain_at P (domain_of P p)).coord (domain_at P (domain_of P p)).members p) in
@@ -65,20 +61,6 @@ ops_of-le P S q = step (refusal P S q)
         omega (arith, own, domain, both)
 
 -- # The start
-
-total : {X Y : Type 0} (f : ℕ → List Y) (g : X → ℕ) (d : X) (xs : List X) (k : ℕ) → ((i : ℕ) → i < length xs → length (f (k + i)) ≡ g (get_or xs i d))
-    → length (flat_map f (range_with_len k (length xs))) ≡ sum_by g xs
-total f g d [] k h = refl
-total f g d (x ∷ xs) k h =
-    let here : length (f k) ≡ g x = rw k+0 at (h 0 (omega arith)) in
-    let later = total f g d xs (k + 1) (λ i lt. rw (same i) (h (suc i) (omega arith))) in
-    rw (length-append (f k) (flat_map f (range_with_len (k + 1) (length xs))), sum_by-cons) (omega (arith, here, later))
-  where
-    k+0 : k + 0 ≡ k
-    k+0 = omega arith
-
-    same : (i : ℕ) → (k + 1) + i ≡ k + suc i
-    same i = omega arith
 
 pub opening_ops-length : (P : CppcPlan) → length (opening_ops P) ≡ opening_bound P
 unfolding opening_ops

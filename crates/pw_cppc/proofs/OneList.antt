@@ -14,31 +14,10 @@ use Rattle.pw_cppc.specs.declared.plan.CppcDomain.{CppcDomain}
 use Rattle.pw_cppc.specs.Parts.{has_cpc}
 use Rattle.pw_cppc.specs.Domains.{AreDomains, IsDomain, domains_of, shown, together, why_unfit}
 use Rattle.pw_cppc.proofs.Kept.{member_each}
-use Rattle.pw_cppc.proofs.Listing.{are_domains, same_truth, stands_before}
+use Rattle.pw_cppc.proofs.Listing.{are_domains, stands_before}
 use Rattle.pw_cppc.proofs.Soundness.{exists, not_after}
-
--- # Numbers that rise are known by who is among them
-
-in_member : (xs : List ℕ) (q : ℕ) → has_member xs q ≡ true → In q xs
-in_member [] q e = cc
-in_member (x ∷ xs) q e = step (x == q) refl e (in_member xs q)
-  where
-    step : (b : Bool) → (x == q) ≡ b → (b || has_member xs q) ≡ true → (has_member xs q ≡ true → In q xs) → (q ≡ x) ⊎ In q xs
-    step true h e later = inl (sym (eqb-true x q h))
-    step false h e later = inr (later e)
-
-member_in : (xs : List ℕ) (q : ℕ) → In q xs → has_member xs q ≡ true
-member_in [] q i = absurd i
-member_in (x ∷ xs) q (inl e) = or_left (x == q) (has_member xs q) (eq-eqb x q (sym e))
-member_in (x ∷ xs) q (inr i) = or_right (x == q) (has_member xs q) (member_in xs q i)
-
-above : (x low : ℕ) (xs : List ℕ) → x < low → Rises low xs → AllByRecursion (λ y. nat_lt x y ≡ true) xs
-above x low [] lt r = tt
-above x low (y ∷ ys) lt r = let a = r.0 in (lt-ltb x y (omega (arith, a, lt)), above x (suc y) ys (omega (arith, a, lt)) r.1)
-
-rises_sorted : (low : ℕ) (xs : List ℕ) → Rises low xs → Sorted nat_lt xs
-rises_sorted low [] r = tt
-rises_sorted low (x ∷ xs) r = (above x (suc x) xs (omega arith) r.1, rises_sorted (suc x) xs r.1)
+use Rattle.pw_base.proofs.Facts.{same_truth}
+use Rattle.pw_plan.proofs.OneDomains.{in_member, member_in, above, rises_sorted}
 
 -- # A domain is known by its members
 

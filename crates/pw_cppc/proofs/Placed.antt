@@ -12,19 +12,7 @@ use Rattle.pw_plan.proofs.Grouping.{member_bound}
 use Rattle.pw_cppc.specs.declared.plan.CppcPlan.{CppcPlan}
 use Rattle.pw_cppc.specs.Sound.{covers, domain_in, no_domain}
 use Rattle.pw_cppc.specs.Planning.{domain_of}
-
-get_some : {X : Type 0} (xs : List X) (p : ℕ) (d : X) → p < length xs → slice_get xs p ≡ Some (get_or xs p d)
-get_some [] p d lt = absurd (omega arith)
-get_some (x ∷ xs) zero d lt = refl
-get_some (x ∷ xs) (suc p) d lt = get_some xs p d (omega arith)
-
-get_none : {X : Type 0} (xs : List X) (p : ℕ) → length xs ≤ p → slice_get xs p ≡ None
-get_none [] p le = refl
-get_none (x ∷ xs) zero le = absurd (omega arith)
-get_none (x ∷ xs) (suc p) le = get_none xs p (omega arith)
-
-place_le : {X : Type 0} (t : X → Bool) (xs : List X) → position_or_len t xs ≤ length xs
-place_le t xs = prefix_len-le-length (λ x. not (t x)) xs
+use Rattle.pw_plan.proofs.Memberships.{get_some, get_none, place_le}
 
 -- what the place of the first that passes tells
 position_is : {X : Type 0} (t : X → Bool) (xs : List X) → MatchOption (position t xs) (position_or_len t xs ≡ length xs) (λ d. (position_or_len t xs ≡ d) × (d < length xs))

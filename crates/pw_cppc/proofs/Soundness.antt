@@ -21,16 +21,9 @@ use Rattle.pw_cppc.specs.Sound.{IsSound, covers, no_domain}
 use Rattle.pw_cppc.proofs.Kept.{first_least, kept_length, member_all, member_each}
 use Rattle.pw_cppc.proofs.Listing.{all_are, each_domain, in_order, list_is, placed, stands_before}
 use Rattle.pw_cppc.proofs.Together.{together_back, together_through}
+use Rattle.pw_base.proofs.Facts.{is_false, or_none}
 
 -- # At most one domain has a processor
-
-is_false : (b : Bool) → (b ≡ true → ⊥) → b ≡ false
-is_false true h = absurd (h refl)
-is_false false h = refl
-
-or_none : (a b : Bool) → a ≡ false → b ≡ false → (a || b) ≡ false
-or_none true b e f = cc
-or_none false b e f = f
 
 module _ (ps : List CppcParts) where
   pub exists : (d : CppcDomain) → IsDomain ps d → (p : ℕ) → has_member d.members p ≡ true → p < length ps

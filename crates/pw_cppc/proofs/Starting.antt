@@ -10,7 +10,6 @@ use Rattle.pw_base.specs.Room.{Bounded}
 use Rattle.pw_plan.specs.Groups.{has_member, is_software}
 use Rattle.pw_plan.proofs.Grouping.{member_bound}
 use Rattle.pw_plan.proofs.Lists.{and_first, and_second, or_left}
-use Rattle.pw_model.proofs.Maps.{weaker}
 use Rattle.pw_model.specs.Operations.{opening_at}
 use Rattle.pw_regs.specs.Rooms.{HasRoom}
 use Rattle.pw_cppc.specs.declared.parts.Control.TheVariants as controls
@@ -27,6 +26,7 @@ use Rattle.pw_cppc.specs.Operations.{opening_ops_of, range_ops, set_on}
 use Rattle.pw_cppc.proofs.Appending.{left_room}
 use Rattle.pw_cppc.proofs.MembersAsked.{each_member, own_number, same_number}
 use Rattle.pw_cppc.proofs.Counting.{opening_at_each, ranges_length}
+use Rattle.pw_base.proofs.Facts.{weaker}
 
 -- # Numbers that are all the same
 

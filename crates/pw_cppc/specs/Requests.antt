@@ -2,7 +2,7 @@
 use Rattle.std.specs.Prelude.{◌<◌, ◌+◌, ◌==◌, ℕ, List, [], ◌∷◌, length, sum_by, is_some, if◌then◌else◌}
 use Rattle.acpi_values.specs.declared.dependency.Coord.{Coord}
 use Rattle.acpi_values.specs.declared.dependency.Coord.TheVariants.{SwAll, SwAny, HwAll}
-use Rattle.pw_plan.specs.Requests.{set_by}
+use Rattle.pw_plan.specs.Requests.{set_count}
 use Rattle.pw_cppc.specs.declared.parts.Control.{Control}
 use Rattle.pw_cppc.specs.declared.parts.Control.TheVariants as controls
 use Rattle.pw_cppc.specs.declared.parts.CppcParts.{CppcParts}
@@ -31,7 +31,7 @@ Has P q = cpu_of q < length P.cpus
 abbrev pub ops_bound : CppcPlan → CppcRequest → ℕ
 ops_bound P q =
     let d = domain_at P (domain_of P (cpu_of q)) in
-    1 + set_by d.coord (length d.members)
+    1 + set_count d.coord (length d.members)
 
 -- # The start
 

@@ -1,5 +1,5 @@
 ghost use Rattle.std.specs.Prelude.{◌≡◌, ◌<◌, ◌≤◌, ◌+◌, length, sum_by, All};
-ghost use Rattle.pw_plan.specs.Requests.{set_by};
+ghost use Rattle.pw_plan.specs.Requests.{set_count};
 ghost use Rattle.pw_cppc.specs.declared.parts.Control.TheVariants as controls;
 ghost use Rattle.pw_cppc.specs.Parts.{parts_in};
 ghost use Rattle.pw_cppc.specs.Requests.{opened_by, register_count};
@@ -8,8 +8,8 @@ use crate::parts::{Control, CppcParts};
 use acpi_values::Coord;
 
 /// On how many members a new performance of a domain is set.
-pub fn set_by(coord: Coord, members: u32) -> u32
-    ensures { result ≡ set_by coord members }
+pub fn set_count(coord: Coord, members: u32) -> u32
+    ensures { result ≡ set_count coord members }
 {
     match coord {
         Coord::SwAll => members,

@@ -35,7 +35,7 @@ pub use plan::{CppcDomain, CppcPlan};
 pub use planning::cppc_plan;
 pub use reading::cppc_parts;
 pub use reply::CppcReply;
-pub use request::CppcRequest;
+pub use request::{CppcRequest, MOST_OF_A_REQUEST};
 pub use standings::{standing, stands};
 pub use state::CppcState;
 pub use state_laws::{

@@ -1,6 +1,6 @@
 ghost use Rattle.pw_cppc.specs.Sound.{IsPlanOf, IsSound};
 
-use crate::bounds::{bounds_of, opened_by, set_by};
+use crate::bounds::{bounds_of, opened_by, set_count};
 use crate::domains::{domains_of, places_of};
 use crate::parts::CppcParts;
 use crate::request::CppcRequest;
@@ -117,7 +117,7 @@ impl CppcPlan {
             None => 2,
             Some(place) => {
                 let domain = self.domain(place);
-                1 + set_by(domain.coord, domain.members.as_slice().len() as u32)
+                1 + set_count(domain.coord, domain.members.as_slice().len() as u32)
             }
         }
     }

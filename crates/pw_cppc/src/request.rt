@@ -1,3 +1,6 @@
+/// The most operations of one request: its own register's, and one for each processor of a domain.
+pub const MOST_OF_A_REQUEST: u32 = 257;
+
 /// What a processor asks of its performance, on the scale of its `_CPC`: a greater number is faster
 /// (ACPI 6.5, 8.4.6.1.2).
 #[derive(Clone, Copy)]

@@ -1,6 +1,6 @@
 ghost use Rattle.std.specs.Prelude.{◌≡◌, ◌<◌, ◌++◌, ◌==◌, [], length, All, if◌then◌else◌};
 ghost use Rattle.std.specs.List.{flat_map};
-ghost use Rattle.pw_plan.specs.Requests.{set_by};
+ghost use Rattle.pw_plan.specs.Requests.{set_count};
 ghost use Rattle.pw_model.specs.Operations.{set_at};
 ghost use Rattle.pw_regs.specs.Rooms.{HasRoom};
 ghost use Rattle.pw_cppc.specs.declared.parts.Control.TheVariants.{Desired};
@@ -62,10 +62,10 @@ pub fn set_bound(plan: &CppcPlan, request: CppcRequest, ops: &mut Ops)
 }
 
 /// Sets where a domain stands, if that isn't where it stood before.
-pub fn set_between(plan: &CppcPlan, place: usize, cpu: u32, before: u64, after: u64, ops: &mut Ops)
+pub fn set_changed(plan: &CppcPlan, place: usize, cpu: u32, before: u64, after: u64, ops: &mut Ops)
     requires place { place < length plan.now.domains }
     requires cpu { cpu < length plan.now.cpus }
-    requires room { HasRoom ops.old (set_by (domain_at plan.now place).coord
+    requires room { HasRoom ops.old (set_count (domain_at plan.now place).coord
         (length (domain_at plan.now place).members)) }
     ensures { ops.new ≡ record ops.old {
       elements = ops.old.elements ++ (if before == after then [] else

@@ -10,7 +10,7 @@ use crate::numbers::CppcNumbers;
 use crate::opening::opened;
 use crate::refusal::refusal;
 use crate::reply::CppcReply;
-use crate::setting::{set_between, set_bound};
+use crate::setting::{set_bound, set_changed};
 use crate::standings::standing;
 use crate::{CppcPlan, CppcRequest};
 use pw_base::Memory;
@@ -46,7 +46,7 @@ fn accept(
     change(numbers, request);
     let after = standing(plan, numbers, place, cpu);
     set_bound(plan, request, ops);
-    set_between(plan, place, cpu, before, after, ops);
+    set_changed(plan, place, cpu, before, after, ops);
     CppcReply::Stands { value: after }
 }
 

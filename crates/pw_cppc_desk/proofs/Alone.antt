@@ -23,7 +23,7 @@ module _ {R : Type 0} (by : Registers R) where
       let knows = (is_told seat_of (MayBe (given_of by key)) m i id v at).alone all in
       let h = o.home.free (knows.turn idle.no_turn) in
       record {
-        work = h.0;
+        ledger = h.0;
         there = h.1;
         held = h.2;
         seen = knows.seen ∙ sym h.3;
@@ -41,8 +41,8 @@ module _ {R : Type 0} (by : Registers R) where
   pub closes : TableCloses by
   closes key id x ws xs f idle all =
       let w = alone_whole key f.0 id x f.1.0 f.1.1 idle all in record {
-        work = w.work;
-        there = at_map some xs 0 (Some w.work) (f.4 0 (Some w.work) w.there);
+        ledger = w.ledger;
+        there = at_map some xs 0 (Some w.ledger) (f.4 0 (Some w.ledger) w.there);
         held = w.held;
         seen = w.seen;
         book = w.book;

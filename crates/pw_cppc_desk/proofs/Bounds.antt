@@ -9,7 +9,7 @@ use Rattle.acpi_values.specs.declared.dependency.Coord.TheVariants.{SwAll, SwAny
 use Rattle.acpi_values.specs.declared.operation.Op.{Op}
 use Rattle.pw_base.specs.Outside.{Rose}
 use Rattle.pw_base.specs.Room.{Bounded}
-use Rattle.pw_plan.specs.Requests.{set_by}
+use Rattle.pw_plan.specs.Requests.{set_count}
 use Rattle.pw_regs.specs.Seen.{RegistersSeen}
 use Rattle.pw_regs.specs.Doing.{Did}
 use Rattle.pw_regs.proofs.Operating.{did_by, did_within}
@@ -22,6 +22,7 @@ use Rattle.pw_cppc.specs.declared.numbers.CppcNumbers.{CppcNumbers}
 use Rattle.pw_cppc.specs.Operations.{opening_ops, ops_of}
 use Rattle.pw_cppc.proofs.NumberBounds.{opening_ops-length, ops_of-le}
 use Rattle.pw_cppc_desk.specs.Entries.{done_of}
+use Rattle.pw_plan.proofs.RequestBounds.{set_few}
 
 members_few : (P : CppcPlan) (d : ℕ) → length (domain_at P d).members ≤ 256
 unfolding no_domain
@@ -29,11 +30,6 @@ members_few P d = elim (cases_lt d (length P.domains)) [
   | inl lt ↦ P.sound.sizes d no_domain lt
   | inr ge ↦ let e : domain_at P d ≡ no_domain = get_or_past P.domains d no_domain ge in rw e (omega arith)
 ]
-
-set_few : (coord : Coord) (n : ℕ) → n ≤ 256 → set_by coord n ≤ 256
-set_few SwAll n le = le
-set_few SwAny n le = omega arith
-set_few HwAll n le = omega arith
 
 pub bound_small : (P : CppcPlan) (q : CppcRequest) → ops_bound P q ≤ 257
 bound_small P q =

@@ -16,17 +16,17 @@ use Rattle.pw_cppc.specs.History.{Faultless, entry_ops, fault_at, history_ops, r
 use Rattle.pw_cppc.specs.Operations.{opening_ops, ops_of}
 use Rattle.pw_cppc.proofs.Joining.{faultless_none, request_of-entry}
 use Rattle.pw_cppc_desk.specs.Entries.{done_of, entry_as}
-use Rattle.pw_cppc_desk.specs.Worked.{IsWorkOf, Worked}
+use Rattle.pw_cppc_desk.specs.Ledgered.{IsLedgerOf, Ledgered}
 use Rattle.pw_cppc_desk.proofs.Entering.{fault_of_stopped, faultless_done, ops_done, ops_more, ops_stopped}
 use Rattle.pw_cppc_desk.specs.Slots.{Given, IsHeld, bound_of}
 
-no_ops : (P : CppcPlan) → history_ops P [] ≡ []
+pub no_ops : (P : CppcPlan) → history_ops P [] ≡ []
 unfolding history_ops
 no_ops P = refl
 
 module _ {R : Type 0} (by : Registers R) (given : Given) where
   -- The operations of the start were done.
-  pub held_first : (w : Worked R) (old : R) → IsWorkOf given.plan w → w.entries ≡ [] → w.capacity ≡ given.capacity
+  pub held_first : (w : Ledgered R) (old : R) → IsLedgerOf given.plan w → w.entries ≡ [] → w.capacity ≡ given.capacity
       → registers_seen by old ≡ given.regs
       → Did (opening_bound given.plan) (opening_ops given.plan) None (registers_seen by old) (registers_seen by w.regs) → IsHeld by given w
   held_first w old of empty capacity was did =
@@ -43,7 +43,7 @@ module _ {R : Type 0} (by : Registers R) (given : Given) where
       }
 
   -- One more request was made, of whose operations those of its entry were done.
-  pub held_more : (old new : Worked R) (e : CppcEntry) → IsHeld by given old → Faultless old.entries → IsWorkOf given.plan new
+  pub held_more : (old new : Ledgered R) (e : CppcEntry) → IsHeld by given old → Faultless old.entries → IsLedgerOf given.plan new
       → new.capacity ≡ old.capacity → new.entries ≡ old.entries ++ e ∷ []
       → Did (ops_bound given.plan (request_of e)) (entry_ops given.plan (replay given.plan old.entries) e) (fault_at new.entries)
       (registers_seen by old.regs) (registers_seen by new.regs)
@@ -67,8 +67,8 @@ module _ {R : Type 0} (by : Registers R) (given : Given) where
         did = subst (λ l. Did (bound_of P l) (run_ops P None l) (fault_at fs) given.regs now) (sym entry) all;
       }
 
-  held_entry : (old new : Worked R) (seat : ℕ) (q : CppcRequest) (fault : ℕ) (done : List Op) (stopped : Option ℕ) → IsHeld by given old
-      → Faultless old.entries → IsWorkOf given.plan new → new.capacity ≡ old.capacity
+  held_entry : (old new : Ledgered R) (seat : ℕ) (q : CppcRequest) (fault : ℕ) (done : List Op) (stopped : Option ℕ) → IsHeld by given old
+      → Faultless old.entries → IsLedgerOf given.plan new → new.capacity ≡ old.capacity
       → new.entries ≡ old.entries ++ entry_as seat q fault ∷ []
       → done ≡ entry_ops given.plan (replay given.plan old.entries) (entry_as seat q fault) → stopped ≡ fault_at new.entries
       → Did (ops_bound given.plan q) done stopped (registers_seen by old.regs) (registers_seen by new.regs) → IsHeld by given new
@@ -79,8 +79,8 @@ module _ {R : Type 0} (by : Registers R) (given : Given) where
       (sym (request_of-entry seat fault q)) (did_as (ops_bound P q) done part stopped (fault_at new.entries) was now ops last did))
 
   -- So it is where the work of a turn made a request, whatever came of it.
-  pub held_made : {X : Type 0} (old new : Worked R) (seat : ℕ) (q : CppcRequest) (result : Result X ℕ) → IsHeld by given old
-      → Faultless old.entries → IsWorkOf given.plan new → new.capacity ≡ old.capacity
+  pub held_made : {X : Type 0} (old new : Ledgered R) (seat : ℕ) (q : CppcRequest) (result : Result X ℕ) → IsHeld by given old
+      → Faultless old.entries → IsLedgerOf given.plan new → new.capacity ≡ old.capacity
       → OnOk result (new.entries ≡ old.entries ++ entry_as seat q 0 ∷ [])
       → IfErr result (λ k. new.entries ≡ old.entries ++ entry_as seat q (k + 1) ∷ [])
       → Did (ops_bound given.plan q) (done_of result (ops_of given.plan (replay given.plan old.entries) q)) (result_err result)

@@ -13,24 +13,24 @@ use Rattle.pw_books.specs.Books.{IsPrefix, count_in, furthest}
 use Rattle.pw_books.specs.Sums.{AtMost}
 use Rattle.pw_books.specs.Machine.{Machine, spent_view}
 use Rattle.pw_books.specs.Steps.{IsSpare, draw_number, drawn, join_seats, joined, left_of, looked, miss_draw, missed, read_made, right_of, split_seat, after}
-use Rattle.pw_books.proofs.Lists.{at_set, at_snoc, elem_below, off, term_le}
+use Rattle.pw_books.proofs.Lists.{at_set, at_snoc, elem_below, off, term_le, last_or_before}
 use Rattle.pw_books.proofs.Books.{begins_furthest, longer_both}
 use Rattle.pw_books.proofs.Told.{is_told}
-use Rattle.pw_cppc_desk.specs.declared.limit.Limit.{Limit}
+use Rattle.pw_cppc_desk.specs.declared.setup.Setup.{Setup}
 use Rattle.pw_cppc_desk.specs.Slots.{Homes, MayBe, seat_of}
 use Rattle.pw_cppc_desk.specs.Rule.{IsHome, given_of}
 use Rattle.pw_cppc_desk.specs.Plays.{drew_step}
 use Rattle.pw_books.specs.Law.{opened}
 use Rattle.pw_cppc_desk.specs.declared.track.Track.{Track}
 use Rattle.pw_cppc_desk.specs.Tracks.{did, joined_track, left_track, right_track, spent_track}
-use Rattle.pw_cppc_desk.proofs.Running.{at_end, map-set, map-snoc, none_past, one_more, steps_there}
+use Rattle.pw_cppc_desk.proofs.Running.{map-set, map-snoc, none_past, one_more, steps_there}
 use Rattle.std.proofs.lemmas.List.{length-map, length-set}
 use Rattle.pw_cppc_desk.specs.Moves.{NumberIsDrawn, NumberIsRead, SeatIsSplit, SeatsAreJoined}
 use Rattle.pw_cppc_desk.proofs.Shown.{Goes, none_marked, shows, inv_of, view_at, own_more}
 use Rattle.pw_cppc_desk.proofs.Keeping.{kept_joined, kept_split}
 
 module _ {R : Type 0} (by : Registers R) where
-  home_after : (key : Limit R) (m : Machine CppcEntry) (hs : Homes R) (vs : List (View CppcEntry)) (made : ℕ) → IsHome by (given_of by key) m hs
+  home_after : (key : Setup R) (m : Machine CppcEntry) (hs : Homes R) (vs : List (View CppcEntry)) (made : ℕ) → IsHome by (given_of by key) m hs
       → ((k : ℕ) (u : View CppcEntry) → get_elem? vs k ≡ some u → u.mark ≡ true → ⊥)
       → IsHome by (given_of by key) record m { made = made; views = vs } hs
   home_after key m hs vs made h unmarked = record { free = h.free; blank = λ k u there mark home. absurd (unmarked k u there mark) }
@@ -132,7 +132,7 @@ module _ {R : Type 0} (by : Registers R) where
             ∙ (sym (none_past Good opened o.run mach j o.ran (omega (arith, wide, e.0, length-set s.views id here)))
             ∙ sym (steps_there o.run id j v (split_seat n parts)
             (λ same. omega (arith, same, e.0, length-set s.views id here, elem_below s.views id x me)))))
-            (at_end (set s.views id here) new t j there);
+            (last_or_before (set s.views id here) new t j there);
         kept = kept_split o.run s.views o.kept id x me (o.own id x me idle.live) v (split_seat n parts) l r
             (steps_there o.run id (length s.views) v (split_seat n parts) (λ same. omega (arith, same, elem_below s.views id x me))
             ∙ none_past Good opened o.run mach (length s.views) o.ran (omega (arith, wide)));

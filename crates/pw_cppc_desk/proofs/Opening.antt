@@ -64,9 +64,9 @@ module _ {R : Type 0} (by : Registers R) where
 
   -- the value comes into its slot, with the operations of the start done, and the turn is released: two steps of the machine
   pub opens_desk : DeskIsOpened by
-  opens_desk n key id x more work m slots is new = subst (λ (m : Tracked R). Allows (Ruled by key) n id m 1 (λ _. 0)
-      (λ r. opened_step (by.faults work.regs) (step n 1 0 0 none) m r)) (sym is) (λ s o wide me _.
-      let mach = o.machine in let i = inv_of by key s o in let count = by.faults work.regs in let Good = MayBe (given_of by key) in
+  opens_desk n key id x more ledger m slots is new = subst (λ (m : Tracked R). Allows (Ruled by key) n id m 1 (λ _. 0)
+      (λ r. opened_step (by.faults ledger.regs) (step n 1 0 0 none) m r)) (sym is) (λ s o wide me _.
+      let mach = o.machine in let i = inv_of by key s o in let count = by.faults ledger.regs in let Good = MayBe (given_of by key) in
       let v = x.view in let at : get_elem? mach.views id ≡ some v = view_at by key s o id x me in
       let op = i.opens id v at new.marked in let live = live_holds seat_of Good mach i id v at op.turn in
       let v2 = in_place v in let m2 = after seat_of mach id v slot_back in
@@ -100,7 +100,7 @@ module _ {R : Type 0} (by : Registers R) where
               (ap (λ l. l ++ slot_back ∷ []) (o.own id x me live) ∙ sym (steps_here o.run id v slot_back)) v2
               (release_without_entry count) w);
           home = record {
-            free = λ _. (work, set_here s.homes 0 (some (Some work)) (omega (arith, wide, slots)), new.held, new.entries ∙ sym op.empty);
+            free = λ _. (ledger, set_here s.homes 0 (some (Some ledger)) (omega (arith, wide, slots)), new.held, new.entries ∙ sym op.empty);
             blank = λ y u there mark home. absurd (none_marked by key s o id v w at live refl y u
                 (subst (λ l. get_elem? l y ≡ some u) twice there) mark);
           };

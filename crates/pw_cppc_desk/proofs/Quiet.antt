@@ -15,11 +15,11 @@ use Rattle.pw_books.specs.Told.{MeetsOther}
 use Rattle.pw_books.specs.Steps.{Kind, May, after, take_turn, find_held, slot_out, slot_back, release_with_entry, release_without_entry}
 use Rattle.pw_books.specs.Steps.{draw_number, miss_draw, split_seat, join_seats, read_made, joined, left_of, right_of}
 use Rattle.pw_books.specs.Books.{count_in}
-use Rattle.pw_books.proofs.Lists.{at_set, at_snoc, bit_zero}
+use Rattle.pw_books.proofs.Lists.{at_set, at_snoc, bit_zero, some_at}
 use Rattle.pw_books.proofs.Keeps.{opens, step_keeps}
 use Rattle.pw_books.proofs.Told.{is_told}
 use Rattle.pw_books.proofs.Turns.{holder}
-use Rattle.pw_cppc_desk.specs.declared.limit.Limit.{Limit}
+use Rattle.pw_cppc_desk.specs.declared.setup.Setup.{Setup}
 use Rattle.pw_cppc_desk.specs.declared.track.Track.{Track}
 use Rattle.pw_cppc_desk.specs.Slots.{MayBe, seat_of}
 use Rattle.pw_cppc_desk.specs.Rule.{given_of}
@@ -113,16 +113,11 @@ quiet Good m inv j none (s ∷ ss) n st alone =
     subst NoFind (ap (λ b. cond b (own_kind s.2 ∷ steps_of j ss) (steps_of j ss)) (sym (eq-eqb s.0 j same)))
     ((λ f. not_find Good m inv j s.1 at none s.2 may (own_find s.2 f)), rest)
 
-some_at : {A : Type 0} (l : List A) (i : ℕ) → i < length l → (a : A) × (get_elem? l i ≡ some a)
-some_at [] i h = absurd (omega (arith, h))
-some_at (x ∷ xs) zero h = (x, refl)
-some_at (x ∷ xs) (suc i) h = some_at xs i (omega (arith, h))
-
 start_holds : OthersHoldNone opened 0
 start_holds zero u ne there = absurd (ne refl)
 start_holds (suc i) u ne there = absurd (some-ne-none u (sym there))
 
-module _ {R : Type 0} (by : Registers R) (key : Limit R) where
+module _ {R : Type 0} (by : Registers R) (key : Setup R) where
   from_start : (j : ℕ) (run : Run) (n : Machine CppcEntry) → Steps seat_of (MayBe (given_of by key)) opened run n → ((i : ℕ) → i ≢ j → steps_of i run ≡ [])
       → NoFind (steps_of j run)
   from_start zero run n st alone =

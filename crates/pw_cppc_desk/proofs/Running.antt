@@ -81,11 +81,3 @@ module _ {A B : Type 0} (f : A → B) where
   pub map-snoc : (l : List A) (a : A) → map f (l ++ a ∷ []) ≡ map f l ++ f a ∷ []
   map-snoc [] a = refl
   map-snoc (x ∷ xs) a = ap (λ l. f x ∷ l) (map-snoc xs a)
-
--- what is found in a list with one more is found before, or is the last
-pub at_end : {A : Type 0} (l : List A) (a b : A) (j : ℕ) → get_elem? (l ++ a ∷ []) j ≡ some b
-    → (get_elem? l j ≡ some b) ⊎ ((j ≡ length l) × (a ≡ b))
-at_end [] a b zero e = inr (refl, some-injective a b e)
-at_end [] a b (suc j) e = absurd (some-ne-none b (sym e))
-at_end (x ∷ xs) a b zero e = inl e
-at_end (x ∷ xs) a b (suc j) e = ⊎_elim (λ h. inl h) (λ h. inr (ap suc h.0, h.1)) (at_end xs a b j e)

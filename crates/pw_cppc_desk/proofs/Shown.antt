@@ -6,7 +6,7 @@ use Rattle.atomic_table.specs.Table.{Act, State, Valid, carried_after, stepped}
 use Rattle.std.specs.Prelude.{Option}
 use Rattle.pw_regs.specs.declared.registers.Registers.{Ghosts as Registers}
 use Rattle.pw_cppc.specs.declared.entry.CppcEntry.{CppcEntry}
-use Rattle.pw_cppc_desk.specs.Worked.{Worked}
+use Rattle.pw_cppc_desk.specs.Ledgered.{Ledgered}
 use Rattle.pw_books.specs.declared.view.View.{View}
 use Rattle.pw_books.specs.Steps.{Kind, May, after}
 use Rattle.pw_books.proofs.Lists.{at_set, off}
@@ -20,36 +20,36 @@ use Rattle.pw_cppc_desk.specs.declared.track.Track.{Track}
 use Rattle.pw_cppc_desk.specs.Tracks.{did, own_kind, steps_of}
 use Rattle.pw_cppc_desk.proofs.Running.{map-set, one_more, steps_here, steps_there}
 use Rattle.pw_cppc_desk.proofs.Keeping.{kept_more}
-use Rattle.pw_cppc_desk.specs.declared.limit.Limit.{Limit}
+use Rattle.pw_cppc_desk.specs.declared.setup.Setup.{Setup}
 use Rattle.pw_cppc_desk.specs.Slots.{Given, Homes, IsHeld, MayBe, seat_of}
 use Rattle.pw_cppc_desk.specs.Rule.{IsHome, Ruled, given_of, words_of}
 use Rattle.pw_cppc_desk.specs.Plays.{Tracked}
 
 abbrev pub Table : Type 0 → Type 0
-Table R = State (Option (Worked R)) Track
+Table R = State (Option (Ledgered R)) Track
 
 module _ {R : Type 0} (by : Registers R) where
   -- the entries of what is held are a history that may be
-  pub held_may : (given : Given) (w : Worked R) → IsHeld by given w → MayBe given w.entries
+  pub held_may : (given : Given) (w : Ledgered R) → IsHeld by given w → MayBe given w.entries
   held_may given w h = record { legal = h.of.legal; room = subst (λ n. length w.entries ≤ n) h.capacity h.of.within }
 
-  abbrev pub Goes : Limit R → Table R → ℕ → ℕ → Tracked R → (ℕ → Tracked R → Type 0) → ℕ → Type 0
-  Goes key s i id m then k = (w : Track) × (a : Act (Option (Worked R))) × Valid s.homes m.1 a
+  abbrev pub Goes : Setup R → Table R → ℕ → ℕ → Tracked R → (ℕ → Tracked R → Type 0) → ℕ → Type 0
+  Goes key s i id m then k = (w : Track) × (a : Act (Option (Ledgered R))) × Valid s.homes m.1 a
       × Ruled by key (stepped s i k id m.1 w a) × then (get_or s.words i 0) (w, carried_after m.1 a)
 
   -- what the run keeps
-  pub good_first : (key : Limit R) → MayBe (given_of by key) []
+  pub good_first : (key : Setup R) → MayBe (given_of by key) []
   good_first key = record { legal = legal-empty key.plan; room = omega arith }
 
-  pub inv_of : (key : Limit R) (s : Table R) (o : Ruled by key s) → Invariant seat_of (MayBe (given_of by key)) o.machine
+  pub inv_of : (key : Setup R) (s : Table R) (o : Ruled by key s) → Invariant seat_of (MayBe (given_of by key)) o.machine
   inv_of key s o = law seat_of (MayBe (given_of by key)) o.run o.machine (good_first key) o.ran
 
-  pub view_at : (key : Limit R) (s : Table R) (o : Ruled by key s) (id : ℕ) (x : Track) → get_elem? s.views id ≡ some x
+  pub view_at : (key : Setup R) (s : Table R) (o : Ruled by key s) (id : ℕ) (x : Track) → get_elem? s.views id ≡ some x
       → get_elem? o.machine.views id ≡ some x.view
   view_at key s o id x at = subst (λ l. get_elem? l id ≡ some x.view) o.views (at_map (λ (t : Track). t.view) s.views id x at)
 
   -- each live seat's steps are its own after one more step of one of them
-  pub own_more : (key : Limit R) (s : Table R) (o : Ruled by key s) (id : ℕ) (x : Track) (k : Kind CppcEntry) (y : Track)
+  pub own_more : (key : Setup R) (s : Table R) (o : Ruled by key s) (id : ℕ) (x : Track) (k : Kind CppcEntry) (y : Track)
       → get_elem? s.views id ≡ some x → 0 < x.view.parts → y.own ≡ x.own ++ own_kind k ∷ [] → (j : ℕ) (t : Track)
       → get_elem? (set s.views id y) j ≡ some t → 0 < t.view.parts → t.own ≡ steps_of j (o.run ++ (id, x.view, k) ∷ [])
   own_more key s o id x k y at live grows j t there lives = ⊎_elim
@@ -61,7 +61,7 @@ module _ {R : Type 0} (by : Registers R) where
       (at_set s.views id j y t there)
 
   -- a seat takes a step
-  pub shows : (key : Limit R) (s : Table R) (o : Ruled by key s) (id : ℕ) (x : Track) (k : Kind CppcEntry) (w : View CppcEntry) (ws : List ℕ) (hs : Homes R)
+  pub shows : (key : Setup R) (s : Table R) (o : Ruled by key s) (id : ℕ) (x : Track) (k : Kind CppcEntry) (w : View CppcEntry) (ws : List ℕ) (hs : Homes R)
       → get_elem? s.views id ≡ some x → 0 < x.view.parts → May seat_of (MayBe (given_of by key)) o.machine id x.view k
       → (after seat_of o.machine id x.view k).views ≡ set o.machine.views id w
       → ws ≡ words_of (after seat_of o.machine id x.view k)
@@ -78,7 +78,7 @@ module _ {R : Type 0} (by : Registers R) where
     home = home;
   }
 
-  module _ (key : Limit R) (s : Table R) (o : Ruled by key s) where
+  module _ (key : Setup R) (s : Table R) (o : Ruled by key s) where
     -- where a view without the mark steps, no view has it after the step
     pub none_marked : (id : ℕ) (v w : View CppcEntry) → get_elem? o.machine.views id ≡ some v → 0 < v.parts → w.mark ≡ false
         → (k : ℕ) (u : View CppcEntry) → get_elem? (set o.machine.views id w) k ≡ some u → u.mark ≡ true → ⊥

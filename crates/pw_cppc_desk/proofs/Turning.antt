@@ -27,10 +27,10 @@ module _ {R : Type 0} (by : Registers R) where
       let found : get_or s.words 1 0 ≡ mach.turn = ap (λ ws. get_or ws 1 0) o.words in
       exchanged (get_or s.words 1 0) 0 new (Goes by key s 1 id m then)
       (λ hit.
-      let free : mach.turn ≡ 0 = sym found ∙ hit in let h = o.home.free free in let work = h.0 in
-      let count = by.faults work.regs in let w = led mach.history count m.0.view in (
+      let free : mach.turn ≡ 0 = sym found ∙ hit in let h = o.home.free free in let ledger = h.0 in
+      let count = by.faults ledger.regs in let w = led mach.history count m.0.view in (
         did (take_turn count) w m.0,
-        takes 0 (Some work),
+        takes 0 (Some ledger),
         h.1,
         shows by key s o id m.0 (take_turn count) w (set s.words 1 new) (set s.homes 0 none) me idle.live (idle, free) refl
             (ap (λ ws. set ws 1 new) o.words ∙ ap (λ x. mach.made ∷ x ∷ []) is)
@@ -41,9 +41,9 @@ module _ {R : Type 0} (by : Registers R) where
         (
           (
             (λ _. (
-              work,
+              ledger,
               record {
-                is = ap (λ l. (led l count m.0.view, (0, Some work) ∷ m.1)) (sym h.3);
+                is = ap (λ l. (led l count m.0.view, (0, Some ledger) ∷ m.1)) (sym h.3);
                 held = h.2;
                 seen = subst (λ l. Begins l m.0.view.seen) (sym h.3) f.reads.begins;
                 book = subst (Knows seat_of m.0.view.book) (sym h.3) f.reads.lists;
@@ -80,47 +80,47 @@ module _ {R : Type 0} (by : Registers R) where
       ))
 
   pub enters : EntryIsMade by
-  enters n key id x more work e m slots is grown = subst (λ (m : Tracked R). Allows (Ruled by key) n id m 1 (λ _. 0)
-      (λ r. put_step e (by.faults work.regs) (step n 1 0 0 none) m r)) (sym is) (λ s o wide me _.
-      let mach = o.machine in let i = inv_of by key s o in let count = by.faults work.regs in let Good = MayBe (given_of by key) in
+  enters n key id x more ledger e m slots is grown = subst (λ (m : Tracked R). Allows (Ruled by key) n id m 1 (λ _. 0)
+      (λ r. put_step e (by.faults ledger.regs) (step n 1 0 0 none) m r)) (sym is) (λ s o wide me _.
+      let mach = o.machine in let i = inv_of by key s o in let count = by.faults ledger.regs in let Good = MayBe (given_of by key) in
       let v = x.view in let at : get_elem? mach.views id ≡ some v = view_at by key s o id x me in
       let live = live_holds seat_of Good mach i id v at grown.turn in
-      let history : work.entries ≡ mach.history ++ e ∷ [] = grown.entries ∙ ap (λ l. l ++ e ∷ []) ((i.fits id v at).leader grown.turn) in
+      let history : ledger.entries ≡ mach.history ++ e ∷ [] = grown.entries ∙ ap (λ l. l ++ e ∷ []) ((i.fits id v at).leader grown.turn) in
       let may : Enters seat_of Good mach v e = record {
         turn = grown.turn;
         unmarked = grown.unmarked;
         back = grown.none_out;
         seat = grown.seat;
-        good = subst Good history (held_may by (given_of by key) work grown.held);
+        good = subst Good history (held_may by (given_of by key) ledger grown.held);
       } in
       let w = entered seat_of e count v in (
         did (release_with_entry e count) w x,
         gives,
         tt,
-        shows by key s o id x (release_with_entry e count) w (set s.words 1 0) (set s.homes 0 (some (Some work))) me live may refl
+        shows by key s o id x (release_with_entry e count) w (set s.words 1 0) (set s.homes 0 (some (Some ledger))) me live may refl
             (ap (λ ws. set ws 1 0) o.words)
             record {
-              free = λ _. (work, set_here s.homes 0 (some (Some work)) (omega (arith, wide, slots)), grown.held, history);
+              free = λ _. (ledger, set_here s.homes 0 (some (Some ledger)) (omega (arith, wide, slots)), grown.held, history);
               blank = λ y u there mark home. absurd (none_marked by key s o id v w at live grown.unmarked y u there mark);
             },
         (refl, refl),
       ))
 
   pub lets_go : TurnIsLetGo by
-  lets_go n key id x more work m slots is same = subst (λ (m : Tracked R). Allows (Ruled by key) n id m 1 (λ _. 0)
-      (λ r. gone_step (by.faults work.regs) (step n 1 0 0 none) m r)) (sym is) (λ s o wide me _.
-      let mach = o.machine in let i = inv_of by key s o in let count = by.faults work.regs in let Good = MayBe (given_of by key) in
+  lets_go n key id x more ledger m slots is same = subst (λ (m : Tracked R). Allows (Ruled by key) n id m 1 (λ _. 0)
+      (λ r. gone_step (by.faults ledger.regs) (step n 1 0 0 none) m r)) (sym is) (λ s o wide me _.
+      let mach = o.machine in let i = inv_of by key s o in let count = by.faults ledger.regs in let Good = MayBe (given_of by key) in
       let v = x.view in let at : get_elem? mach.views id ≡ some v = view_at by key s o id x me in
       let live = live_holds seat_of Good mach i id v at same.turn in let w = let_go count v in (
         did (release_without_entry count) w x,
         gives,
         tt,
-        shows by key s o id x (release_without_entry count) w (set s.words 1 0) (set s.homes 0 (some (Some work))) me live
+        shows by key s o id x (release_without_entry count) w (set s.words 1 0) (set s.homes 0 (some (Some ledger))) me live
             (same.turn, same.none_out) refl (ap (λ ws. set ws 1 0) o.words)
             record {
               free = λ _. (
-                work,
-                set_here s.homes 0 (some (Some work)) (omega (arith, wide, slots)),
+                ledger,
+                set_here s.homes 0 (some (Some ledger)) (omega (arith, wide, slots)),
                 same.held,
                 same.entries ∙ (i.fits id v at).leader same.turn,
               );

@@ -4,7 +4,7 @@ use Rattle.atomic_table.specs.Table.{Me, Step, rest}
 use Rattle.pw_regs.specs.declared.registers.Registers.{Ghosts as Registers}
 use Rattle.pw_cppc.specs.declared.entry.CppcEntry.{CppcEntry}
 use Rattle.pw_cppc.specs.History.{Legal}
-use Rattle.pw_cppc_desk.specs.Worked.{Worked}
+use Rattle.pw_cppc_desk.specs.Ledgered.{Ledgered}
 use Rattle.pw_books.specs.declared.view.View.{View}
 use Rattle.pw_books.specs.Books.{Begins, Knows, count_in, furthest, longer}
 use Rattle.pw_books.specs.Sums.{AtMost}
@@ -18,24 +18,24 @@ use Rattle.pw_cppc_desk.specs.Slots.{Given, IsHeld, seat_of}
 
 -- a seat's view, and the slot where it has it in hand
 abbrev pub Mine : Type 0 → Type 0
-Mine R = Me (Option (Worked R)) (View CppcEntry)
+Mine R = Me (Option (Ledgered R)) (View CppcEntry)
 
 -- the same with the steps that it took
 abbrev pub Tracked : Type 0 → Type 0
-Tracked R = Me (Option (Worked R)) Track
+Tracked R = Me (Option (Ledgered R)) Track
 
 abbrev pub mine : {R : Type 0} → Tracked R → Mine R
 mine m = (m.0.view, m.1)
 
 abbrev pub Tells : Type 0 → Type 1
-Tells R = Step (Option (Worked R)) → Tracked R → ℕ → Tracked R → Type 0
+Tells R = Step (Option (Ledgered R)) → Tracked R → ℕ → Tracked R → Type 0
 
 -- these are its steps more
 abbrev pub Grew : {R : Type 0} → Tracked R → List (Kind CppcEntry) → Tracked R → Type 0
 Grew m ks n = keeping n.0 ≡ more ks (keeping m.0)
 
 abbrev pub Plays : Type 0 → Type 1
-Plays R = Step (Option (Worked R)) → Mine R → ℕ → Mine R → Type 0
+Plays R = Step (Option (Ledgered R)) → Mine R → ℕ → Mine R → Type 0
 
 module _ {R : Type 0} where
   -- # The turn
@@ -101,7 +101,7 @@ module _ {R : Type 0} (by : Registers R) where
   -- # The turn in hand
 
   -- The seat has the turn, and a history that begins with all that it had seen.
-  pub record Led (given : Given) (m : Mine R) (w : Worked R) (n : Mine R) : Type 0 where
+  pub record Led (given : Given) (m : Mine R) (w : Ledgered R) (n : Mine R) : Type 0 where
     pub is : n ≡ (led w.entries (by.faults w.regs) m.0, (0, Some w) ∷ m.1)
     pub held : IsHeld by given w
     pub seen : Begins w.entries m.0.seen
@@ -111,7 +111,7 @@ module _ {R : Type 0} (by : Registers R) where
     pub alone : m.0.parts ≡ 65536 → furthest m.0.told m.0.seen ≡ w.entries
 
   abbrev pub led_to : Given → Plays R
-  led_to given st m r n = (r ≡ 0 → (w : Worked R) × Led given m w n) × (r ≢ 0 → Met m (r - 1) n)
+  led_to given st m r n = (r ≡ 0 → (w : Ledgered R) × Led given m w n) × (r ≢ 0 → Met m (r - 1) n)
 
   -- the same, and the step of the machine that it is
   abbrev pub led_step : Given → Tells R
@@ -121,7 +121,7 @@ module _ {R : Type 0} (by : Registers R) where
   -- # The value as it may be given back
 
   -- With one more entry, which the seat that has the turn makes.
-  pub record IsGrown (given : Given) (v : View CppcEntry) (e : CppcEntry) (w : Worked R) : Type 0 where
+  pub record IsGrown (given : Given) (v : View CppcEntry) (e : CppcEntry) (w : Ledgered R) : Type 0 where
     pub turn : v.holds ≡ true
     pub unmarked : v.mark ≡ false
     pub none_out : v.out ≡ false
@@ -130,7 +130,7 @@ module _ {R : Type 0} (by : Registers R) where
     pub held : IsHeld by given w
 
   -- As it was found.
-  pub record IsFound (given : Given) (v : View CppcEntry) (w : Worked R) : Type 0 where
+  pub record IsFound (given : Given) (v : View CppcEntry) (w : Ledgered R) : Type 0 where
     pub turn : v.holds ≡ true
     pub unmarked : v.mark ≡ false
     pub none_out : v.out ≡ false
@@ -138,7 +138,7 @@ module _ {R : Type 0} (by : Registers R) where
     pub held : IsHeld by given w
 
   -- For the first time, with the operations of the start done.
-  pub record IsFirst (given : Given) (v : View CppcEntry) (w : Worked R) : Type 0 where
+  pub record IsFirst (given : Given) (v : View CppcEntry) (w : Ledgered R) : Type 0 where
     pub marked : v.mark ≡ true
     pub out : v.out ≡ true
     pub entries : w.entries ≡ []

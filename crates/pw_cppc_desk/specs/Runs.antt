@@ -5,13 +5,13 @@ use lib.ListN.{get_elem?}
 use Rattle.atomic_table.specs.Table.{State}
 use Rattle.pw_regs.specs.declared.registers.Registers.{Ghosts as Registers}
 use Rattle.pw_cppc.specs.declared.entry.CppcEntry.{CppcEntry}
-use Rattle.pw_cppc_desk.specs.Worked.{Worked}
+use Rattle.pw_cppc_desk.specs.Ledgered.{Ledgered}
 use Rattle.pw_books.specs.declared.view.View.{View}
 use Rattle.pw_books.specs.Sums.{total}
 use Rattle.pw_books.specs.Machine.{Invariant, Machine}
 use Rattle.pw_books.specs.Steps.{Kind, after, find_held}
 use Rattle.pw_books.specs.Law.{opened}
-use Rattle.pw_cppc_desk.specs.declared.limit.Limit.{Limit}
+use Rattle.pw_cppc_desk.specs.declared.setup.Setup.{Setup}
 use Rattle.pw_cppc_desk.specs.declared.track.Track.{Track}
 use Rattle.pw_cppc_desk.specs.Slots.{MayBe, seat_of}
 use Rattle.pw_cppc_desk.specs.Tracks.{in_keeping}
@@ -46,21 +46,21 @@ NoFind (k ∷ ks) = (IsFind k → ⊥) × NoFind ks
 module _ {R : Type 0} (by : Registers R) where
   -- the machine has its invariant
   abbrev pub RuleHasInvariant : Type 0
-  RuleHasInvariant = (key : Limit R) (s : State (Option (Worked R)) Track) (o : Ruled by key s)
+  RuleHasInvariant = (key : Setup R) (s : State (Option (Ledgered R)) Track) (o : Ruled by key s)
       → Invariant seat_of (MayBe (given_of by key)) o.machine
 
   -- no step of the run is in nobody's keeping: they are as many as those that the seats have
   abbrev pub StepsAreKept : Type 0
-  StepsAreKept = (key : Limit R) (s : State (Option (Worked R)) Track) (o : Ruled by key s)
+  StepsAreKept = (key : Setup R) (s : State (Option (Ledgered R)) Track) (o : Ruled by key s)
       → length o.run ≡ total (in_keeping length) s.views
 
   -- the seat that a seat met is the one that it last found with the turn
   abbrev pub MetWasFound : Type 0
-  MetWasFound = (key : Limit R) (s : State (Option (Worked R)) Track) (o : Ruled by key s) (j : ℕ) (t : Track) (holder : ℕ)
+  MetWasFound = (key : Setup R) (s : State (Option (Ledgered R)) Track) (o : Ruled by key s) (j : ℕ) (t : Track) (holder : ℕ)
       → get_elem? s.views j ≡ some t → t.view.met ≡ Some holder → FoundLast opened o.run j holder
 
   -- while each other seat is live and took no step yet, a seat has found no turn held
   abbrev pub QuietAreNotMet : Type 0
-  QuietAreNotMet = (key : Limit R) (s : State (Option (Worked R)) Track) → Ruled by key s → (j : ℕ) (t : Track)
+  QuietAreNotMet = (key : Setup R) (s : State (Option (Ledgered R)) Track) → Ruled by key s → (j : ℕ) (t : Track)
       → get_elem? s.views j ≡ some t → 0 < t.view.parts
       → ((i : ℕ) (u : Track) → i ≢ j → get_elem? s.views i ≡ some u → (0 < u.view.parts) × (u.own ≡ [])) → NoFind t.own

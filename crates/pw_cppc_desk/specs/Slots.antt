@@ -7,11 +7,11 @@ use Rattle.pw_cppc.specs.declared.plan.CppcPlan.{CppcPlan}
 use Rattle.pw_cppc.specs.Requests.{opening_bound, ops_bound}
 use Rattle.pw_cppc.specs.declared.entry.CppcEntry.{CppcEntry}
 use Rattle.pw_cppc.specs.History.{Legal, request_of, run_ops, stopped_at}
-use Rattle.pw_cppc_desk.specs.Worked.{IsWorkOf, Worked}
+use Rattle.pw_cppc_desk.specs.Ledgered.{IsLedgerOf, Ledgered}
 
 -- the slot with its value, where it is at home
 abbrev pub Homes : Type 0 → Type 0
-Homes R = List (mathlib.Core.Option.Option (Option (Worked R)))
+Homes R = List (mathlib.Core.Option.Option (Option (Ledgered R)))
 
 -- what was given to open, which never changes: the plan, how many entries there may be, and the registers as they were
 pub record Given : Type 0 where
@@ -33,8 +33,8 @@ bound_of P es = opening_bound P + sum_by (λ (e : CppcEntry). ops_bound P (reque
 
 -- What one turn holds is of what was given: the operations of the start and of its entries were done on the registers, up to one that
 -- failed.
-pub record IsHeld {R : Type 0} (by : Registers R) (given : Given) (w : Worked R) : Type 0 where
-  pub of : IsWorkOf given.plan w
+pub record IsHeld {R : Type 0} (by : Registers R) (given : Given) (w : Ledgered R) : Type 0 where
+  pub of : IsLedgerOf given.plan w
   pub capacity : w.capacity ≡ given.capacity
   pub did : Did (bound_of given.plan w.entries) (run_ops given.plan None w.entries) (stopped_at None w.entries) given.regs
       (registers_seen by w.regs)

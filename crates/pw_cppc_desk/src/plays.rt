@@ -6,7 +6,7 @@ ghost use Rattle.pw_cppc_desk.specs.Plays.{claimed_step, drew_step, gone_step};
 ghost use Rattle.pw_cppc_desk.specs.Plays.{opened_step, put_step};
 ghost use Rattle.pw_cppc_desk.specs.Asked.{led_in, looked_in, no_entry};
 
-use crate::{Track, Work};
+use crate::{Ledger, Track};
 use atomic_table::{Join, Play, Split};
 use pw_regs::Registers;
 use std::marker::{Brand, PhantomData};
@@ -30,36 +30,36 @@ impl Asked for Brand {
 }
 
 /// The turn is taken, or found held.
-pub struct Take<Q> {
+pub struct Lock<Q> {
     asked: PhantomData<Q>,
 }
 
-impl<R: Registers, Q: Asked> Play<Option<Work<R>>, Track> for Take<Q> {
+impl<R: Registers, Q: Asked> Play<Option<Ledger<R>>, Track> for Lock<Q> {
     ghost then = { led_in R.Registers Q.given };
 }
 
 /// The turn is given back with an entry more.
-pub struct Put<Q> {
+pub struct Commit<Q> {
     asked: PhantomData<Q>,
 }
 
-impl<R, Q: Asked> Play<Option<Work<R>>, Track> for Put<Q> {
+impl<R, Q: Asked> Play<Option<Ledger<R>>, Track> for Commit<Q> {
     ghost then = { put_step Q.entry Q.count };
 }
 
 /// The turn is given back, and all is as it was.
-pub struct Leave<Q> {
+pub struct Unlock<Q> {
     asked: PhantomData<Q>,
 }
 
-impl<R, Q: Asked> Play<Option<Work<R>>, Track> for Leave<Q> {
+impl<R, Q: Asked> Play<Option<Ledger<R>>, Track> for Unlock<Q> {
     ghost then = { gone_step Q.count };
 }
 
 /// The slot comes in hand for the first time.
 pub struct Claim;
 
-impl<R> Play<Option<Work<R>>, Track> for Claim {
+impl<R> Play<Option<Ledger<R>>, Track> for Claim {
     ghost then = { claimed_step };
 }
 
@@ -68,14 +68,14 @@ pub struct OpenTurn<Q> {
     asked: PhantomData<Q>,
 }
 
-impl<R, Q: Asked> Play<Option<Work<R>>, Track> for OpenTurn<Q> {
+impl<R, Q: Asked> Play<Option<Ledger<R>>, Track> for OpenTurn<Q> {
     ghost then = { opened_step Q.count };
 }
 
 /// A number is drawn, or another seat drew it.
 pub struct Draw;
 
-impl<R> Play<Option<Work<R>>, Track> for Draw {
+impl<R> Play<Option<Ledger<R>>, Track> for Draw {
     ghost then = { drew_step };
 }
 
@@ -84,7 +84,7 @@ pub struct Look<Q> {
     asked: PhantomData<Q>,
 }
 
-impl<R, Q: Asked> Play<Option<Work<R>>, Track> for Look<Q> {
+impl<R, Q: Asked> Play<Option<Ledger<R>>, Track> for Look<Q> {
     ghost then = { looked_in Q.given };
 }
 
@@ -102,20 +102,20 @@ impl Share for Brand {
 }
 
 /// A seat is split.
-pub struct Cut<Q> {
+pub struct SplitSeat<Q> {
     share: PhantomData<Q>,
 }
 
-impl<Q: Share> Split<Track> for Cut<Q> {
+impl<Q: Share> Split<Track> for SplitSeat<Q> {
     ghost left = { left_track Q.number Q.parts };
 
     ghost right = { right_track Q.number Q.parts };
 }
 
 /// Two seats are joined.
-pub struct Glue;
+pub struct JoinSeats;
 
-impl Join<Track> for Glue {
+impl Join<Track> for JoinSeats {
     ghost both = { joined_track };
 
     ghost spent = { spent_track };

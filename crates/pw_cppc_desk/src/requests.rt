@@ -5,7 +5,7 @@ ghost use Rattle.pw_cppc_desk.specs.Tracks.{keeping};
 ghost use Rattle.pw_cppc_desk.specs.Views.{IsAtRest, is_met, view_in};
 ghost use Rattle.pw_cppc_desk.specs.Went.{WentOnce, keeping_in};
 
-use crate::desk::{CppcDesk, CppcSeat, Raw, out};
+use crate::desk::{CppcDesk, CppcSeat, TableSeat, out};
 use crate::serving::CppcDone;
 use pw_cppc::{CppcReply, CppcRequest};
 use pw_regs::Registers;
@@ -49,7 +49,7 @@ impl<R: Registers> CppcDesk<R> {
     /// Makes a request where the turn is free.
     fn ask(
         &self,
-        raw: &mut Raw<R>,
+        raw: &mut TableSeat<R>,
         met: &mut Option<u32>,
         seen: &mut u32,
         number: u32,
@@ -71,8 +71,8 @@ impl<R: Registers> CppcDesk<R> {
             raw.new.me.0.view }
         ensures own { WentOnce number request result (keeping raw.old.me.0) (keeping raw.new.me.0) }
     {
-        match self.take_for(raw, number) {
-            Ok(work) => self.serve(raw, work, seen, number, request).as_try(),
+        match self.lock_for(raw, number) {
+            Ok(ledger) => self.serve(raw, ledger, seen, number, request).as_try(),
             Err(holder) => {
                 *met = Some(holder);
                 CppcTry::Busy { holder }
@@ -92,7 +92,7 @@ impl<R: Registers> CppcDesk<R> {
             (keeping_in seat.old.badge.views) (keeping_in seat.new.badge.views) }
     {
         let number = seat.number;
-        let mut raw: Raw<R> = out(&mut seat.badge);
+        let mut raw: TableSeat<R> = out(&mut seat.badge);
         let told = self.ask(&mut raw, &mut seat.met, &mut seat.seen, number, request);
         seat.badge = raw.into_badge();
         told

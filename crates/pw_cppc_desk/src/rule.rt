@@ -1,7 +1,7 @@
 ghost use Rattle.pw_cppc_desk.specs.Rule.{Ruled, first_of};
 
-use crate::Work;
-use crate::limit::Limit;
+use crate::Ledger;
+use crate::setup::Setup;
 use crate::track::Track;
 use atomic_table::TableRule;
 use pw_regs::Registers;
@@ -12,7 +12,7 @@ pub struct DeskRule<R> {
     regs: PhantomData<R>,
 }
 
-impl<R: Registers> TableRule<Option<Work<R>>, Track, Limit<R>> for DeskRule<R> {
+impl<R: Registers> TableRule<Option<Ledger<R>>, Track, Setup<R>> for DeskRule<R> {
     ghost holds = { Ruled R.Registers };
 
     ghost first = { first_of };

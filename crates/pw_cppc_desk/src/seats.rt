@@ -11,8 +11,8 @@ ghost use Rattle.pw_cppc_desk.specs.Looks.{IsDraw, IsJoin, IsLook};
 ghost use Rattle.pw_cppc_desk.specs.Views.{view_in};
 ghost use Rattle.pw_cppc_desk.specs.Went.{Drew, JoinSteps, KeepsBoth, OneMore, SplitSteps, keeping_in};
 
-use crate::desk::{CppcDesk, CppcSeat, Raw, out};
-use crate::plays::{Asked, Cut, Draw, Glue, Look, Share};
+use crate::desk::{CppcDesk, CppcSeat, TableSeat, out};
+use crate::plays::{Asked, Draw, JoinSeats, Look, Share, SplitSeat};
 use pw_regs::Registers;
 use std::marker::Brand;
 
@@ -70,7 +70,7 @@ impl<R: Registers> CppcDesk<R> {
     ghost use Rattle.pw_cppc_desk.specs.Splits.{IsSplit};
 
     /// Reads how many seats are made. What a join told is seen.
-    fn look<Q: Asked>(&self, raw: &mut Raw<R>) -> u32
+    fn look<Q: Asked>(&self, raw: &mut TableSeat<R>) -> u32
         requires id { raw.old.table_id ≡ self.now.table.shared.table_id }
         requires given { Q.given ≡ Some (given_of R.Registers self.now.table.shared.key) }
         requires idle { IsIdle raw.old.me.0.view }
@@ -85,7 +85,7 @@ impl<R: Registers> CppcDesk<R> {
     }
 
     /// Draws a number that no seat has, or answers how many seats are made where all are given.
-    fn draw(&self, raw: &mut Raw<R>, read: u32) -> Result<u32, u32>
+    fn draw(&self, raw: &mut TableSeat<R>, read: u32) -> Result<u32, u32>
         requires id { raw.old.table_id ≡ self.now.table.shared.table_id }
         requires idle { IsIdle raw.old.me.0.view }
         requires read { (raw.old.me.0.view.read ≡ Some read) × (read ≤ 65536) }
@@ -111,7 +111,12 @@ impl<R: Registers> CppcDesk<R> {
     }
 
     /// The seat with this number, which the other drew, and these of its parts.
-    fn cut<Q: Share>(&self, raw: &mut Raw<R>, _number: u32, _parts: u32) -> Raw<R>
+    fn split_seat<Q: Share>(
+        &self,
+        raw: &mut TableSeat<R>,
+        _number: u32,
+        _parts: u32,
+    ) -> TableSeat<R>
         requires id { raw.old.table_id ≡ self.now.table.shared.table_id }
         requires idle { IsIdle raw.old.me.0.view × (raw.old.me.0.view.told ≡ None) }
         requires share { (Q.number ≡ _number) × (Q.parts ≡ _parts) }
@@ -124,7 +129,7 @@ impl<R: Registers> CppcDesk<R> {
         ensures own { OneMore (keeping raw.old.me.0) (split_seat _number _parts) (keeping raw.new.me.0) }
         ensures new_own { keeping result.me.0 ≡ ([], []) }
     {
-        self.table.shared.split_seat::<Cut<Q>>(raw)
+        self.table.shared.split_seat::<SplitSeat<Q>>(raw)
     }
 
     /// A new seat, which has seen what this one has, with so many of its parts and a number that no
@@ -139,7 +144,7 @@ impl<R: Registers> CppcDesk<R> {
             (keeping_in seat.new.badge.views) }
     {
         let seen = seat.seen;
-        let mut raw: Raw<R> = out(&mut seat.badge);
+        let mut raw: TableSeat<R> = out(&mut seat.badge);
         let read = self.look::<Brand>(&mut raw);
         let number = match self.draw(&mut raw, read) {
             Ok(number) => number,
@@ -148,7 +153,7 @@ impl<R: Registers> CppcDesk<R> {
                 return Err(CppcSplitFault::Many { made });
             }
         };
-        let new = self.cut::<Brand>(&mut raw, number, parts);
+        let new = self.split_seat::<Brand>(&mut raw, number, parts);
         seat.badge = raw.into_badge();
         seat.parts -= parts;
         Ok(CppcSeat {
@@ -161,7 +166,7 @@ impl<R: Registers> CppcDesk<R> {
     }
 
     /// Joins another seat into this one.
-    fn glue(&self, raw: &mut Raw<R>, other: Raw<R>)
+    fn join_seats(&self, raw: &mut TableSeat<R>, other: TableSeat<R>)
         requires id { raw.old.table_id ≡ self.now.table.shared.table_id }
         requires other { (other.table_id ≡ self.now.table.shared.table_id) × (other.me.1 ≡ []) }
         requires idle { IsIdle raw.old.me.0.view × IsIdle other.me.0.view }
@@ -171,7 +176,7 @@ impl<R: Registers> CppcDesk<R> {
         ensures own { KeepsBoth (keeping raw.old.me.0) other.me.0.view (keeping other.me.0)
             (keeping raw.new.me.0) }
     {
-        self.table.shared.join_seat::<Glue>(raw, other);
+        self.table.shared.join_seat::<JoinSeats>(raw, other);
     }
 
     /// One seat that knows what both have seen and called, with the first one's number. The steps that
@@ -199,8 +204,8 @@ impl<R: Registers> CppcDesk<R> {
             seen: others,
             met: _,
         } = b;
-        let mut raw: Raw<R> = out(&mut badge);
-        self.glue(&mut raw, out(&mut other));
+        let mut raw: TableSeat<R> = out(&mut badge);
+        self.join_seats(&mut raw, out(&mut other));
         self.look::<Brand>(&mut raw);
         CppcSeat {
             badge: raw.into_badge(),

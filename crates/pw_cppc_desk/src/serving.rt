@@ -7,8 +7,8 @@ ghost use Rattle.pw_cppc_desk.specs.Tracks.{keeping};
 ghost use Rattle.pw_cppc_desk.specs.Steps.{IsOut};
 ghost use Rattle.pw_cppc_desk.specs.Went.{Served};
 
-use crate::Work;
-use crate::desk::{CppcDesk, Raw};
+use crate::Ledger;
+use crate::desk::{CppcDesk, TableSeat};
 use pw_cppc::{CppcReply, CppcRequest};
 use pw_regs::Registers;
 
@@ -32,8 +32,8 @@ impl<R: Registers> CppcDesk<R> {
     /// Makes a request with the turn in hand, and gives the turn back.
     pub(crate) fn serve(
         &self,
-        raw: &mut Raw<R>,
-        mut work: Work<R>,
+        raw: &mut TableSeat<R>,
+        mut ledger: Ledger<R>,
         seen: &mut u32,
         number: u32,
         request: CppcRequest,
@@ -43,8 +43,8 @@ impl<R: Registers> CppcDesk<R> {
         requires number { number ≡ raw.old.me.0.view.number }
         requires out { IsOut (mine raw.old.me) }
         requires found { IsFound R.Registers (given_of R.Registers self.now.table.shared.key)
-            raw.old.me.0.view work }
-        requires first { raw.old.me.0.view.first ≡ Some (R.faults work.regs) }
+            raw.old.me.0.view ledger }
+        requires first { raw.old.me.0.view.at_lock ≡ Some (R.faults ledger.regs) }
         ensures id { raw.new.table_id ≡ raw.old.table_id }
         ensures slots { raw.new.me.1 ≡ rest raw.old.me.1 }
         ensures seen { seen.new ≡ length raw.new.me.0.view.seen }
@@ -52,25 +52,25 @@ impl<R: Registers> CppcDesk<R> {
             raw.new.me.0.view }
         ensures own { Served number request result (keeping raw.old.me.0) (keeping raw.new.me.0) }
     {
-        *seen = work.len();
-        if let Some(at) = work.fault_at() {
-            self.leave_for(raw, work);
+        *seen = ledger.len();
+        if let Some(at) = ledger.fault_at() {
+            self.unlock_for(raw, ledger);
             return CppcDone::Stopped { at };
         }
         if *seen == self.capacity {
-            self.leave_for(raw, work);
+            self.unlock_for(raw, ledger);
             return CppcDone::Full {
                 capacity: self.capacity,
             };
         }
         *seen += 1;
-        match work.make(&self.plan, number, request) {
+        match ledger.make(&self.plan, number, request) {
             Ok(reply) => {
-                self.put_for(raw, work, request, 0);
+                self.commit_for(raw, ledger, request, 0);
                 CppcDone::Answer(reply)
             }
             Err(done) => {
-                self.put_for(raw, work, request, done + 1);
+                self.commit_for(raw, ledger, request, done + 1);
                 CppcDone::RegisterFault { done }
             }
         }

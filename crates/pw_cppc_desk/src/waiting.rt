@@ -9,8 +9,8 @@ ghost use Rattle.pw_cppc_desk.specs.Steps.{LedOn};
 ghost use Rattle.pw_cppc_desk.specs.Views.{is_met, view_in};
 ghost use Rattle.pw_cppc_desk.specs.Went.{TookLater, WentOn, keeping_in};
 
-use crate::Work;
-use crate::desk::{CppcDesk, CppcSeat, Raw, out};
+use crate::Ledger;
+use crate::desk::{CppcDesk, CppcSeat, TableSeat, out};
 use crate::serving::CppcDone;
 use pw_cppc::CppcRequest;
 use pw_regs::Registers;
@@ -22,13 +22,13 @@ impl<R: Registers> CppcDesk<R> {
     ghost use Rattle.pw_cppc_desk.specs.Owning.{Owns};
 
     /// What the turn holds, once no other seat has it.
-    fn take_on<W: Wait>(
+    fn wait<W: Wait>(
         &self,
         rt: &W,
-        raw: &mut Raw<R>,
+        raw: &mut TableSeat<R>,
         met: &mut Option<u32>,
         number: u32,
-    ) -> Work<R>
+    ) -> Ledger<R>
         requires id { raw.old.table_id ≡ self.now.table.shared.table_id }
         requires idle { IsIdle raw.old.me.0.view }
         requires number { (number ≡ raw.old.me.0.view.number) × (number < 65536) }
@@ -40,8 +40,8 @@ impl<R: Registers> CppcDesk<R> {
         ensures met { is_met met.new raw.new.me.0.view ≡ true }
     {
         for _ in rt.forever() {
-            match self.take::<Brand>(raw, number) {
-                Ok(work) => return work,
+            match self.lock::<Brand>(raw, number) {
+                Ok(ledger) => return ledger,
                 Err(holder) => {
                     *met = Some(holder);
                     self.wait_on(rt, holder + 1);
@@ -62,9 +62,9 @@ impl<R: Registers> CppcDesk<R> {
             (keeping_in seat.old.badge.views) (keeping_in seat.new.badge.views) }
     {
         let number = seat.number;
-        let mut raw: Raw<R> = out(&mut seat.badge);
-        let work = self.take_on(rt, &mut raw, &mut seat.met, number);
-        let done = self.serve(&mut raw, work, &mut seat.seen, number, request);
+        let mut raw: TableSeat<R> = out(&mut seat.badge);
+        let ledger = self.wait(rt, &mut raw, &mut seat.met, number);
+        let done = self.serve(&mut raw, ledger, &mut seat.seen, number, request);
         seat.badge = raw.into_badge();
         done
     }

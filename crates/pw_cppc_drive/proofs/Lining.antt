@@ -17,6 +17,7 @@ use Rattle.pw_cppc_drive.specs.declared.script.CppcLine.{CppcLine as line}
 use Rattle.pw_cppc_drive.specs.Reading.{requests_of}
 use Rattle.pw_cppc_desk.proofs.Entering.{ops_more}
 use Rattle.pw_cppc_drive.specs.inner.Running.{Ran, Turned, lines_bound}
+use Rattle.pw_cppc_desk.proofs.Holding.{no_ops}
 
 -- The requests of these lines were made, and no register failed.
 pub record Runs (P : CppcPlan) (lines : List line) (es : List CppcEntry) (old new : RegistersSeen) : Type 0 where
@@ -25,10 +26,6 @@ pub record Runs (P : CppcPlan) (lines : List line) (es : List CppcEntry) (old ne
   pub seats : AllByRecursion (λ (e : CppcEntry). e.seat ≡ 0) es
   pub asked : requests es ≡ requests_of lines
   pub did : Did (lines_bound P lines) (history_ops P es) None old new
-
-no_ops : (P : CppcPlan) → history_ops P [] ≡ []
-unfolding history_ops
-no_ops P = refl
 
 pub runs_none : (P : CppcPlan) (s : RegistersSeen) → Runs P [] [] s s
 runs_none P s = record { legal = legal-empty P; faultless = tt; seats = tt; asked = refl; did = did_as 0 [] (history_ops P []) None None s s (sym (no_ops P)) refl (did_nothing s) }

@@ -7,7 +7,7 @@ use Rattle.std.proofs.lemmas.Grind.{common_steps, flat_map-append}
 use Rattle.acpi_values.specs.declared.dependency.Coord.{Coord}
 use Rattle.acpi_values.specs.declared.dependency.Coord.TheVariants.{SwAll, SwAny, HwAll}
 use Rattle.acpi_values.specs.declared.operation.Op.{Op}
-use Rattle.pw_plan.specs.Requests.{set_by}
+use Rattle.pw_plan.specs.Requests.{set_count}
 use Rattle.pw_cppc.specs.declared.plan.CppcPlan.{CppcPlan}
 use Rattle.pw_cppc.specs.declared.request.CppcRequest.{CppcRequest}
 use Rattle.pw_cppc.specs.Planning.{domain_at, domain_of}
@@ -33,7 +33,7 @@ members_few P d = elim (cases_lt d (length P.domains)) [
   | inr ge ↦ let e : domain_at P d ≡ no_domain = get_or_past P.domains d no_domain ge in rw e (omega arith)
 ]
 
-set_few : (coord : Coord) (n : ℕ) → n ≤ 256 → 1 + set_by coord n ≤ 257
+set_few : (coord : Coord) (n : ℕ) → n ≤ 256 → 1 + set_count coord n ≤ 257
 set_few SwAll n le = omega (arith, le)
 set_few SwAny n le = omega arith
 set_few HwAll n le = omega arith

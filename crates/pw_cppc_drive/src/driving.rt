@@ -6,14 +6,14 @@ ghost use Rattle.pw_cppc.specs.declared.entry.CppcEntry.{CppcEntry as entry};
 ghost use Rattle.pw_cppc.specs.History.{LawfulSerial};
 ghost use Rattle.pw_cppc_drive.specs.declared.script.CppcLine.{CppcLine as line};
 ghost use Rattle.pw_cppc_drive.specs.Reading.{operations, requests_of};
-ghost use Rattle.pw_cppc_desk.specs.Worked.{IsWorkOf};
+ghost use Rattle.pw_cppc_desk.specs.Ledgered.{IsLedgerOf};
 ghost use Rattle.pw_cppc_drive.specs.Driven.{OperatesFor};
 
 use crate::running::make_all;
 use crate::{CppcLine, CppcScript};
 use pw_base::List;
 use pw_cppc::{CppcEntry, CppcPlan};
-use pw_cppc_desk::Work;
+use pw_cppc_desk::Ledger;
 use pw_regs::Registers;
 use std::alloc::Global;
 
@@ -29,20 +29,20 @@ pub struct CppcDriven<R> {
 
 /// Does the operations at the start, and makes the requests of the lines in their order, up to the first
 /// fault. Where that ended the start it answers how many operations were done.
-fn run<R: Registers>(plan: &CppcPlan, lines: &[CppcLine], work: &mut Work<R>) -> Option<u32>
+fn run<R: Registers>(plan: &CppcPlan, lines: &[CppcLine], ledger: &mut Ledger<R>) -> Option<u32>
     requires has { AllByRecursion (λ (l : line). Has plan.now l.request) lines.now }
-    requires of { IsWorkOf plan.now work.old }
-    requires empty { work.old.entries ≡ [] }
-    requires space { length lines.now ≤ work.old.capacity }
-    ensures lawful { LawfulSerial plan.now (requests_of lines.now) result work.new.entries }
-    ensures seats { AllByRecursion (λ (e : entry). e.seat ≡ 0) work.new.entries }
-    ensures operates { OperatesFor plan.now (operations plan.now lines.now) result work.new.entries
-        (registers_seen R.Registers work.old.regs) (registers_seen R.Registers work.new.regs) }
+    requires of { IsLedgerOf plan.now ledger.old }
+    requires empty { ledger.old.entries ≡ [] }
+    requires space { length lines.now ≤ ledger.old.capacity }
+    ensures lawful { LawfulSerial plan.now (requests_of lines.now) result ledger.new.entries }
+    ensures seats { AllByRecursion (λ (e : entry). e.seat ≡ 0) ledger.new.entries }
+    ensures operates { OperatesFor plan.now (operations plan.now lines.now) result ledger.new.entries
+        (registers_seen R.Registers ledger.old.regs) (registers_seen R.Registers ledger.new.regs) }
 {
-    if let Err(done) = work.operate_opening(plan) {
+    if let Err(done) = ledger.operate_opening(plan) {
         return Some(done);
     }
-    make_all(plan, lines, work);
+    make_all(plan, lines, ledger);
     None
 }
 
@@ -69,12 +69,12 @@ pub fn cppc_serial<R: Registers>(
     ensures given_back { IfErr result (λ back. back ≡ regs) }
 {
     let lines = script.lines.as_slice();
-    let mut work = match Work::open(alloc, &plan, lines.len() as u32, regs) {
-        Ok(work) => work,
+    let mut ledger = match Ledger::open(alloc, &plan, lines.len() as u32, regs) {
+        Ok(ledger) => ledger,
         Err(regs) => return Err(regs),
     };
-    let opening = run(&plan, lines, &mut work);
-    let (entries, regs) = work.finish();
+    let opening = run(&plan, lines, &mut ledger);
+    let (entries, regs) = ledger.finish();
     Ok(CppcDriven {
         plan,
         opening,

@@ -17,14 +17,13 @@ use crate::named::NamedPlan;
 use crate::words::{put_reply, put_request};
 use acpi_values::Op;
 use pw_base::{Failed, Sink};
-use pw_cppc::{CppcEntry, CppcPlan, CppcReply, CppcRequest, CppcState, open_all};
+use pw_cppc::{
+    CppcEntry, CppcPlan, CppcReply, CppcRequest, CppcState, MOST_OF_A_REQUEST, open_all,
+};
 use pw_regs::Ops;
 use pw_script::{first_of, put_asker, put_fault, put_opened, put_ops};
 use pw_text::{Page, PrintFault};
 use std::alloc::Global;
-
-/// How many operations a request has at most.
-const MOST_OF_A_REQUEST: u32 = 257;
 
 /// Puts the lines of operations that were done, in order.
 fn put_done<K: Sink>(

@@ -3,25 +3,25 @@ ghost use Rattle.std.specs.List.{AllByRecursion};
 ghost use Rattle.pw_regs.specs.Seen.{registers_seen};
 ghost use Rattle.pw_cppc.specs.Requests.{Has};
 ghost use Rattle.pw_cppc_drive.specs.declared.script.CppcLine.{CppcLine as line};
-ghost use Rattle.pw_cppc_desk.specs.Worked.{IsWorkOf};
+ghost use Rattle.pw_cppc_desk.specs.Ledgered.{IsLedgerOf};
 ghost use Rattle.pw_cppc_drive.specs.inner.Running.{Ran};
 
 use crate::CppcLine;
 use pw_cppc::CppcPlan;
-use pw_cppc_desk::Work;
+use pw_cppc_desk::Ledger;
 use pw_regs::Registers;
 
 /// Makes the requests of the lines in their order, up to the first fault.
-pub fn make_all<R: Registers>(plan: &CppcPlan, lines: &[CppcLine], work: &mut Work<R>)
+pub fn make_all<R: Registers>(plan: &CppcPlan, lines: &[CppcLine], ledger: &mut Ledger<R>)
     requires has { AllByRecursion (λ (l : line). Has plan.now l.request) lines.now }
-    requires of { IsWorkOf plan.now work.old }
-    requires empty { work.old.entries ≡ [] }
-    requires space { length lines.now ≤ work.old.capacity }
-    ensures ran { Ran plan.now lines.now work.new.entries
-        (registers_seen R.Registers work.old.regs) (registers_seen R.Registers work.new.regs) }
+    requires of { IsLedgerOf plan.now ledger.old }
+    requires empty { ledger.old.entries ≡ [] }
+    requires space { length lines.now ≤ ledger.old.capacity }
+    ensures ran { Ran plan.now lines.now ledger.new.entries
+        (registers_seen R.Registers ledger.old.regs) (registers_seen R.Registers ledger.new.regs) }
 {
     for line in lines {
-        if let Err(_done) = work.make(plan, 0, line.request) {
+        if let Err(_done) = ledger.make(plan, 0, line.request) {
             return;
         }
     }

@@ -11,7 +11,7 @@ use Rattle.pw_plan.specs.Places.{cpu_at, group_at}
 use Rattle.acpi_values.specs.declared.idle.IdleKind.TheVariants.{Cst}
 use Rattle.pw_base.specs.Room.{Bounded}
 use Rattle.pw_model.specs.Operations.{own_entry}
-use Rattle.pw_model.proofs.Bounds.{own_entry-le}
+use Rattle.pw_model.proofs.Bounds.{own_entry-le, others-lt}
 use Rattle.pw_model.proofs.Greatest.{greatest-le}
 use Rattle.pw_model.specs.Effects.{c_state_by, drawn_by, enters_by, member_place, state_by}
 use Rattle.pw_model.specs.Holding.{HoldsStates, member_in}
@@ -47,20 +47,6 @@ member_there (m ∷ ms) (suc i) lt = step (m == get_or ms i 0) (member_there ms 
     step : (b : Bool) → has_member ms (get_or ms i 0) ≡ true → (b || has_member ms (get_or ms i 0)) ≡ true
     step true e = refl
     step false e = e
-
--- who is left out isn't counted
-pub others-lt : (t : ℕ → Bool) (p : ℕ) (ms : List ℕ) → has_member ms p ≡ true → length (filter (λ q. not (q == p) && t q) ms) < length ms
-others-lt t p [] e = cc
-others-lt t p (m ∷ ms) e = step (m == p) e (others-lt t p ms)
-  where
-    kept : (b : Bool) → length (filter (λ q. not (q == p) && t q) ms) < length ms → length (cond b (m ∷ filter (λ q. not (q == p) && t q) ms) (filter (λ q. not (q == p) && t q) ms)) < suc (length ms)
-    kept true lt = omega arith
-    kept false lt = omega arith
-
-    step : (b : Bool) → (b || has_member ms p) ≡ true → (has_member ms p ≡ true → length (filter (λ q. not (q == p) && t q) ms) < length ms)
-        → length (cond (not b && t m) (m ∷ filter (λ q. not (q == p) && t q) ms) (filter (λ q. not (q == p) && t q) ms)) < suc (length ms)
-    step true e later = let le = filter-le (λ q. not (q == p) && t q) ms in omega (arith, le)
-    step false e later = kept (t m) (later e)
 
 -- who stands among them is left out
 pub others_room : (P : Plan) (g : ℕ) (t : ℕ → Bool) (i : ℕ) → i < length (group_at P g).members

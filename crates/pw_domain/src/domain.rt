@@ -3,7 +3,7 @@ ghost use Rattle.pw_plan.specs.declared.plan.Plan.{Plan};
 ghost use Rattle.pw_plan.specs.Groups.{is_idle};
 ghost use Rattle.pw_plan.specs.Parts.{scale_of};
 ghost use Rattle.pw_plan.specs.Places.{cpu_at, domain_at};
-ghost use Rattle.pw_plan.specs.Requests.{set_by};
+ghost use Rattle.pw_plan.specs.Requests.{set_count};
 ghost use Rattle.pw_regs.specs.Rooms.{HasRoom};
 ghost use Rattle.pw_model.specs.States.{IsIndex, opening_limit};
 ghost use Rattle.pw_model.specs.Domains.{stands_at};
@@ -176,7 +176,7 @@ impl DomainRec {
         requires index { IsIndex (scale_of (domain_at plan.now self.old.domain).kind
             (cpu_at plan.now (member_in (domain_at plan.now self.old.domain).members member))) index }
         requires room { HasRoom ops.old
-            (set_by (domain_at plan.now self.old.domain).coord
+            (set_count (domain_at plan.now self.old.domain).coord
             (length (domain_at plan.now self.old.domain).members)) }
         ensures of { IsDomainOf plan.now self.new }
         ensures domain { self.new.domain ≡ self.old.domain }
@@ -207,7 +207,7 @@ impl DomainRec {
         requires limit { IsIndex (scale_of (domain_at plan.now self.old.domain).kind
             (cpu_at plan.now (member_in (domain_at plan.now self.old.domain).members member))) limit }
         requires room { HasRoom ops.old
-            (set_by (domain_at plan.now self.old.domain).coord
+            (set_count (domain_at plan.now self.old.domain).coord
             (length (domain_at plan.now self.old.domain).members)) }
         ensures of { IsDomainOf plan.now self.new }
         ensures domain { self.new.domain ≡ self.old.domain }

@@ -2,7 +2,7 @@
 ghost use Rattle.std.specs.Prelude.{◌≡◌, ◌<◌, ◌≤◌, ◌++◌, ◌∷◌, [], length, map, slice_index_or};
 ghost use Rattle.acpi_values.specs.Idle.{rows_of};
 ghost use Rattle.pw_plan.specs.Places.{cpu_at, domain_at};
-ghost use Rattle.pw_plan.specs.Requests.{set_by};
+ghost use Rattle.pw_plan.specs.Requests.{set_count};
 ghost use Rattle.pw_model.specs.Answers.{chain_of};
 ghost use Rattle.pw_model.specs.Operations.{set_at, set_on};
 ghost use Rattle.pw_model.specs.Effects.{enter_c};
@@ -18,7 +18,7 @@ pub fn set_at(plan: &Plan, place: u32, member: u32, state: u8, ops: &mut Ops)
     requires place { place < length plan.now.domains }
     requires member { member < length (domain_at plan.now place).members }
     requires room { HasRoom ops.old
-        (set_by (domain_at plan.now place).coord (length (domain_at plan.now place).members)) }
+        (set_count (domain_at plan.now place).coord (length (domain_at plan.now place).members)) }
     ensures { ops.new ≡ record ops.old {
       elements = ops.old.elements ++ map (set_on plan.now (domain_at plan.now place).kind state)
           (set_at (domain_at plan.now place).coord (domain_at plan.now place).members

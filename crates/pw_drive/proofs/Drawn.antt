@@ -32,6 +32,7 @@ use Rattle.pw_drive.specs.inner.Lists.{AreLists, AreListsFor}
 use Rattle.pw_drive.specs.inner.Runs.{LeavesNone, Makes}
 use Rattle.pw_drive.proofs.Bounds.{run-bound}
 use Rattle.pw_drive.specs.inner.Telling.{telling}
+use Rattle.pw_machine.proofs.Plans.{ops_nil}
 
 lines_have : (P : Plan) (lines : List Line) → AllByRecursion (λ (l : Line). Has P l.request) lines → AllByRecursion (Has P) (requests_of lines)
 lines_have P [] has = tt
@@ -65,10 +66,6 @@ tell_seats es told = each_map (λ e. AllByRecursion (SitAlike telling.seat (cpu_
 where_fault : (o : Option ℕ) (a b : ℕ) → ((k : ℕ) → o ≡ Some k → Rose a b) → is_some o ≡ true → Rose a b
 where_fault None a b rose e = cc
 where_fault (Some k) a b rose e = rose k refl
-
-no_ops : (P : Plan) → history_ops P [] ≡ []
-unfolding history_ops
-no_ops P = refl
 
 module _ {R : Type 0} (by : Registers R) (P : Plan) (lines : List Line) (n : ℕ) (size : n ≡ length lines) (regs : R) where
   abbrev pub given : Given
@@ -106,7 +103,7 @@ module _ {R : Type 0} (by : Registers R) (P : Plan) (lines : List Line) (n : ℕ
       record {
         same_told = n.ends.same_told ∙ is;
         count = n.ends.least;
-        log = λ tells. n.ends.ops (is ∙ tells) ∙ ap (λ l. by.log regs ++ opening_ops P ++ l) (no_ops P) ∙ append-nil (by.log regs ++ opening_ops P);
+        log = λ tells. n.ends.ops (is ∙ tells) ∙ ap (λ l. by.log regs ++ opening_ops P ++ l) (ops_nil P) ∙ append-nil (by.log regs ++ opening_ops P);
         promised = λ most. (n.ends.promised.steady (omega (arith, most, room))).0;
       }
 

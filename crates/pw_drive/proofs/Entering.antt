@@ -38,11 +38,6 @@ none_is f e = grind (arith, nat_tests)
 some_is : (k : ℕ) → (k + 1 == 0) ≡ false
 some_is k = grind (arith, nat_tests)
 
--- each entry states a request
-pub each_states : (P : Plan) (es : List HistoryEntry) → AllByRecursion (IsEntry P) es → AllByRecursion (StatesRequest P) es
-each_states P [] a = tt
-each_states P (e ∷ es) a = (a.0.states, each_states P es a.1)
-
 -- an entry of a request, whatever its fault
 pub faulty_is : (P : Plan) (q : Request) (k : ℕ) → Has P q → IsEntry P (fault_entry 0 q k)
 faulty_is P q k has =
@@ -83,7 +78,3 @@ pub ops_stopped : (P : Plan) (S : State) (q : Request) (k : ℕ) → entry_ops P
 ops_stopped P S q k =
     let same : (k + 1) - 1 ≡ k = omega arith in
     rw (some_is k, same, request_of-entry 0 q) refl
-
--- the operations of one entry more
-pub ops_more : (P : Plan) (es : List HistoryEntry) (e : HistoryEntry) → history_ops P (es ++ e ∷ []) ≡ history_ops P es ++ entry_ops P (replay P es) e
-ops_more P es e = history_ops-append P es (e ∷ []) ∙ ap (λ (ops : List Op). history_ops P es ++ ops) (append-nil (entry_ops P (replay P es) e))

@@ -16,8 +16,8 @@ use Rattle.pw_script.specs.Reading.{requests_of}
 use Rattle.pw_drive.specs.declared.records.Records.{Records}
 use Rattle.pw_regs.specs.Doing.{Did}
 use Rattle.pw_drive.specs.inner.Running.{Ran, Stands, Turned, lines_bound}
-use Rattle.pw_drive.proofs.Entering.{ops_more}
 use Rattle.pw_regs.proofs.Operating.{did_as, did_more, did_nothing, did_within}
+use Rattle.pw_machine.proofs.Plans.{ops_nil, ops_snoc}
 
 -- The requests of these lines were made, and no register failed.
 pub record Runs (P : Plan) (lines : List line) (es : List HistoryEntry) (R : Records) (old new : RegistersSeen) : Type 0 where
@@ -26,12 +26,8 @@ pub record Runs (P : Plan) (lines : List line) (es : List HistoryEntry) (R : Rec
   pub asked : map request_of es ≡ requests_of lines
   pub did : Did (lines_bound P lines) (history_ops P es) None old new
 
-no_ops : (P : Plan) → history_ops P [] ≡ []
-unfolding history_ops
-no_ops P = refl
-
 pub runs_none : (P : Plan) (R : Records) (s : RegistersSeen) → Stands P [] R → Runs P [] [] R s s
-runs_none P R s stands = record { stands = stands; seats = tt; asked = refl; did = did_as 0 [] (history_ops P []) None None s s (sym (no_ops P)) refl (did_nothing s) }
+runs_none P R s stands = record { stands = stands; seats = tt; asked = refl; did = did_as 0 [] (history_ops P []) None None s s (sym (ops_nil P)) refl (did_nothing s) }
 
 pub asked_count : (es : List HistoryEntry) (lines : List line) → map request_of es ≡ requests_of lines → length es ≡ length lines
 asked_count es lines e = sym (length-map es request_of) ∙ ap length e ∙ length-map lines (λ (l : line). l.request)
@@ -47,7 +43,7 @@ module _ (P : Plan) (before : List line) (l : line) (es fs : List HistoryEntry) 
       ∙ sym (map-append (λ (l : line). l.request) before (l ∷ []))
 
   ops_then : history_ops P es ++ entry_ops P (replay P es) turned.entry ≡ history_ops P fs
-  ops_then = sym (ops_more P es turned.entry) ∙ ap (history_ops P) (sym turned.is)
+  ops_then = sym (ops_snoc P es turned.entry) ∙ ap (history_ops P) (sym turned.is)
 
   did_line : Did (lines_bound P (before ++ l ∷ [])) (history_ops P fs) (fault_at fs) old new
   did_line =

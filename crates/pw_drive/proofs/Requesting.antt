@@ -31,13 +31,14 @@ use Rattle.pw_regs.specs.Doing.{Did}
 use Rattle.pw_drive.specs.Keeping.{AreRecordsOf, Serves, part_in}
 use Rattle.pw_drive.specs.inner.Restoring.{old_of, old_takes}
 use Rattle.pw_drive.specs.inner.Running.{Keeps, Stands, Turned, opening_done}
-use Rattle.pw_drive.proofs.Entering.{each_states, faultless_done, legal_done, legal_stopped, ops_done, ops_stopped, replay_done, replay_stopped, seat_of-entry, stopped_last}
+use Rattle.pw_drive.proofs.Entering.{faultless_done, legal_done, legal_stopped, ops_done, ops_stopped, replay_done, replay_stopped, seat_of-entry, stopped_last}
 use Rattle.pw_regs.proofs.Operating.{did_as, did_within, ops_by}
 use Rattle.pw_drive.proofs.Undone.{restored}
+use Rattle.pw_machine.proofs.Plans.{states_all}
 
 module _ (P : Plan) (q : Request) (es : List HistoryEntry) (was : Records) (has : Has P q) (h : Stands P es was) where
   state_fits : IsState P (replay P es)
-  state_fits = replay_fits P es (each_states P es h.legal.well_formed.entries)
+  state_fits = replay_fits P es (states_all P es h.legal.well_formed.entries)
 
   kept : IsDone P (replay P es) q (effect P (part_in was) q) × AllTold P (after P (replay P es) q) (put (part_in was) (effect P (part_in was) q).takes)
   kept = keeps_records P q (wired P) has (replay P es) (part_in was) state_fits h.keeps.told

@@ -15,7 +15,7 @@ use Rattle.pw_model.specs.States.{IsProper}
 use Rattle.pw_model.specs.Answers.{chain_of}
 use Rattle.pw_model.specs.Containers.{ancestors, node_vote}
 use Rattle.pw_core.specs.Chains.{IsChain, states_in}
-use Rattle.pw_core.proofs.Climbing.{is_chain, line-None, line-Some, states_in-chain_of}
+use Rattle.pw_core.proofs.Climbing.{is_chain, line-None, line-Some, states_in-chain_of, chain_is}
 use Rattle.pw_model.specs.Effects.{Rung, both_run, climb, rung_taken, rungs, states_up, votes_in, votes_with}
 use Rattle.pw_model.specs.Locality.{put}
 use Rattle.pw_model.specs.Loops.{put_votes}
@@ -26,7 +26,6 @@ use Rattle.pw_idle.specs.declared.node.NodeRec.{NodeRec}
 use Rattle.pw_idle.specs.Nodes.{node_part}
 use Rattle.pw_idle.proofs.Nodes.{vote_fits, vote_proper}
 use Rattle.pw_walker.specs.Records.{IsNode}
-use Rattle.pw_walker.proofs.Chains.{known_chain}
 use Rattle.pw_drive.specs.Keeping.{AreNodes, no_node_record, node_in, node_parts}
 
 -- # Parts that are put
@@ -67,7 +66,7 @@ pub record Climbs (P : Plan) (was : Record → Part) (p : ℕ) (own : Vote) (rs 
   pub parts : (m : ℕ) → put (node_parts rs) (map rung_taken (climb P (node_parts rs) c v (line_from P.containers next))) (container m) ≡ put was (map rung_taken (rungs P was p own)) (container m)
 
 chain_told : (c : Chain) → IsChain c → (xs : List ℕ) → states_in c ++ [] ≡ xs → c ≡ chain_of xs
-chain_told c is xs e = known_chain c is ∙ ap chain_of (sym (append-nil (states_in c)) ∙ e)
+chain_told c is xs e = chain_is c is ∙ ap chain_of (sym (append-nil (states_in c)) ∙ e)
 
 -- # One turn
 

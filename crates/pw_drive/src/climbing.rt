@@ -13,7 +13,7 @@ use pw_core::chain_of_one;
 use pw_idle::NodeRec;
 use pw_model::Vote;
 use pw_plan::{Child, Plan};
-use pw_walker::{risen, rises, turn};
+use pw_walker::{chain_with, goes_on, set_vote};
 
 /// Sets the vote of a processor in the record of its container, and what follows in those above, up to
 /// the first container that runs before and after; and answers the states of the processor and its
@@ -36,9 +36,9 @@ pub fn climb(nodes: &mut Vec<NodeRec>, plan: &Plan, cpu: u32, own: Vote) -> Chai
     let mut vote = own;
     let mut next = plan.cpu(cpu).parent;
     while let Some(node) = next {
-        let turned = turn(&mut nodes[node as usize], plan, node, below, vote);
-        rising = rises(rising, turned.vote.state);
-        chain = risen(chain, rising, turned.vote.state);
+        let turned = set_vote(&mut nodes[node as usize], plan, node, below, vote);
+        rising = goes_on(rising, turned.vote.state);
+        chain = chain_with(chain, rising, turned.vote.state);
         if turned.runs {
             return chain;
         }

@@ -7,7 +7,8 @@ ghost use Rattle.pw_drive.specs.Keeping.{domain_in, group_in, node_in, part_in};
 use pw_base::Memory;
 use pw_domain::{DomainRec, GroupRec};
 use pw_idle::NodeRec;
-use pw_plan::{DomainKind, Plan};
+use pw_plan::Plan;
+use pw_walker::scaled_count;
 use std::alloc::Global;
 
 /// The records of a plan, each at the number of what it is of: of its containers, of its domains of
@@ -30,19 +31,6 @@ fn open_nodes(alloc: Global, plan: &Plan) -> Result<Vec<NodeRec>, Memory>
         nodes.push(NodeRec::open(alloc, plan, node as u32)?)?;
     }
     Ok(nodes)
-}
-
-/// How many domains are of performance or throttling: they come first.
-fn scaled_count(plan: &Plan) -> usize
-    ensures { result ≡ scaled_count plan.now }
-{
-    let mut count = 0;
-    for domain in plan.domains.as_slice() {
-        if !matches!(domain.kind, DomainKind::Idle) {
-            count += 1;
-        }
-    }
-    count
 }
 
 /// The records of the domains of performance and throttling.

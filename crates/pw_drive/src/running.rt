@@ -10,12 +10,9 @@ ghost use Rattle.pw_drive.specs.inner.Running.{Keeps, Ran, Stands, Turned};
 use crate::records::Records;
 use pw_core::Ops;
 use pw_journal::Journal;
-use pw_plan::{Plan, Request};
+use pw_plan::{MOST_OF_A_REQUEST, Plan, Request};
 use pw_regs::Registers;
 use pw_script::Line;
-
-/// The most operations of one request.
-const MOST_OF_A_REQUEST: u32 = 256;
 
 /// How many operations the start or any request has at most.
 pub fn most_operations(plan: &Plan) -> u32

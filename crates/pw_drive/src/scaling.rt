@@ -11,7 +11,7 @@ use crate::records::Records;
 use pw_core::Ops;
 use pw_model::Reply;
 use pw_plan::{DomainKind, Plan};
-use pw_walker::{ask_on, limit_on};
+use pw_walker::{ask_domain, limit_domain};
 
 impl Records {
     /// Asks for a state of this kind on the processor's domain.
@@ -36,7 +36,7 @@ impl Records {
             unreachable!()
         };
         let levels = &mut self.domains[membership.place];
-        ask_on(
+        ask_domain(
             levels,
             plan,
             kind,
@@ -68,6 +68,6 @@ impl Records {
             unreachable!()
         };
         let levels = &mut self.domains[membership.place];
-        limit_on(levels, plan, kind, cpu, membership.member as u32, n, ops)
+        limit_domain(levels, plan, kind, cpu, membership.member as u32, n, ops)
     }
 }

@@ -17,14 +17,6 @@ unfolding Refused RefusedBy
 refused sources blocks fault room fault' room' statuses.NoMemory spelled r = r
 refused sources blocks fault room fault' room' s spelled r = (blocks, spelled, r)
 
-pub if_ok : {A E : Type 0} {P Q : A → Type 0} (r : Result A E) → ((a : A) → P a → Q a) → IfOk r P → IfOk r Q
-if_ok (Ok a) f p = f a p
-if_ok (Err e) f p = tt
-
-pub if_err : {A E : Type 0} {P Q : E → Type 0} (r : Result A E) → ((e : E) → P e → Q e) → IfErr r P → IfErr r Q
-if_err (Ok a) f p = tt
-if_err (Err e) f p = f e p
-
 -- blocks that are refused stay
 pub stays : (b : List (List ℕ)) (fault : FaultNumbers) (room : List ℕ) (fault' : FaultNumbers) (room' : List ℕ) (s : Status)
     → Refused b fault room fault' room' s → Planning b fault room (Blocks b) fault' room' s

@@ -8,12 +8,9 @@ use crate::cppc_numbers::{CppcReplyNumbers, CppcRequestNumbers};
 use crate::operations::{OpNumbers, tell_ops};
 use crate::status::Status;
 use pw_base::Memory;
-use pw_cppc::{CppcPlan, CppcReply, CppcRequest, CppcState, open_all};
+use pw_cppc::{CppcPlan, CppcReply, CppcRequest, CppcState, MOST_OF_A_REQUEST, open_all};
 use pw_regs::Ops;
 use std::alloc::Global;
-
-/// The most operations of one request: its own register, and one of each member of a domain.
-const MOST_OF_A_REQUEST: u32 = 257;
 
 /// The coordinator of one caller for desired performance: a plan, what its processors ask for and allow,
 /// and the operations of the last request.

@@ -11,11 +11,8 @@ use crate::status::Status;
 use pw_base::Memory;
 use pw_core::{Ops, State, open_all};
 use pw_model::Reply;
-use pw_plan::{Plan, Request};
+use pw_plan::{MOST_OF_A_REQUEST, Plan, Request};
 use std::alloc::Global;
-
-/// The most operations of one request.
-const MOST_OF_A_REQUEST: u32 = 256;
 
 /// The coordinator of one caller: a plan, what its processors last asked for, and the operations of the
 /// last request.
@@ -50,7 +47,7 @@ impl Single {
     ghost use Rattle.pw_model.specs.Answers.{answer};
 
     /// Makes a request: the list has its operations then.
-    #[tactic(auto, using(crate::proofs::Bounds::bound_small))]
+    #[tactic(auto, using(pw_plan::proofs::RequestBounds::bound_small))]
     fn step(&mut self, request: Request) -> Reply
         requires { Has self.old.plan request }
         ensures stepped { Stepped self.old request self.new }

@@ -25,7 +25,7 @@ use Rattle.pw_plan.specs.Groups.{has_member, is_idle, no_domain, no_group}
 use Rattle.pw_plan.specs.Orderly.{is_cst}
 use Rattle.pw_plan.specs.Parts.{cpu_in, no_cpu, no_table, scale_of}
 use Rattle.pw_plan.specs.Places.{domain_at, domain_of, group_at, group_of}
-use Rattle.pw_plan.specs.Requests.{Has, domain_bound, group_bound, opening_bound, ops_bound, set_by}
+use Rattle.pw_plan.specs.Requests.{Has, domain_bound, group_bound, opening_bound, ops_bound, set_count}
 use Rattle.pw_plan.proofs.Found.{passes}
 use Rattle.pw_plan.proofs.Lists.{and_first, and_second, or_left, or_right}
 use Rattle.pw_plan.proofs.Memberships.{covers_has}
@@ -134,19 +134,19 @@ few_members n d is kind = by d.number refl
         let le = rise_within (8 * m) (8 * m + 8) d.members (omega arith) (rises_of d.members is.rising) all in
         omega (arith, le)
 
-set_few : (coord : Coord) (members : ℕ) → members ≤ 8 → set_by coord members ≤ 8
+set_few : (coord : Coord) (members : ℕ) → members ≤ 8 → set_count coord members ≤ 8
 set_few SwAll members le = le
 set_few SwAny members le = omega arith
 set_few HwAll members le = omega arith
 
-set_none : set_by no_domain.coord (length no_domain.members) ≤ 8
+set_none : set_count no_domain.coord (length no_domain.members) ≤ 8
 unfolding no_domain
 set_none = omega arith
 
 -- # Bounds
 
 module _ (n : ℕ) (P : Plan) (cpus : P.cpus ≡ machine_cpus n) where
-  past_domains : (k : ℕ) → length P.domains ≤ k → set_by (domain_at P k).coord (length (domain_at P k).members) ≤ 8
+  past_domains : (k : ℕ) → length P.domains ≤ k → set_count (domain_at P k).coord (length (domain_at P k).members) ≤ 8
   past_domains k le = rw (get_or_past P.domains k no_domain le) set_none
 
   perf_few : (p : ℕ) → domain_bound P kinds.Perf p ≤ 8

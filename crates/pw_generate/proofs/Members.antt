@@ -20,6 +20,7 @@ use Rattle.pw_generate.proofs.Ranges.{filter_every, filter_first, filter_no, fil
 use Rattle.pw_generate.proofs.Entries.{container_place, cpu_entries, cpu_place, front_entries, machine_entries, standing}
 use Rattle.pw_generate.proofs.Numbered.{container_spot, cpu_spot, spot_is, spot_of}
 use Rattle.pw_generate.proofs.Looking.{at_cpu, at_front, found_in_container, found_in_cpu, machine_size}
+use Rattle.acpi_build.proofs.Parents.{of_depth}
 
 -- # The order by depth
 
@@ -29,9 +30,6 @@ depth_stays entries d [] all = refl
 depth_stays entries d (k ∷ ks) all =
     let same : nat_lt d d ≡ false = grind (arith, nat_tests) in
     rw (all.0, same) (depth_stays entries d ks all.1)
-
-abbrev of_depth : List Entry → List ℕ → ℕ → List ℕ
-of_depth entries ks d = filter (λ k. depth_in entries k == d) ks
 
 two_kept : (entries : List Entry) (ks : List ℕ) → AllByRecursion (λ k. depth_in entries k ≡ 2) ks
     → flat_map (of_depth entries ks) (range_with_len 0 3) ≡ ks

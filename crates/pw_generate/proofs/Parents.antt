@@ -6,7 +6,7 @@ use Rattle.std.proofs.lemmas.Bool.Decides.{eqb_tells}
 use Rattle.acpi_space.specs.Lookup.{is_place, path_in}
 use Rattle.acpi_space.specs.Namespace.{Entry}
 use Rattle.acpi_space.specs.Places.{Place}
-use Rattle.acpi_space.proofs.Lookups.{place_decides}
+use Rattle.acpi_space.proofs.Lookups.{place_decides, not_place}
 use Rattle.acpi_build.specs.Finding.{is_around, last_from, parent_of}
 use Rattle.pw_plan.specs.Limits.{in_32_bits}
 use Rattle.pw_generate.proofs.Entries.{container_place, cpu_place, machine_entries}
@@ -38,13 +38,6 @@ last_one t f c a (suc m) le l here none = elim (eqb_tells a c) [
 ]
 
 -- # Which containers are around an object
-
-not_place : (p q : Place) → p ≢ q → is_place p q ≡ false
-not_place p q apart = by (is_place p q) (λ e. apart ((place_decides p q).0 e))
-  where
-    by : (b : Bool) → b ≢ true → b ≡ false
-    by true other = absurd (other refl)
-    by false _ = refl
 
 -- a path of two segments is none's, and one of three is its container's
 around_is : (entries : List Entry) (k c : ℕ) (path place : Place) → path_in entries k ≡ path → path_in entries c ≡ place

@@ -18,7 +18,7 @@ use Rattle.pw_notice.specs.Limits.{made_from, own, requests}
 use Rattle.pw_script.specs.Lawful.{Lawful}
 use Rattle.pw_script.specs.Completing.{IsStart}
 use Rattle.pw_script.proofs.Firsts.{own-past}
-use Rattle.pw_script.proofs.Completions.{completed-run}
+use Rattle.pw_script.proofs.Completions.{completed-run, entry_faultless, faultless}
 use Rattle.pw_generate.specs.Summary.{is_entered, is_refused, is_running, is_stands, script_summary, summary_text}
 use Rattle.pw_generate.proofs.Apart.{IsOfKind, answer-kept}
 use Rattle.pw_generate.proofs.Orders.{SameOwn, same-made, same-total, total}
@@ -114,19 +114,7 @@ module _ (P : Plan) (asked : List Request) (H G : List HistoryEntry)
 
 -- # The lines in their order
 
-entry_faultless : (q : Request) → (entry_of 0 q).fault ≡ 0
-entry_faultless (Idle p s t) = refl
-entry_faultless (Wake p) = refl
-entry_faultless (Perf p i) = refl
-entry_faultless (Throttle p i) = refl
-entry_faultless (PerfLimit p n) = refl
-entry_faultless (ThrottleLimit p n) = refl
-
-in_order_faultless : (qs : List Request) → Faultless (map (entry_of 0) qs)
-in_order_faultless [] = tt
-in_order_faultless (q ∷ qs) = (entry_faultless q, in_order_faultless qs)
-
-nothing_starts : (P : Plan) (asked : List Request) → IsStart P asked []
+pub nothing_starts : (P : Plan) (asked : List Request) → IsStart P asked []
 nothing_starts P asked = record {
   legal = record { well_formed = record { entries = tt; fault = tt }; faults = tt };
   begins = λ p lt. record { rest = own p asked; is = refl };
@@ -137,4 +125,4 @@ pub summary-script : (P : Plan) (asked : List Request) (H : List HistoryEntry) �
 unfolding script_summary
 summary-script P asked H has h none =
     let in_order = completed-run P asked [] has tt (nothing_starts P asked) in
-    same-summary P asked H (map (entry_of 0) asked) h none in_order (in_order_faultless asked)
+    same-summary P asked H (map (entry_of 0) asked) h none in_order (faultless asked)

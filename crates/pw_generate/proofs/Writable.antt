@@ -36,11 +36,11 @@ use Rattle.pw_generate.specs.Names.{container_name, cpu_name}
 use Rattle.pw_generate.specs.Tables.{container_idle, cpu_control, cpu_domain, cpu_idle, cpu_perf, machine_header}
 use Rattle.pw_generate.proofs.NameLaws.{container_segment, cpu_segment}
 use Rattle.pw_generate.proofs.TableRanges.{IsShortName, ascii, container_idle_is, container_names, cpu_domain_is, cpu_idle_is, cpu_names, cpu_perf_is}
+use Rattle.pw_base.proofs.Facts.{both}
+use Rattle.acpi_perf.proofs.Writable.{pss_row_bounded}
+use Rattle.acpi_idle.proofs.Writable.{wide_32}
 
 -- # Objects
-
-number : (n : ℕ) → n < 2 ^ 32 → IsBounded 0 33 (Int n)
-number n lt = wider 0 9 33 (Int n) (omega arith) (bounded_32 n lt)
 
 entry_bounded : (e : EntryMethod) → IsEntryMethod W64 e → IsBounded 0 33 (entry_object e)
 entry_bounded (entry.Register r) lt = bounded_register r
@@ -56,17 +56,17 @@ lpi_row_bounded s h =
     bounded_package 0 33 10
     (Int s.min_residency ∷ Int s.wake_latency ∷ Int s.flags ∷ Int s.lost ∷ Int s.frequency ∷ Int s.parent
     ∷ entry_object s.entry ∷ register_object s.residency ∷ register_object s.usage ∷ Text s.name ∷ []) (omega arith) (omega arith) (
-      number s.min_residency r.min_residency,
+      wide_32 s.min_residency r.min_residency,
       (
-        number s.wake_latency r.wake_latency,
+        wide_32 s.wake_latency r.wake_latency,
         (
-          number s.flags r.flags,
+          wide_32 s.flags r.flags,
           (
-            number s.lost r.lost,
+            wide_32 s.lost r.lost,
             (
-              number s.frequency r.frequency,
+              wide_32 s.frequency r.frequency,
               (
-                number s.parent r.parent,
+                wide_32 s.parent r.parent,
                 (
                   entry_bounded s.entry r.entry,
                   (
@@ -80,10 +80,6 @@ lpi_row_bounded s h =
         ),
       ),
     )
-
-both : {A : Type 0} (P Q : A → Type 0) (xs : List A) → AllByRecursion P xs → AllByRecursion Q xs → AllByRecursion (λ x. P x × Q x) xs
-both P Q [] p q = tt
-both P Q (x ∷ xs) p q = ((p.0, q.0), both P Q xs p.1 q.1)
 
 -- a small number, beside rows
 leading : (n : ℕ) → n < 256 → IsBounded 1 336 (Int n)
@@ -100,19 +96,6 @@ lpi_bounded lpi level few all =
       (
         leading lpi.level (omega (arith, level)),
         (leading (length lpi.states) (omega (arith, few)), all_mapped IsShort (IsBounded 1 336) lpi_row_object lpi_row_bounded lpi.states all),
-      ),
-    )
-
-pss_row_bounded : (s : PState) → IsPState s → IsBounded 1 60 (pss_row_object s)
-pss_row_bounded s r =
-    bounded_package 0 9 6 (Int s.frequency ∷ Int s.power ∷ Int s.latency ∷ Int s.bus_latency ∷ Int s.control ∷ Int s.status ∷ []) (omega arith) (omega arith) (
-      bounded_32 s.frequency r.frequency,
-      (
-        bounded_32 s.power r.power,
-        (
-          bounded_32 s.latency r.latency,
-          (bounded_32 s.bus_latency r.bus_latency, (bounded_32 s.control r.control, (bounded_32 s.status r.status, tt))),
-        ),
       ),
     )
 

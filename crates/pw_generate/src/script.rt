@@ -5,15 +5,12 @@ ghost use Rattle.pw_generate.specs.Loads.{load_line, load_request, machine_load,
 
 use crate::tables::{CPUS_EACH, MOST_CONTAINERS};
 use pw_base::{List, Memory};
-use pw_plan::Request;
+use pw_plan::{ANY_LATENCY, Request};
 use pw_script::{Line, Script};
 use std::alloc::Global;
 
 /// How many processors a machine that is generated has at most.
 const MOST_CPUS: u32 = CPUS_EACH * MOST_CONTAINERS;
-
-/// The tolerance that bears any wake latency.
-const ANY_LATENCY: u32 = u32::MAX;
 
 /// To go idle in this state, bearing any latency.
 #[tactic(auto, unfolding(pw_model::specs::States::any_latency))]

@@ -2,10 +2,7 @@ ghost use Rattle.std.specs.Prelude.{◌≡◌};
 ghost use Rattle.pw_model.specs.History.{entry_of};
 
 use pw_model::HistoryEntry;
-use pw_plan::Request;
-
-/// The wake latency of a request that isn't idle.
-const ANY_LATENCY: u32 = u32::MAX;
+use pw_plan::{ANY_LATENCY, Request};
 
 /// An entry with these fields.
 fn entry(seat: u32, cpu: u32, code: u32, argument: u32, fault: u32) -> HistoryEntry

@@ -2,3 +2,5 @@ pub mod Sent
 pub mod Stopping
 pub mod Completeness
 pub mod Outcomes
+pub mod Repeats
+pub mod One

@@ -9,8 +9,8 @@ use Rattle.pw_text.specs.declared.fault.PrintFault.{PrintFault}
 use Rattle.pw_text.specs.declared.fault.PrintFault.TheVariants as faults
 use Rattle.pw_load.specs.Seen.{Outputs, outputs_seen}
 use Rattle.pw_load.specs.Ends.{Work, Stops, Does, Did, Ended, Stopped, print_line, print_status}
-use Rattle.pw_load.specs.Ends.Stops.{refused, unread, without_memory}
-use Rattle.pw_load.specs.Ends.Prints.{whole, unwritten, cut}
+use Rattle.pw_load.specs.Ends.Stops.{refused, read_fault, without_memory}
+use Rattle.pw_load.specs.Ends.Prints.{whole, write_fault, cut}
 use Rattle.pw_load.specs.Ends.Does.{stopped, printed}
 
 -- how much of a text a sink took, whether it tells or not
@@ -61,7 +61,7 @@ did_print work K out out' err err' text (Ok x) is all part sink memory said =
     record { text = text; line = []; way = printed is whole; on_out = all; on_err = said }
 did_print work K out out' err err' text (Err faults.Sink) is all part sink memory said =
     let taken = part_taken (K.told out) (K.written out) (K.written out') text part in
-    record { text = take taken.0 text; line = codes "write fault\n"; way = printed is (unwritten taken.0 (sink refl)); on_out = taken.1; on_err = said }
+    record { text = take taken.0 text; line = codes "write fault\n"; way = printed is (write_fault taken.0 (sink refl)); on_out = taken.1; on_err = said }
 did_print work K out out' err err' text (Err faults.Memory) is all part sink memory said =
     let taken = part_taken (K.told out) (K.written out) (K.written out') text part in
     elim (memory refl) [
@@ -86,19 +86,19 @@ ended_as other ended = record { text = ended.text; line = ended.line; way = othe
 pub record IsWithin (inner outer : Work) : Type 0 where
   pub texts : (text : List ℕ) → inner.text text → outer.text text
   pub refusals : (status : ℕ) (line : List ℕ) → inner.refusal status line → outer.refusal status line
-  pub unreads : inner.unread → outer.unread
+  pub read_faults : inner.read_fault → outer.read_fault
   pub pieces : inner.in_pieces ≡ true → outer.in_pieces ≡ true
 
 stops_within : {inner outer : Work} {status : ℕ} {line : List ℕ} → IsWithin inner outer → Stops inner status line → Stops outer status line
 stops_within w (refused r) = refused (w.refusals _ _ r)
-stops_within w (unread u) = unread (w.unreads u)
+stops_within w (read_fault u) = read_fault (w.read_faults u)
 stops_within w without_memory = without_memory
 
 does_within : {inner outer : Work} {before after : Outputs} {status : ℕ} (text line : List ℕ) → IsWithin inner outer → Does inner before after status text line
     → Does outer before after status text line
 does_within text line w (stopped s) = stopped (stops_within w s)
 does_within text line w (printed is whole) = printed (w.texts _ is) whole
-does_within text line w (printed is (unwritten n rose)) = printed (w.texts _ is) (unwritten n rose)
+does_within text line w (printed is (write_fault n rose)) = printed (w.texts _ is) (write_fault n rose)
 does_within text line w (printed is (cut n pieces)) = printed (w.texts _ is) (cut n (w.pieces pieces))
 
 pub did_within : {inner outer : Work} {before after : Outputs} {status : ℕ} → IsWithin inner outer → Did inner before after status → Did outer before after status

@@ -11,7 +11,7 @@ use Rattle.aml_block.specs.declared.blocks_fault.BlocksFault.TheVariants.{Block 
 use Rattle.aml_block.specs.Held.{IsCauseOf, IsOwn, RoseIfUnread}
 use Rattle.pw_check.specs.Refusals.{refusal_line}
 use Rattle.pw_load.specs.Ends.{Stops}
-use Rattle.pw_load.specs.Ends.Stops.{refused, unread, without_memory}
+use Rattle.pw_load.specs.Ends.Stops.{refused, read_fault, without_memory}
 use Rattle.pw_load.specs.Lines.{blocks_line}
 use Rattle.pw_load.specs.Steps.{fault_status, loading, plan_status, planning}
 
@@ -20,7 +20,7 @@ pub stops_loading : (before after : FilesSeen) (names : List (List ℕ)) (fault 
 stops_loading before after names (in_block number fault) own rose cause =
     refused (record { is = refl; fault = in_block number fault; of_blocks = own; first = cause; says = refl })
 stops_loading before after names Large own rose cause = refused (record { is = refl; fault = Large; of_blocks = tt; first = cause; says = refl })
-stops_loading before after names (ReadFault number) own rose cause = unread (record { number = number; failed = rose; held = cause })
+stops_loading before after names (ReadFault number) own rose cause = read_fault (record { number = number; failed = rose; held = cause })
 stops_loading before after names Memory own rose cause = without_memory
 
 pub stops_planning : (entries : List Entry) (fault : BuildFault) → IsFault fault (parts_within entries [])

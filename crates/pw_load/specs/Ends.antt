@@ -15,7 +15,7 @@ pub record Work : Type 1 where
   -- it refuses what it was given, with this status and this line
   pub refusal : ℕ → List ℕ → Type 0
   -- a file that it needs couldn't be read
-  pub unread : Type 0
+  pub read_fault : Type 0
   -- its text is made in pieces while it is printed, so that memory may run out in its midst
   pub in_pieces : Bool
 
@@ -24,13 +24,13 @@ pub record Work : Type 1 where
 -- It ended before its output: what it was given is refused, a file couldn't be read, or memory ran out.
 pub data Stops (work : Work) : ℕ → List ℕ → Type 0 where
   refused : {status : ℕ} {line : List ℕ} → work.refusal status line → Stops work status line
-  unread : work.unread → Stops work 3 (codes "read fault\n")
+  read_fault : work.read_fault → Stops work 3 (codes "read fault\n")
   without_memory : Stops work 6 (codes "no memory\n")
 
 -- It printed its text, whole, or a beginning of it: the output failed, or memory ran out.
 pub data Prints (work : Work) (text : List ℕ) (before after : Outputs) : ℕ → List ℕ → List ℕ → Type 0 where
   whole : Prints work text before after 0 text []
-  unwritten : (n : ℕ) → Rose before.out.faults after.out.faults → Prints work text before after 4 (take n text) (codes "write fault\n")
+  write_fault : (n : ℕ) → Rose before.out.faults after.out.faults → Prints work text before after 4 (take n text) (codes "write fault\n")
   cut : (n : ℕ) → work.in_pieces ≡ true → Prints work text before after 6 (take n text) (codes "no memory\n")
 
 -- one of the two

@@ -53,7 +53,7 @@ abbrev pub loading : FilesSeen → FilesSeen → List (List ℕ) → Work
 loading before after names = record {
   text = λ text. ⊥;
   refusal = IsUnspelled before names;
-  unread = IsOneUnread before after names;
+  read_fault = IsOneUnread before after names;
   in_pieces = false;
 }
 
@@ -68,7 +68,7 @@ pub record IsGivenTwice (entries : List Entry) (status : ℕ) (line : List ℕ) 
 
 -- to place objects
 abbrev pub placing : List Entry → Work
-placing entries = record { text = λ text. ⊥; refusal = IsGivenTwice entries; unread = ⊥; in_pieces = false }
+placing entries = record { text = λ text. ⊥; refusal = IsGivenTwice entries; read_fault = ⊥; in_pieces = false }
 
 -- # Objects to a plan
 
@@ -93,4 +93,4 @@ IsNoPlanOf blocks status line =
 
 -- to make a plan
 abbrev pub planning : List Entry → Work
-planning entries = record { text = λ text. ⊥; refusal = IsUnplanned entries; unread = ⊥; in_pieces = false }
+planning entries = record { text = λ text. ⊥; refusal = IsUnplanned entries; read_fault = ⊥; in_pieces = false }

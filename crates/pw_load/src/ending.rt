@@ -25,7 +25,7 @@ pub fn without_memory<K: Sink>(err: &mut K) -> u8
 }
 
 /// Says that a file couldn't be read, and the status.
-pub fn unread<K: Sink>(err: &mut K) -> u8
+pub fn read_fault<K: Sink>(err: &mut K) -> u8
     ensures status { result ≡ 3 }
     ensures keeps { KeepsSink K.told K.faults err.old err.new }
     ensures line { GrewByLine (sink_seen K.Sink err.old) (sink_seen K.Sink err.new) (codes "read fault\n") }
@@ -35,7 +35,7 @@ pub fn unread<K: Sink>(err: &mut K) -> u8
 }
 
 /// Says that the output couldn't be written, and the status.
-pub fn unwritten<K: Sink>(err: &mut K) -> u8
+pub fn write_fault<K: Sink>(err: &mut K) -> u8
     ensures status { result ≡ 4 }
     ensures keeps { KeepsSink K.told K.faults err.old err.new }
     ensures line { GrewByLine (sink_seen K.Sink err.old) (sink_seen K.Sink err.new) (codes "write fault\n") }
@@ -52,7 +52,7 @@ pub fn printed<K: Sink>(err: &mut K, outcome: Result<(), PrintFault>) -> u8
 {
     match outcome {
         Ok(()) => 0,
-        Err(PrintFault::Sink) => unwritten(err),
+        Err(PrintFault::Sink) => write_fault(err),
         Err(PrintFault::Memory) => without_memory(err),
     }
 }

@@ -10,7 +10,7 @@ mod planning;
 mod refusal;
 mod saying;
 
-pub use ending::{printed, say, unread, unwritten, without_memory};
+pub use ending::{printed, read_fault, say, without_memory, write_fault};
 pub use loading::load;
 pub use placing::place;
 pub use planning::make_plan;

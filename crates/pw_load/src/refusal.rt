@@ -6,7 +6,7 @@ ghost use Rattle.pw_load.specs.Lines.{blocks_line};
 ghost use Rattle.pw_load.specs.Steps.{fault_status, plan_status};
 
 use crate::saying::{say_fault, say_refusal};
-use crate::{say, unread, without_memory};
+use crate::{read_fault, say, without_memory};
 use acpi_build::BuildFault;
 use aml_block::BlocksFault;
 use pw_base::Sink;
@@ -36,7 +36,7 @@ pub fn refuse<K: Sink>(page: &mut Page, err: &mut K, many: usize, fault: BlocksF
 {
     match fault {
         BlocksFault::Memory => without_memory(err),
-        BlocksFault::ReadFault { .. } => unread(err),
+        BlocksFault::ReadFault { .. } => read_fault(err),
         BlocksFault::Large => {
             say(err, b"blocks: larger than 16777216\n");
             1

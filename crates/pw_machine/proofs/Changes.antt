@@ -12,10 +12,7 @@ use Rattle.pw_books.specs.Sums.{total, bit, once_below, AtMost}
 use Rattle.pw_books.proofs.Lists.{at_set, total-set}
 use Rattle.pw_machine.proofs.Turns.{stays}
 use Rattle.pw_machine.proofs.Facts.{other_unmarked}
-
-pub at_most_more : (o : Option ℕ) (a b : ℕ) → a ≤ b → AtMost o a → AtMost o b
-at_most_more None a b le h = tt
-at_most_more (Some k) a b le h = omega (arith, h)
+use Rattle.pw_books.proofs.Changes.{at_most_more}
 
 pub notes_more : (made made2 count count2 : ℕ) (first second read : Option ℕ) → made ≤ made2 → count ≤ count2
     → NotesWithin made count first second read → NotesWithin made2 count2 first second read
@@ -83,7 +80,7 @@ changed m i j v w at made turns journal values ops count c = record {
         slots = g.slots;
         leader = g.leader;
         found = λ h mark. g.found h mark ∙ ap Some (c.others u h k t.0 t.1);
-        notes = notes_more m.made made m.count count u.first u.second u.read c.more c.risen g.notes;
+        notes = notes_more m.made made m.count count u.at_lock u.at_unlock u.read c.more c.risen g.notes;
         spent = g.spent;
       })
       (at_set m.views j k w u e);

@@ -84,7 +84,7 @@ gathers (t ∷ rest) m i j v at q a e clear =
 
 -- the view that made its entry, but for what it holds
 abbrev pub written : List HistoryEntry → HistoryEntry → ℕ → Request → View → View
-written history e count q v = record (led history count q v) { leads = false; seen = history ++ e ∷ []; book = grown seat_of v.book e; second = Some (count + 1); releasing = true }
+written history e count q v = record (led history count q v) { leads = false; seen = history ++ e ∷ []; book = grown seat_of v.book e; at_unlock = Some (count + 1); releasing = true }
 
 pub record Entered (m : Machine) (j : ℕ) (v : View) (q : Request) (e : HistoryEntry) : Type 0 where
   pub end : Machine

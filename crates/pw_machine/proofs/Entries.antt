@@ -20,9 +20,10 @@ use Rattle.pw_books.proofs.Lists.{at_set, total-set, bit_one, off, either_is}
 use Rattle.pw_books.proofs.Books.{reads_all, reads_other, prefix_more, knows_grown, count_grown, entries_of-other}
 use Rattle.pw_machine.proofs.Turns.{none_has, one_has, stays, loses, count-turns, count_renoted, noted_renoted}
 use Rattle.pw_machine.proofs.Facts.{is_state, live_leads, other_unmarked, number_below, other_count}
-use Rattle.pw_machine.proofs.Changes.{at_most_more, notes_more}
+use Rattle.pw_machine.proofs.Changes.{notes_more}
 use Rattle.pw_machine.proofs.Requests.{no_some, serves_releasing, serves_still, entry_stays}
 use Rattle.pw_machine.proofs.Takes.{registers_stay}
+use Rattle.pw_books.proofs.Changes.{at_most_more}
 
 fault_snoc : (es : List HistoryEntry) (e : HistoryEntry) (k : ℕ) → Faultless es → fault_at (es ++ e ∷ []) ≡ Some k → e.fault ≢ 0
 fault_snoc [] e k none has z = let is : fault_at (e ∷ []) ≡ None = ap (λ b. cond b None (Some (e.fault - 1))) (eq-eqb e.fault 0 z) in absurd (cc)
@@ -45,7 +46,7 @@ module _ (m : Machine) (i : Invariant m) (j : ℕ) (v : View) (at : get_elem? m.
 
   -- the count that it found
   found_count : may.first ≡ m.count
-  found_count = let a : v.first ≡ Some m.count = (i.fits j v at).found may.leads entry_unmarked in let b : v.first ≡ Some may.first = may.noted in cc
+  found_count = let a : v.at_lock ≡ Some m.count = (i.fits j v at).found may.leads entry_unmarked in let b : v.at_lock ≡ Some may.first = may.noted in cc
 
   own_count : 0 < count_in e.seat v.book
   own_count = let f = i.fits j v at in let live = live_leads m i j v at may.leads in omega (arith, f.own live, ap (λ n. count_in n v.book) may.seat)
@@ -67,7 +68,7 @@ module _ (m : Machine) (i : Invariant m) (j : ℕ) (v : View) (at : get_elem? m.
             × (v.leads ≡ true)). absurd (omega (arith, more, may.back, ap (λ t. count_turn t v.out) h.0))) (f.slots t more);
         leader = λ h. off false refl h;
         found = λ h. off false refl h;
-        notes = record { at_take = at_most_more v.first m.count count (omega (arith, found_count, may.kept)) f.notes.at_take; at_release = omega arith; at_read = f.notes.at_read };
+        notes = record { at_take = at_most_more v.at_lock m.count count (omega (arith, found_count, may.kept)) f.notes.at_take; at_release = omega arith; at_read = f.notes.at_read };
         spent = λ z. absurd (omega (arith, z, live));
       }
 
@@ -89,7 +90,7 @@ module _ (m : Machine) (i : Invariant m) (j : ℕ) (v : View) (at : get_elem? m.
         slots = g.slots;
         leader = λ h. off u.leads no-journal h;
         found = λ h. off u.leads no-journal h;
-        notes = notes_more m.made m.made m.count count u.first u.second u.read (omega arith) (omega (arith, found_count, may.kept)) g.notes;
+        notes = notes_more m.made m.made m.count count u.at_lock u.at_unlock u.read (omega arith) (omega (arith, found_count, may.kept)) g.notes;
         spent = g.spent;
       }
 

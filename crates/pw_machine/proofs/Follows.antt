@@ -23,7 +23,7 @@ use Rattle.pw_model.specs.Operations.{own_entry}
 use Rattle.pw_model.specs.Effects.{Effect, Rung, Taken, ask_effect, both_run, climb, drawn_ops, effect, effect_within, enter_c, level_effect, limits_in, member_place, refused_above, refused_effect, group_takes, ops_after, rung_taken, rungs, states_after, states_in, states_up, states_with, takes_by, votes_in, votes_with, with_ask}
 use Rattle.pw_model.specs.Records.{Part, Record, container, domain, group}
 use Rattle.pw_model.proofs.Lines.{IsLine, ancestors_line}
-use Rattle.pw_machine.specs.Walk.{Walk, begins_at, climb_on, climb_ops, climbed, comes, first_left, group_with, grouped, left, over, own_c_state, risen, scaled, scaled_effect, start, step, vote_begins, vote_reply}
+use Rattle.pw_machine.specs.Walk.{Walk, begins_at, climb_on, climb_ops, climbed, comes, first_left, group_with, grouped, left, over, own_c_state, chain_with, scaled, scaled_effect, start, step, vote_begins, vote_reply}
 
 module _ (P : Plan) (F : Record → Part) where
   -- over records with these parts the walk takes those, leaves them so, and ends so
@@ -68,7 +68,7 @@ module _ (P : Plan) (F : Record → Part) where
   onwards rising ss more = ss ++ cond rising more []
 
   one_more : (rising zero_there : Bool) (s : ℕ) (ss more : List ℕ)
-      → onwards (rising && not zero_there) (risen (rising && not zero_there) ss s) more
+      → onwards (rising && not zero_there) (chain_with (rising && not zero_there) ss s) more
       ≡ onwards rising ss (cond zero_there [] (s ∷ more))
   one_more false z s ss more = refl
   one_more true true s ss more = refl
@@ -86,10 +86,10 @@ module _ (P : Plan) (F : Record → Part) where
     abbrev goes : Bool
     goes = rising && not (s == 0)
 
-    past : (b : Bool) (on : Walk) (above : List Rung) → Ends q on above (onwards goes (risen goes ss s) (states_up P above))
-        → Ends q (cond b (climbed P q (risen goes ss s)) on) (cond b [] above)
+    past : (b : Bool) (on : Walk) (above : List Rung) → Ends q on above (onwards goes (chain_with goes ss s) (states_up P above))
+        → Ends q (cond b (climbed P q (chain_with goes ss s)) on) (cond b [] above)
         (onwards rising ss (cond (s == 0) [] (s ∷ states_up P (cond b [] above))))
-    past true on above h = ap (climbed P q) (sym (none_more goes (risen goes ss s)) ∙ one_more rising (s == 0) s ss [])
+    past true on above h = ap (climbed P q) (sym (none_more goes (chain_with goes ss s)) ∙ one_more rising (s == 0) s ss [])
     past false on above h = subst (λ states. Ends q on above states) (one_more rising (s == 0) s ss (states_up P above)) h
 
   -- from a container upwards the walk ends so, where child c votes v
@@ -106,8 +106,8 @@ module _ (P : Plan) (F : Record → Part) where
       let w = node_vote P n (votes_with P n c v old) in
       let on = rising && not (w.state == 0) in
       let up = (container_at P n).parent in
-      let above = climb_follows q (Container n) w (risen on ss w.state) on up ns line.1 in
-      let goes = climb_on P q (Container n) w (risen on ss w.state) on up in
+      let above = climb_follows q (Container n) w (chain_with on ss w.state) on up ns line.1 in
+      let goes = climb_on P q (Container n) w (chain_with on ss w.state) on up in
       subst (Climbs q c v ss rising (n ∷ ns)) (sym line.0)
       (refl, refl, past q ss rising w.state (both_run (node_vote P n old) w) goes (climb P F (Container n) w ns) above)
 

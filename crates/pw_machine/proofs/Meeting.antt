@@ -21,7 +21,7 @@ use Rattle.pw_books.specs.Books.{longer}
 use Rattle.pw_machine.specs.Law.{opened, Steps}
 use Rattle.pw_machine.specs.Meetings.{TheyMeet, TwoSeatsMeet}
 use Rattle.pw_books.proofs.Lists.{at_set, elem_below, set_else, set_here}
-use Rattle.pw_machine.proofs.Plans.{first_stays, on_route, opening_state, way_within}
+use Rattle.pw_machine.proofs.Plans.{first_stays, on_route, way_within}
 use Rattle.pw_machine.proofs.Requests.{next_in}
 use Rattle.pw_machine.proofs.Facts.{is_state}
 use Rattle.pw_machine.proofs.Keeps.{step_keeps}
@@ -30,6 +30,7 @@ use Rattle.pw_machine.proofs.Paths.{Leads, Path, Quiet, joins, path_keeps, recor
 use Rattle.pw_machine.proofs.Cycles.{cycles}
 use Rattle.pw_machine.proofs.Seating.{Seated, Splits, seated_quiet, splits}
 use Rattle.pw_machine.proofs.Histories.{idle_asks}
+use Rattle.pw_model.proofs.Opening.{opening_fits}
 
 -- # Requests and their entries
 
@@ -56,7 +57,7 @@ module _ (given : Given) (m : Machine) (same : m.given ≡ given) where
   pub begins_in : Invariant m → (q : Request) (t : ℕ) → Has given.plan q → StartsWith (way given.plan (opening given.plan) q) (t ∷ [])
       → StartsWith (way m.given.plan (now m) q) (t ∷ [])
   begins_in i q t has begins =
-      first_stays m.given.plan (opening m.given.plan) (now m) q t (opening_state m.given.plan) (is_state m i) (has_in q has) (subst (λ (g : Given). StartsWith (way g.plan (opening g.plan) q) (t ∷ []))
+      first_stays m.given.plan (opening m.given.plan) (now m) q t (opening_fits m.given.plan) (is_state m i) (has_in q has) (subst (λ (g : Given). StartsWith (way g.plan (opening g.plan) q) (t ∷ []))
       (sym same) begins)
 
   pub follows_in : (n : ℕ) (q : Request) → Has given.plan q → Faultless m.history → MayFollow m.given.plan m.history (entry_of n q)

@@ -33,7 +33,7 @@ use Rattle.pw_machine.specs.Turns.{StartsWith, count_turn, part_at, way}
 
 -- # Histories
 
-states_all : (P : Plan) (es : List HistoryEntry) → AllByRecursion (IsEntry P) es → AllByRecursion (StatesRequest P) es
+pub states_all : (P : Plan) (es : List HistoryEntry) → AllByRecursion (IsEntry P) es → AllByRecursion (StatesRequest P) es
 states_all P [] a = tt
 states_all P (e ∷ es) a = (a.0.states, states_all P es a.1)
 
@@ -343,6 +343,3 @@ pub first_stays : (P : Plan) (S T : State) (q : Request) (t : ℕ) → IsState P
     → StartsWith (way P T q) (t ∷ [])
 unfolding way
 first_stays P S T q t s s2 has begins = one_taken P (footprint P S q) (footprint P T q) t begins.0 begins.1 ((is_local P q (wired P) has).prefix S T 0 s s2 tt)
-
-pub opening_state : (P : Plan) → IsState P (opening P)
-opening_state P = opening_fits P

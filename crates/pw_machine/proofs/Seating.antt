@@ -14,6 +14,7 @@ use Rattle.pw_machine.proofs.Keeps.{opens, step_keeps}
 use Rattle.pw_machine.proofs.Told.{drawn_is_spare}
 use Rattle.pw_machine.proofs.Paths.{Leads, Path, Quiet, leads_on, once, one_step, path_keeps, then_path}
 use Rattle.pw_machine.proofs.Cycles.{releases}
+use Rattle.pw_books.proofs.Seating.{at_end}
 
 -- # Opening
 
@@ -79,10 +80,6 @@ seated_still n m end j w s l number idle told = record {
       (λ e. record { view = w; there = ap (λ k. get_elem? end.views k) e ∙ l.there; number = number ∙ sym e; idle = idle; told = told })
       (λ ne. let seat = s.seats k le in record { view = seat.view; there = l.others k ne ∙ seat.there; number = seat.number; idle = seat.idle; told = seat.told });
 }
-
-at_end : {A : Type 0} (l : List A) (a : A) → get_elem? (l ++ a ∷ []) (length l) ≡ some a
-at_end [] a = refl
-at_end (x ∷ xs) a = at_end xs a
 
 -- the last of the steps splits this number off
 pub record SplitLast (steps : List (ℕ × View × Kind)) (n : ℕ) : Type 0 where

@@ -24,7 +24,7 @@ use Rattle.pw_model.proofs.Lines.{Below, IsLine, line_is, starts}
 use Rattle.pw_model.proofs.Ways.{has_way}
 use Rattle.pw_machine.specs.declared.view.Held.{Held}
 use Rattle.pw_machine.specs.Standing.{Stands, WalksStand, own_vote}
-use Rattle.pw_machine.specs.Walk.{Walk, begins_at, climb_on, climbed, climbing, grouped, over, risen, scaled, start, step, vote_begins, walk_from, vote_reply}
+use Rattle.pw_machine.specs.Walk.{Walk, begins_at, climb_on, climbed, climbing, grouped, over, chain_with, scaled, start, step, vote_begins, walk_from, vote_reply}
 
 module _ (P : Plan) where
   -- # The line from a container
@@ -51,7 +51,7 @@ module _ (P : Plan) where
       same_line (Some n) _ _ (line_of (Some n) (λ k e. let i : n ≡ k = cc in omega (arith, lt, i)))
       (refl, line_of (container_at P n).parent up)
 
-  one_longer : (b : Bool) (ss : List ℕ) (s : ℕ) → length (risen b ss s) ≤ suc (length ss)
+  one_longer : (b : Bool) (ss : List ℕ) (s : ℕ) → length (chain_with b ss s) ≤ suc (length ss)
   one_longer true ss s = let e = length-append ss (s ∷ []) in omega (arith, e)
   one_longer false ss s = omega arith
 
@@ -91,7 +91,7 @@ module _ (P : Plan) where
         let longer = one_longer goes ss w.state in
         let was : length ss + length (n ∷ line_from P.containers up) ≤ 9 =
         subst (λ l. length ss + length l ≤ 9) (goes_on n h.exists) h.room in
-        let states = risen goes ss w.state in
+        let states = chain_with goes ss w.state in
         on_or_over (both_run (node_vote P n old) w) (climb_on P q (Container n) w states goes up) states
         (climbs n new states goes h.exists (omega (arith, longer, was)) h.accepted up refl)
 

@@ -21,16 +21,13 @@ use Rattle.pw_books.specs.Books.{count_in}
 use Rattle.pw_machine.specs.Machine.{Machine, now, HasTurn, turns_of, count_held, holds, leads, marks, IsNoted, ServesRequest, Fits, HasRegisters, Invariant, seat_of}
 use Rattle.pw_books.specs.Sums.{total, bit, once_below}
 use Rattle.pw_machine.specs.Steps.{take_record, find_record_held, record_out, record_back, release_record, take_journal, find_journal_held, journal_out, journal_back, release_without_entry, request_left, sign_left, without_record, in_hand, in_place, without_turn, taken, met_with, goes_on, freed, led, let_go, Asks, Leaves, HoldsAs, May, after}
-use Rattle.pw_books.proofs.Lists.{elem_below, turn_below, set_here, set_else, total-set, one, none-of, bit_one, off}
+use Rattle.pw_books.proofs.Lists.{elem_below, turn_below, set_here, set_else, total-set, one, none-of, bit_one, off, either_is}
 use Rattle.pw_books.proofs.Books.{reads_all}
 use Rattle.pw_machine.proofs.Turns.{none_has, one_has, stays, gains, loses, turned, turns-snoc, count-snoc, noted-snoc, noted_without, count_without, holds_count, noted_is}
 use Rattle.pw_machine.proofs.Facts.{live_held, live_leads}
-use Rattle.pw_machine.proofs.Changes.{changed, moved, turns_stay, at_most_more}
+use Rattle.pw_machine.proofs.Changes.{changed, moved, turns_stay}
 use Rattle.pw_machine.proofs.Requests.{no_some, front_of, all_of, serves_asking, serves_leading, serves_releasing}
-
-pub either_is : (b : Bool) → (b ≡ true) ⊎ (b ≡ false)
-either_is true = inl refl
-either_is false = inr refl
+use Rattle.pw_books.proofs.Changes.{at_most_more}
 
 no_request_left : (hs : List Held) (request : Option Request) → request ≡ None → request_left hs request ≡ None
 no_request_left [] request e = refl
@@ -364,7 +361,7 @@ module _ (m : Machine) (i : Invariant m) (j : ℕ) (v : View) (at : get_elem? m.
               × (v.leads ≡ true)). absurd (omega (arith, more, back, ap (λ t. count_turn t v.out) h.0))) (f.slots r more);
           leader = λ e. off false refl e;
           found = λ e. off false refl e;
-          notes = record { at_take = at_most_more v.first m.count count risen f.notes.at_take; at_release = omega arith; at_read = f.notes.at_read };
+          notes = record { at_take = at_most_more v.at_lock m.count count risen f.notes.at_take; at_release = omega arith; at_read = f.notes.at_read };
           spent = λ z. absurd (omega (arith, z, live));
         };
       }

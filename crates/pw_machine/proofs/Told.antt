@@ -20,18 +20,9 @@ use Rattle.pw_books.proofs.Books.{begins_furthest, empty_front, known_both, entr
 use Rattle.pw_machine.proofs.Turns.{holder, count-turns}
 use Rattle.pw_machine.proofs.Facts.{other_unmarked, live_held, live_leads, number_below, other_count}
 use Rattle.pw_machine.proofs.Requests.{next_in}
+use Rattle.pw_books.proofs.Told.{total_zero, total_only}
 
 -- # Sums over views of which one counts
-
-total_zero : {A : Type 0} (g : A → ℕ) (l : List A) → ((k : ℕ) (u : A) → get_elem? l k ≡ some u → g u ≡ 0) → total g l ≡ 0
-total_zero g [] z = refl
-total_zero g (y ∷ ys) z = omega (arith, z 0 y refl, total_zero g ys (λ k u e. z (suc k) u e))
-
-total_only : {A : Type 0} (g : A → ℕ) (l : List A) (j : ℕ) (v : A) → get_elem? l j ≡ some v
-    → ((k : ℕ) (u : A) → k ≢ j → get_elem? l k ≡ some u → g u ≡ 0) → total g l ≡ g v
-total_only g [] j v at z = absurd (some-ne-none v (sym at))
-total_only g (x ∷ xs) zero v at z = omega (arith, ap g (some-injective x v at), total_zero g xs (λ k u e. z (suc k) u (λ h. omega (arith, h)) e))
-total_only g (x ∷ xs) (suc j) v at z = omega (arith, z 0 x (λ h. omega (arith, h)) refl, total_only g xs j v at (λ k u ne e. z (suc k) u (λ h. ne (omega (arith, h))) e))
 
 module _ (m : Machine) (i : Invariant m) (j : ℕ) (v : View) (at : get_elem? m.views j ≡ some v) where
   -- # Who was met

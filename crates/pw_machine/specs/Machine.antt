@@ -70,8 +70,8 @@ spent_view = record {
   held = [];
   leads = false;
   out = [];
-  first = None;
-  second = None;
+  at_lock = None;
+  at_unlock = None;
   request = None;
   releasing = false;
   met = None;
@@ -140,8 +140,8 @@ pub record Fits (P : Plan) (history : List HistoryEntry) (made count : ℕ) (v :
   pub slots : (t : ℕ) → 0 < count_turn t v.out → HasTurn P t v
   -- the journal's holder has seen the whole history, and noted the count that it found
   pub leader : v.leads ≡ true → v.seen ≡ history
-  pub found : v.leads ≡ true → v.mark ≡ false → v.first ≡ Some count
-  pub notes : NotesWithin made count v.first v.second v.read
+  pub found : v.leads ≡ true → v.mark ≡ false → v.at_lock ≡ Some count
+  pub notes : NotesWithin made count v.at_lock v.at_unlock v.read
   pub spent : v.parts ≡ 0 → v ≡ spent_view
 
 -- # What is true of the machine

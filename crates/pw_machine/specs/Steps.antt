@@ -75,7 +75,7 @@ abbrev pub freed : ℕ → View → View
 freed t v = left_with (without_record t v.held) v
 
 abbrev pub led : List HistoryEntry → ℕ → Request → View → View
-led history count q v = record v { leads = true; seen = history; first = Some count; request = Some q }
+led history count q v = record v { leads = true; seen = history; at_lock = Some count; request = Some q }
 
 abbrev pub renoted : Plan → State → List Held → List Held
 renoted P S [] = []
@@ -95,10 +95,11 @@ in_place t v = record v { out = without_turn t v.out }
 -- it made its entry, which left this state
 abbrev pub entered : Plan → State → HistoryEntry → ℕ → View → View
 entered P S e count v =
-    releasing (renoted P S v.held) (record v { leads = false; seen = v.seen ++ e ∷ []; book = grown seat_of v.book e; second = Some count })
+    releasing (renoted P S v.held)
+    (record v { leads = false; seen = v.seen ++ e ∷ []; book = grown seat_of v.book e; at_unlock = Some count })
 
 abbrev pub let_go : ℕ → View → View
-let_go count v = releasing v.held (record v { leads = false; second = Some count; mark = false })
+let_go count v = releasing v.held (record v { leads = false; at_unlock = Some count; mark = false })
 
 abbrev pub drawn : ℕ → View → View
 drawn n v = record v { book = calls_of n [] ∷ v.book; read = Some (n + 1) }
@@ -153,7 +154,7 @@ pub record Enters (m : Machine) (v : View) (e : HistoryEntry) (count : ℕ) : Ty
   pub follows : MayFollow m.given.plan m.history e
   -- the registers' count has not sunk since the journal was taken, and for a fault it rose
   pub first : ℕ
-  pub noted : v.first ≡ Some first
+  pub noted : v.at_lock ≡ Some first
   pub kept : first ≤ count
   pub fault : e.fault ≢ 0 → Rose first count
 

@@ -121,16 +121,16 @@ climb_on P q c v ss rising None = climbed P q ss
 climb_on P q c v ss rising (Some n) = climbing n c v ss rising
 
 -- the states with one more, while they rise
-abbrev pub risen : Bool → List ℕ → ℕ → List ℕ
-risen rising ss s = if rising then ss ++ s ∷ [] else ss
+abbrev pub chain_with : Bool → List ℕ → ℕ → List ℕ
+chain_with rising ss s = if rising then ss ++ s ∷ [] else ss
 
 -- past container n, whose children voted so before and vote so now: a climb ends at the first that runs before and after
 abbrev pub climb_past : Plan → Request → ℕ → List ℕ → Bool → List Vote → List Vote → Walk
 climb_past P q n ss rising old new =
     let v = node_vote P n new in
     let goes = rising && not (v.state == 0) in
-    if both_run (node_vote P n old) v then climbed P q (risen goes ss v.state)
-    else climb_on P q (Container n) v (risen goes ss v.state) goes (container_at P n).parent
+    if both_run (node_vote P n old) v then climbed P q (chain_with goes ss v.state)
+    else climb_on P q (Container n) v (chain_with goes ss v.state) goes (container_at P n).parent
 
 -- # Beginning and steps
 

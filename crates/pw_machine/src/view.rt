@@ -32,8 +32,8 @@ pub struct View {
     /// after the records'.
     pub out: LinkedList<u32>,
     /// The registers' count when it last took the journal, and when it last released it.
-    pub first: Option<u64>,
-    pub second: Option<u64>,
+    pub at_lock: Option<u64>,
+    pub at_unlock: Option<u64>,
     pub request: Option<Request>,
     /// It made its entry, or gives up.
     pub releasing: bool,

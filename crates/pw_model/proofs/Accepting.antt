@@ -26,7 +26,7 @@ use Rattle.pw_model.specs.Refusals.{◌or_else◌, above_limit, ask_refusal, dom
 use Rattle.pw_model.specs.Acceptance.{AreIdleDomainsFit, HasFitDomain, MayAskFor, MayIdleIn}
 use Rattle.pw_model.proofs.Fitting.{none_first, none_second, not_refused}
 use Rattle.pw_model.proofs.Gathering.{idle_kind}
-use Rattle.pw_model.proofs.Maps.{weaker}
+use Rattle.pw_base.proofs.Facts.{weaker}
 
 pub none_both : (a b : Option Reply) → a ≡ None → b ≡ None → (a or_else b) ≡ None
 none_both None b e f = f

@@ -26,9 +26,9 @@ use Rattle.pw_model.specs.Laws.{HasOwnRegisters, IsFitMember, IsLastSetAmong}
 use Rattle.pw_model.specs.Operations.{domain_ops, opening_at, opening_ops, opening_ops_of, register_of, set_at, set_on}
 use Rattle.pw_model.proofs.Histories.{Keeps, history_stands}
 use Rattle.pw_model.proofs.LastSets.{Untouched, mapped, untouched_in}
-use Rattle.pw_model.proofs.Maps.{weaker}
 use Rattle.pw_model.proofs.Registers.{Found, IsFit, elsewhere, found, opening_at_members, place_is, set_at_members}
 use Rattle.pw_model.proofs.Standings.{Spares, standing-any, standing-spared}
+use Rattle.pw_base.proofs.Facts.{weaker}
 
 -- # The last that is set among members
 

@@ -20,7 +20,7 @@ use Rattle.pw_plan.specs.declared.request.Request.TheVariants.{Idle, Wake, Perf,
 use Rattle.pw_plan.specs.Groups.{has_member, is_idle, no_domain}
 use Rattle.pw_plan.specs.Places.{cpu_at, domain_at, domain_of, group_at, group_of, no_group}
 use Rattle.pw_plan.specs.Opening.{opening_by, opening_count}
-use Rattle.pw_plan.specs.Requests.{domain_bound, group_bound, opening_bound, ops_bound, set_by}
+use Rattle.pw_plan.specs.Requests.{domain_bound, group_bound, opening_bound, ops_bound, set_count}
 use Rattle.pw_model.specs.declared.reply.Reply.{Reply}
 use Rattle.pw_model.specs.declared.state.State.{State}
 use Rattle.pw_model.specs.States.{opening}
@@ -31,7 +31,7 @@ use Rattle.pw_model.specs.Operations.{accepted_ops, domain_ops, drawn_with, ente
 
 -- # Performance and throttling
 
-set_at-length : (coord : Coord) (members : List ℕ) (p : ℕ) → length (set_at coord members p) ≡ set_by coord (length members)
+pub set_at-length : (coord : Coord) (members : List ℕ) (p : ℕ) → length (set_at coord members p) ≡ set_count coord (length members)
 set_at-length SwAll members p = refl
 set_at-length SwAny members p = refl
 set_at-length HwAll members p = refl
@@ -65,7 +65,7 @@ filter-le t (x ∷ xs) = step (t x) (filter-le t xs)
     step false le = omega arith
 
 -- who is left out isn't counted
-others-lt : (t : ℕ → Bool) (p : ℕ) (ms : List ℕ) → has_member ms p ≡ true → length (filter (λ q. not (q == p) && t q) ms) < length ms
+pub others-lt : (t : ℕ → Bool) (p : ℕ) (ms : List ℕ) → has_member ms p ≡ true → length (filter (λ q. not (q == p) && t q) ms) < length ms
 others-lt t p [] e = cc
 others-lt t p (m ∷ ms) e = step (m == p) e (others-lt t p ms)
   where
@@ -140,7 +140,7 @@ opening_of-length P d = step (is_idle (domain_at P d).kind) (nat_lt 0 (domain_at
         ∙ opening_at-length (domain_at P d).coord (domain_at P d).members
 
 -- lists put together, one for each element of another
-total : {X Y : Type 0} (f : ℕ → List Y) (g : X → ℕ) (d : X) (xs : List X) (k : ℕ) → ((i : ℕ) → i < length xs → length (f (k + i)) ≡ g (get_or xs i d))
+pub total : {X Y : Type 0} (f : ℕ → List Y) (g : X → ℕ) (d : X) (xs : List X) (k : ℕ) → ((i : ℕ) → i < length xs → length (f (k + i)) ≡ g (get_or xs i d))
     → length (flat_map f (range_with_len k (length xs))) ≡ sum_by g xs
 total f g d [] k h = refl
 total f g d (x ∷ xs) k h =

@@ -35,6 +35,7 @@ use Rattle.pw_model.proofs.Gathered.{group_member}
 use Rattle.pw_model.proofs.Levels.{HasDomain, has_domain}
 use Rattle.pw_model.proofs.Plans.{wired}
 use Rattle.pw_plan.proofs.Found.{found, position-here, position-later}
+use Rattle.pw_plan.proofs.TreeLemmas.{lt_true}
 
 -- # Places
 
@@ -113,9 +114,6 @@ module _ (P : Plan) where
 
 -- # The calls make the effects
 
-group_lt : (m n : ℕ) → m < n → nat_lt m n ≡ true
-group_lt m n lt = grind (arith, nat_tests)
-
 module _ (P : Plan) where
   level_ops_is : (kind : DomainKind) (p : ℕ) (x y : Part) → HasDomain P kind p
       → (level_effect P kind p (domain_of P kind p) x y).ops ≡ level_ops P (domain_of P kind p) (member_place (domain_at P (domain_of P kind p)).members p) x y
@@ -134,7 +132,7 @@ module _ (P : Plan) where
       let old = states_in (F (group g)) in
       let new = states_with ms p v.state old in
       let c = c_state_by P ms new p in
-      ap (λ b. own_entry Cst (cond b c v.state) (enter_c P p (cond b c v.state)) ++ cond b (drawn_ops P ms old new p) []) (group_lt g (length P.groups) lt)
+      ap (λ b. own_entry Cst (cond b c v.state) (enter_c P p (cond b c v.state)) ++ cond b (drawn_ops P ms old new p) []) (lt_true g (length P.groups) lt)
       ∙ ap (λ (q : ℕ). own_entry Cst (c_state_by P ms new q) (enter_c P q (c_state_by P ms new q)) ++ drawn_ops P ms old new q) (sym (place_member ms p (group_member P (wired P) p lt)))
 
   pub calls_serve : CallsServe P

@@ -16,7 +16,7 @@ use Rattle.pw_model.specs.States.{with_change, running}
 use Rattle.pw_model.specs.Containers.{ancestors, child_vote, child_votes, container_vote, node_vote, seen_by_kind}
 use Rattle.pw_model.specs.Answers.{states_along}
 use Rattle.pw_model.proofs.Enabling.{container_vote-runs}
-use Rattle.pw_model.proofs.Maps.{map_agree, weaker}
+use Rattle.pw_model.proofs.Maps.{map_agree}
 use Rattle.pw_model.proofs.Votes.{IsChild, are_children, container_vote-by_children, none_past}
 use Rattle.pw_plan.specs.Orderly.{is_same}
 use Rattle.pw_model.specs.inner.Wired.{IsWired}
@@ -24,12 +24,8 @@ use Rattle.pw_model.specs.Records.{part_of, runs_in_both, through}
 use Rattle.pw_model.specs.Effects.{Rung, both_run, climb, states_up, votes_with}
 use Rattle.pw_model.proofs.Lines.{Among, IsLine, each_among, among_cases, ancestors_line, heads, not_above, one_child, parent_in, starts}
 use Rattle.pw_model.proofs.Sets.{map_set}
-
-same_child : (c d : Child) → is_same c d ≡ true → c ≡ d
-same_child (Cpu p) (Cpu q) e = ap (λ k. Cpu k) (sym (eqb-true q p e))
-same_child (Cpu p) (Container n) e = cc
-same_child (Container m) (Cpu q) e = cc
-same_child (Container m) (Container n) e = ap (λ k. Container k) (sym (eqb-true n m e))
+use Rattle.pw_base.proofs.Facts.{weaker}
+use Rattle.pw_plan.proofs.Orders.{same_child}
 
 module _ (P : Plan) (wired : IsWired P) (p : ℕ) (exists : p < length P.cpus) (S : State) (v : Vote) where
   -- the state with the vote

@@ -13,8 +13,8 @@ use Rattle.pw_model.specs.declared.state.Vote.{Vote}
 use Rattle.pw_model.specs.States.{idling, running}
 use Rattle.pw_model.specs.Containers.{all_allow, child_vote, child_votes, container_vote, enables_to, greatest, least_tolerance, may_idle, node_vote, vote_over}
 use Rattle.pw_model.proofs.Greatest.{greatest-le}
-use Rattle.pw_model.proofs.Maps.{empty}
 use Rattle.pw_model.proofs.Votes.{container_vote-by_children}
+use Rattle.pw_base.proofs.Facts.{empty}
 
 -- # Two bounds
 

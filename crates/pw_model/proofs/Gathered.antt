@@ -23,12 +23,13 @@ use Rattle.pw_model.specs.Operations.{drawn_with, enter, is_drawn}
 use Rattle.pw_model.specs.Answers.{states_of, states_by, states_along}
 use Rattle.pw_model.specs.Containers.{ancestors}
 use Rattle.pw_model.proofs.Greatest.{greatest-agree, greatest-le, greatest-most}
-use Rattle.pw_model.proofs.Maps.{weaker}
 use Rattle.pw_model.specs.inner.Wired.{IsWired}
 use Rattle.pw_model.specs.Records.{state_of_vote}
 use Rattle.pw_model.specs.Effects.{c_state_by, drawn_by, drawn_ops, enter_c, enters_by, gathered_by, state_by}
 use Rattle.pw_plan.proofs.Found.{passes}
-use Rattle.pw_model.proofs.Levels.{each_member, read_place}
+use Rattle.pw_model.proofs.Levels.{read_place}
+use Rattle.pw_base.proofs.Facts.{weaker}
+use Rattle.pw_model.proofs.Standings.{each_member}
 
 all_agree : {X : Type 0} (s t : X → Bool) (xs : List X) → AllByRecursion (λ x. s x ≡ t x) xs → list_all s xs ≡ list_all t xs
 all_agree s t [] a = refl

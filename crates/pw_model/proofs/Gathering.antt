@@ -17,13 +17,11 @@ use Rattle.pw_model.specs.States.{ask_of, limit_of, vote_of}
 use Rattle.pw_model.specs.Domains.{c_state, governs, is_gathered, may_enter, standing, stands_at, state_of}
 use Rattle.pw_model.specs.Laws.{AsksFrom, IsBehindOwn, LetsEnter, LimitsWithin, MayEnter}
 use Rattle.pw_model.proofs.Greatest.{greatest-most, greatest-passes}
-use Rattle.pw_model.proofs.Maps.{each_passes, fold_min-each, fold_min-least, weaker}
+use Rattle.pw_model.proofs.Maps.{each_passes, fold_min-each, fold_min-least}
+use Rattle.pw_base.proofs.Facts.{weaker}
+use Rattle.pw_plan.proofs.TreeLemmas.{all_of}
 
 -- # C states
-
-pub all_pass : {X : Type 0} (t : X → Bool) (xs : List X) → AllByRecursion (λ x. t x ≡ true) xs → list_all t xs ≡ true
-all_pass t [] a = refl
-all_pass t (x ∷ xs) a = and_both (t x) (list_all t xs) a.0 (all_pass t xs a.1)
 
 pub idle_kind : (k : DomainKind) → is_idle k ≡ same_kind k Idle
 idle_kind Perf = refl
@@ -50,7 +48,7 @@ module _ (S : State) (p j : ℕ) where
           let covered = and_first (covers Idle p d) (is_software d.coord) first in
           let same : (state_of d == j) ≡ true = and_second (covers Idle p d && is_software d.coord) (state_of d == j) e in
           let about : state_of d ≡ j = grind (arith, nat_tests) in
-          all_pass (λ q. nat_le (state_of d) (vote_of S q).state) d.members
+          all_of (λ q. nat_le (state_of d) (vote_of S q).state) d.members
           (weaker (λ q. j ≤ (vote_of S q).state) (λ q. nat_le (state_of d) (vote_of S q).state ≡ true) (λ q le. grind (arith, nat_tests)) d.members
           (h (idle_kind d.kind ∙ and_first (same_kind d.kind Idle) (has_member d.members p) covered) (and_second (covers Idle p d) (is_software d.coord) first)
           (and_second (same_kind d.kind Idle) (has_member d.members p) covered) about))
@@ -61,7 +59,7 @@ entered_may P S p lt = weaker (λ d. (not (governs p (c_state P S p) d) || is_ga
 
 pub entered_greatest : (P : Plan) (S : State) (p j : ℕ) → j ≤ (vote_of S p).state → MayEnter P S p j → j ≤ c_state P S p
 entered_greatest P S p j le h = greatest-most (may_enter P S p) (vote_of S p).state j le
-    (all_pass (λ d. not (governs p j d) || is_gathered S d) P.domains (weaker (LetsEnter S p j) (λ d. (not (governs p j d) || is_gathered S d) ≡ true) (lets_by S p j) P.domains h))
+    (all_of (λ d. not (governs p j d) || is_gathered S d) P.domains (weaker (LetsEnter S p j) (λ d. (not (governs p j d) || is_gathered S d) ≡ true) (lets_by S p j) P.domains h))
 
 -- # Where domains stand
 

@@ -35,10 +35,7 @@ use Rattle.pw_model.specs.Refusals.{domain_refusal, fixed_refusal, refusal, stat
 use Rattle.pw_model.proofs.LastSets.{mapped}
 use Rattle.pw_model.proofs.Standings.{Spares}
 use Rattle.pw_model.proofs.Staying.{request_has}
-
-first_none : (a b : Option Reply) → (a or_else b) ≡ None → a ≡ None
-first_none None b e = refl
-first_none (Some r) b e = cc
+use Rattle.pw_model.proofs.Fitting.{none_first}
 
 -- # Idle requests set nothing
 
@@ -77,10 +74,10 @@ module _ (P : Plan) (Stands : State → List Op → Type 0) (keeps : Keeps P Sta
       let T = with_change S (changes.Vote q (idling s t)) in
       keeps.entered T ops (idle_ops P S T q) (idle_sets_none P S T q) (keeps.voted S q (idling s t) ops last)
   accepted_stands S (Wake q) ops has e last = rw append-nil (keeps.voted S q running ops last)
-  accepted_stands S (Perf q i) ops has e last = keeps.requested S (changes.Ask scales.Perf q i) kinds.Perf q has (first_none (domain_refusal P kinds.Perf q (scale_of kinds.Perf (cpu_at P q))) _ e)
+  accepted_stands S (Perf q i) ops has e last = keeps.requested S (changes.Ask scales.Perf q i) kinds.Perf q has (none_first (domain_refusal P kinds.Perf q (scale_of kinds.Perf (cpu_at P q))) _ e)
       refl (λ k m h. h) ops last
   accepted_stands S (Throttle q i) ops has e last = keeps.requested S (changes.Ask scales.Throttle q i) kinds.Throttle q has
-      (first_none (domain_refusal P kinds.Throttle q (scale_of kinds.Throttle (cpu_at P q))) _ e) refl (λ k m h. h) ops last
+      (none_first (domain_refusal P kinds.Throttle q (scale_of kinds.Throttle (cpu_at P q))) _ e) refl (λ k m h. h) ops last
   accepted_stands S (PerfLimit q n) ops has e last = keeps.requested S (changes.Limit scales.Perf q (capped (scale_of kinds.Perf (cpu_at P q)) n)) kinds.Perf q has e refl (λ k m h. h) ops last
   accepted_stands S (ThrottleLimit q n) ops has e last = keeps.requested S (changes.Limit scales.Throttle q (capped (scale_of kinds.Throttle (cpu_at P q)) n)) kinds.Throttle q has e refl
       (λ k m h. h) ops last
@@ -91,7 +88,7 @@ module _ (P : Plan) (Stands : State → List Op → Type 0) (keeps : Keeps P Sta
     where
       step : (r : Option Reply) → refusal P S q ≡ r → Stands (if_accepted r (λ reply. S) (changed P S q)) (ops ++ if_accepted r (λ reply. []) (accepted_ops P S (changed P S q) q))
       step (Some reply) e = rw append-nil last
-      step None e = accepted_stands S q ops has (first_none (fixed_refusal P q) (state_refusal S q) e) last
+      step None e = accepted_stands S q ops has (none_first (fixed_refusal P q) (state_refusal S q) e) last
 
   entry_stands : (S : State) (e : HistoryEntry) (ops : List Op) → IsEntry P e → e.fault ≡ 0 → Stands S ops → Stands (after_entry P S e) (ops ++ entry_ops P S e)
   entry_stands S e ops is fault last = let f : (e.fault == 0) ≡ true = grind (arith, nat_tests) in rw f (request_stands S (request_of e) ops (request_has P e is.states) last)

@@ -17,7 +17,8 @@ use Rattle.pw_model.specs.Laws.{Allows, MayIdle}
 use Rattle.pw_model.proofs.Enabling.{container_vote-has, container_vote-le, container_vote-runs, container_vote-some, container_vote-state, vote_over-idles}
 use Rattle.pw_model.proofs.Greatest.{greatest-most, greatest-passes}
 use Rattle.pw_plan.proofs.Lists.{and_both, and_first, and_second}
-use Rattle.pw_model.proofs.Maps.{fold_min-each, fold_min-least, map_map}
+use Rattle.pw_model.proofs.Maps.{fold_min-each, fold_min-least}
+use Rattle.pw_base.proofs.Facts.{map_map}
 
 -- # A child allows a state by the test exactly where it does by what is said of it
 

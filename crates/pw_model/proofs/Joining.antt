@@ -78,11 +78,11 @@ last_of_first [] fs a = tt
 last_of_first (d ∷ []) fs a = tt
 last_of_first (d ∷ f ∷ es) fs a = (a.0, last_of_first (f ∷ es) fs a.1)
 
-each_first : {X : Type 0} (Q : X → Type 0) (xs ys : List X) → AllByRecursion Q (xs ++ ys) → AllByRecursion Q xs
+pub each_first : {X : Type 0} (Q : X → Type 0) (xs ys : List X) → AllByRecursion Q (xs ++ ys) → AllByRecursion Q xs
 each_first Q [] ys a = tt
 each_first Q (x ∷ xs) ys a = (a.0, each_first Q xs ys a.1)
 
-each_last : {X : Type 0} (Q : X → Type 0) (xs ys : List X) → AllByRecursion Q (xs ++ ys) → AllByRecursion Q ys
+pub each_last : {X : Type 0} (Q : X → Type 0) (xs ys : List X) → AllByRecursion Q (xs ++ ys) → AllByRecursion Q ys
 each_last Q [] ys a = a
 each_last Q (x ∷ xs) ys a = each_last Q xs ys a.1
 
@@ -125,16 +125,13 @@ module _ (P : Plan) where
 
 -- # The fault
 
-no_fault : (es : List HistoryEntry) → fault_at es ≡ None → Faultless es
-no_fault [] e = tt
-no_fault (x ∷ es) e = step (x.fault == 0) refl e (no_fault es)
+pub fault_none : (es : List HistoryEntry) → fault_at es ≡ None → Faultless es
+fault_none [] e = tt
+fault_none (x ∷ es) e = step (x.fault == 0) refl e (fault_none es)
   where
     step : (b : Bool) → (x.fault == 0) ≡ b → cond b (fault_at es) (Some (x.fault - 1)) ≡ None → (fault_at es ≡ None → Faultless es) → (x.fault ≡ 0) × Faultless es
     step true h e later = (grind (arith, nat_tests), later e)
     step false h e later = cc
-
-pub fault_none : (es : List HistoryEntry) → fault_at es ≡ None → Faultless es
-fault_none es e = no_fault es e
 
 pub faultless_none : (es : List HistoryEntry) → Faultless es → fault_at es ≡ None
 faultless_none [] a = refl

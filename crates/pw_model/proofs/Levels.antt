@@ -21,7 +21,7 @@ use Rattle.pw_model.specs.declared.state.State.{State}
 use Rattle.pw_model.specs.States.{ask_of, asks_of, limit_of, limits_of, with_change}
 use Rattle.pw_model.specs.Domains.{standing, stands_at}
 use Rattle.pw_model.proofs.Maps.{map_agree}
-use Rattle.pw_model.proofs.Standings.{Spares, ask_spared, domain_kind, limit_spared}
+use Rattle.pw_model.proofs.Standings.{Spares, ask_spared, domain_kind, limit_spared, each_member}
 use Rattle.pw_plan.specs.inner.Once.{Once}
 use Rattle.pw_model.specs.Records.{Part, levels, domain, part_of}
 use Rattle.pw_model.specs.Effects.{member_place, standing_in, with_ask, with_limit}
@@ -30,10 +30,6 @@ use Rattle.pw_plan.proofs.Firsts.{same_by, same_from}
 use Rattle.pw_plan.proofs.Found.{passes, position-here, position-later}
 
 -- # Members
-
-pub each_member : (Q : ℕ → Type 0) (ms : List ℕ) → ((q : ℕ) → has_member ms q ≡ true → Q q) → AllByRecursion Q ms
-each_member Q [] h = tt
-each_member Q (m ∷ ms) h = (h m (or_left (m == m) (has_member ms m) (eq-eqb m m refl)), each_member Q ms (λ q e. h q (or_right (m == q) (has_member ms q) e)))
 
 -- what is kept of a member
 pub read_place : (f : ℕ → ℕ) (ms : List ℕ) (p : ℕ) → has_member ms p ≡ true → get_or (map f ms) (member_place ms p) 0 ≡ f p

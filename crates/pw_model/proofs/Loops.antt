@@ -32,7 +32,7 @@ module _ (P : Plan) (F G : Record → Part) where
   pub climb_agrees : (c : Child) (v : Vote) (ns : List ℕ) → ((n : ℕ) → Among n ns → F (container n) ≡ G (container n)) → climb P F c v ns ≡ climb P G c v ns
   climb_agrees c v ns h = climb_same P F G c v ns (nodes_agree c v ns h)
 
-parents_fall : (P : Plan) → ParentsFall P.containers
+pub parents_fall : (P : Plan) → ParentsFall P.containers
 parents_fall P n lt = step (container_at P n).parent refl
   where
     less : (m : ℕ) → m < n → nat_lt m n ≡ true

@@ -20,25 +20,11 @@ map_same f g h (x ∷ xs) =
     let r : map f xs ≡ map g xs = map_same f g h xs in
     cc
 
-pub map_map : {X Y Z : Type 0} (f : X → Y) (g : Y → Z) (xs : List X) → map g (map f xs) ≡ map (λ x. g (f x)) xs
-map_map f g [] = refl
-map_map f g (x ∷ xs) =
-    let r : map g (map f xs) ≡ map (λ y. g (f y)) xs = map_map f g xs in
-    cc
-
-pub empty : {X : Type 0} (xs : List X) → length xs ≡ 0 → xs ≡ []
-empty [] h = refl
-empty (x ∷ xs) h = absurd (omega arith)
-
 -- # Tests of all elements
 
 pub each_passes : {X : Type 0} (t : X → Bool) (xs : List X) → list_all t xs ≡ true → AllByRecursion (λ x. t x ≡ true) xs
 each_passes t [] e = tt
 each_passes t (x ∷ xs) e = (and_first (t x) (list_all t xs) e, each_passes t xs (and_second (t x) (list_all t xs) e))
-
-pub weaker : {X : Type 0} (P Q : X → Type 0) → ((x : X) → P x → Q x) → (xs : List X) → AllByRecursion P xs → AllByRecursion Q xs
-weaker P Q h [] a = tt
-weaker P Q h (x ∷ xs) a = (h x a.0, weaker P Q h xs a.1)
 
 -- # The least
 

@@ -23,6 +23,7 @@ use Rattle.pw_model.specs.Reasons.{AsksAboveLimit, HasDisabled, HasFitTable, Has
 use Rattle.pw_model.specs.Refusals.{◌or_else◌, above_limit, ask_refusal, domain_refusal, idle_refusal, is_absent, limit_refusal, refuse_if, unfit_refusal}
 use Rattle.pw_model.proofs.Accepting.{has_table, limit_by, limit_from, none_both, not_false, not_refusing, table_there, unfit_by, unfit_from}
 use Rattle.pw_model.proofs.Fitting.{none_first, none_second, not_refused}
+use Rattle.pw_plan.proofs.Grouping.{negated}
 
 -- # Who refuses
 
@@ -84,10 +85,6 @@ below_from a b e = grind (arith, nat_tests)
 below_by : (a b : ℕ) → a < b → nat_lt a b ≡ true
 below_by a b lt = grind (arith, nat_tests)
 
-not_true : (b : Bool) → not b ≡ true → b ≡ false
-not_true true e = cc
-not_true false e = refl
-
 module _ (P : Plan) (p s t : ℕ) where
   abbrev kind : IdleKind
   kind = (cpu_at P p).idle.kind
@@ -140,7 +137,7 @@ module _ (P : Plan) (p s t : ℕ) where
           subst Reason x.1 (record { state = state; enabled = on; latency_is = refl; above = below_from t latency x.0 })
 
       fourth : HasState P p s → (disabled ≡ Some r) ⊎ ((disabled ≡ None) × (slow ≡ Some r)) → Reason r
-      fourth state (inl a) = let x = refuses (not enabled) Disabled r a in subst Reason x.1 (record { state = state; disabled = not_true enabled x.0 })
+      fourth state (inl a) = let x = refuses (not enabled) Disabled r a in subst Reason x.1 (record { state = state; disabled = negated enabled x.0 })
       fourth state (inr a) = fifth state (not_false enabled (not_refused (not enabled) Disabled a.0)) a.1
 
       third : HasFitTable P p → (no_state ≡ Some r) ⊎ ((no_state ≡ None) × ((disabled or_else slow) ≡ Some r)) → Reason r

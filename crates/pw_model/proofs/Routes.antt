@@ -26,7 +26,7 @@ use Rattle.pw_model.proofs.Ways.{has_way, numbers_tell, record_below}
 
 -- # Chains
 
-along_length : (P : Plan) (S : State) (ns : List ℕ) → length (states_along P S ns) ≤ length ns
+pub along_length : (P : Plan) (S : State) (ns : List ℕ) → length (states_along P S ns) ≤ length ns
 along_length P S [] = omega arith
 along_length P S (n ∷ ns) = step ((container_vote P S n).state == 0) (along_length P S ns)
   where

@@ -15,9 +15,9 @@ use Rattle.pw_model.specs.Laws.{HasOwnRegisters, IsFitMember, IsSetToStanding, s
 use Rattle.pw_model.specs.Operations.{opening_ops, register_of}
 use Rattle.pw_model.proofs.Histories.{Keeps, history_stands}
 use Rattle.pw_model.proofs.LastSets.{last_append}
-use Rattle.pw_model.proofs.Maps.{weaker}
 use Rattle.pw_model.proofs.Registers.{IsSetOnEach, Stands, domain_stands, is_each, moved, opening_stands}
 use Rattle.pw_model.proofs.Standings.{standing-spared}
+use Rattle.pw_base.proofs.Facts.{weaker}
 
 -- # Of a member that is set itself
 

@@ -18,6 +18,10 @@ use Rattle.pw_model.specs.States.{ask_of, limit_of, with_change}
 use Rattle.pw_model.specs.Domains.{standing, stands_at}
 use Rattle.pw_model.proofs.Maps.{map_agree}
 
+pub each_member : (Q : ℕ → Type 0) (ms : List ℕ) → ((q : ℕ) → has_member ms q ≡ true → Q q) → AllByRecursion Q ms
+each_member Q [] h = tt
+each_member Q (m ∷ ms) h = (h m (or_left (m == m) (has_member ms m) (grind (arith, nat_tests))), each_member Q ms (λ q e. h q (or_right (m == q) (has_member ms q) e)))
+
 -- the kind of the domains whose members share such states
 abbrev pub domain_kind : ScaleKind → DomainKind
 domain_kind scales.Perf = Perf
@@ -65,10 +69,6 @@ limit_spared S (changes.Limit scales.Perf p n) Idle q h = refl
 limit_spared S (changes.Limit scales.Throttle p n) Perf q h = refl
 limit_spared S (changes.Limit scales.Throttle p n) Throttle q h = get_or-set_other S.throttle_limits p q n 0 (h refl)
 limit_spared S (changes.Limit scales.Throttle p n) Idle q h = refl
-
-each_member : (Q : ℕ → Type 0) (ms : List ℕ) → ((q : ℕ) → has_member ms q ≡ true → Q q) → AllByRecursion Q ms
-each_member Q [] h = tt
-each_member Q (m ∷ ms) h = (h m (or_left (m == m) (has_member ms m) (grind (arith, nat_tests))), each_member Q ms (λ q e. h q (or_right (m == q) (has_member ms q) e)))
 
 own_spared : (S : State) (c : Change) (kind : DomainKind) (p : ℕ) → Spares c kind p → max (limit_of kind (with_change S c) p) (ask_of kind (with_change S c) p)
     ≡ max (limit_of kind S p) (ask_of kind S p)

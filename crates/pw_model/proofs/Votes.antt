@@ -14,7 +14,8 @@ use Rattle.pw_plan.specs.Tree.{is_number}
 use Rattle.pw_model.specs.declared.state.State.{State}
 use Rattle.pw_model.specs.Containers.{child_votes, container_vote, node_vote, vote_among, vote_within}
 use Rattle.pw_plan.proofs.Lists.{and_first, and_second}
-use Rattle.pw_model.proofs.Maps.{each_passes, map_agree, weaker}
+use Rattle.pw_model.proofs.Maps.{each_passes, map_agree}
+use Rattle.pw_base.proofs.Facts.{weaker}
 
 -- # Who is listed as a child
 

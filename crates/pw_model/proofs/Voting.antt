@@ -27,8 +27,9 @@ use Rattle.pw_model.specs.Effects.{drawn_with as drawn_by_part}
 use Rattle.pw_model.proofs.Climbs.{along_is, climb_of, off, rung, unseen}
 use Rattle.pw_model.specs.Numbers.{IsIn}
 use Rattle.pw_model.proofs.Gathered.{c_state_alone, c_state_is, drawn_is, enter-Cst, group_member, in_plan, none_drawn, ungrouped}
-use Rattle.pw_model.proofs.Levels.{each_member, set_place, spared}
+use Rattle.pw_model.proofs.Levels.{set_place, spared}
 use Rattle.pw_model.proofs.Lines.{Among}
+use Rattle.pw_model.proofs.Standings.{each_member}
 
 -- From state S to T these records have these new parts, and no other changes.
 pub record Moves (P : Plan) (S T : State) (places : List Record) (ts : List Taken) : Type 0 where

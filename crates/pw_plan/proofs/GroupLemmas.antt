@@ -11,6 +11,7 @@ use Rattle.pw_plan.specs.declared.parts.CpuParts.{CpuParts}
 use Rattle.pw_plan.specs.Groups.{group_with, groups_of, is_link, join_members, join_with, label_at, labels_after, labels_of, leads_group, relabel, rename}
 use Rattle.pw_plan.specs.Sound.{HasGroups}
 use Rattle.pw_plan.proofs.Lists.{each_map, places-each, places-length}
+use Rattle.pw_base.proofs.Facts.{weaker}
 
 pub join_with-length : (first : ℕ) (ps labels : List ℕ) → length (join_with first ps labels) ≡ length labels
 join_with-length first [] labels = refl
@@ -36,10 +37,6 @@ Fits n g = AllByRecursion (λ p. p < n) g.members × (length g.members ≤ n)
 
 group_fits : (labels : List ℕ) (p : ℕ) → Fits (length labels) (group_with labels p)
 group_fits labels p = (places-each (λ q. q < length labels) (λ l. l == label_at labels p) 0 labels 0 (λ i lt e. rw zero-add lt), places-length (λ l. l == label_at labels p) 0 labels)
-
-weaker : {X : Type 0} (P Q : X → Type 0) → ((x : X) → P x → Q x) → (xs : List X) → AllByRecursion P xs → AllByRecursion Q xs
-weaker P Q h [] a = tt
-weaker P Q h (x ∷ xs) a = (h x a.0, weaker P Q h xs a.1)
 
 module _ (ds : List Domain) (ps : List CpuParts) (few : length ps ≤ 256) where
   all_fit : AllByRecursion (Fits (length (labels_of ds (length ps)))) (groups_of ds (length ps))

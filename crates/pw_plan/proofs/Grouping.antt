@@ -16,32 +16,14 @@ use Rattle.pw_plan.specs.Tree.{places_from}
 use Rattle.pw_plan.proofs.GroupLemmas.{labels_of-length}
 use Rattle.pw_plan.proofs.Joining.{Joins, Sound, Shares, chain_linked, labels_after_shares, labels_after_sound}
 use Rattle.pw_plan.proofs.Lists.{and_both, and_first, and_second, any_at, first_place, or_left, or_right, places-has, places-only}
+use Rattle.pw_base.proofs.Facts.{map_map}
+use Rattle.pw_plan.proofs.Rising.{rises_from, rising_is, places_rise}
 
 -- # Lists of numbers that rise
 
 abbrev pub Rises : ℕ → List ℕ → Type 0
 Rises low [] = Unit {0}
 Rises low (x ∷ xs) = (low ≤ x) × Rises (suc x) xs
-
-rises_from : (low high : ℕ) (xs : List ℕ) → low ≤ high → Rises high xs → Rises low xs
-rises_from low high [] le r = tt
-rises_from low high (x ∷ xs) le r = (let a = r.0 in omega (arith, a, le), r.1)
-
-rising_is : (low : ℕ) (xs : List ℕ) → Rises low xs → IsStrictlyIncreasing xs
-rising_is low [] r k lt = absurd (omega arith)
-rising_is low (x ∷ []) r k lt = absurd (omega arith)
-rising_is low (x ∷ y ∷ ys) r zero lt = let a = r.1.0 in omega (arith, a)
-rising_is low (x ∷ y ∷ ys) r (suc k) lt =
-    let h = rising_is (suc x) (y ∷ ys) r.1 k (omega arith) in
-    rw add-one (rw add-one at h)
-
-places_rise : {X : Type 0} (t : X → Bool) (k : ℕ) (xs : List X) → Rises k (places_from t k xs)
-places_rise t k [] = tt
-places_rise t k (x ∷ xs) = step (t x) (places_rise t (k + 1) xs)
-  where
-    step : (b : Bool) → Rises (k + 1) (places_from t (k + 1) xs) → Rises k (cond b (k ∷ places_from t (k + 1) xs) (places_from t (k + 1) xs))
-    step true r = (omega arith, let e : suc k ≡ k + 1 = omega arith in rw e r)
-    step false r = rises_from k (k + 1) (places_from t (k + 1) xs) (omega arith) r
 
 range_rises : (s : ℕ → Bool) (k n : ℕ) → Rises k (filter s (range_with_len k n))
 range_rises s k zero = tt
@@ -81,10 +63,6 @@ same_map g s k (suc n) h = step (s k) refl (same_map g s (k + 1) n (λ q a b e. 
         → map g (cond b (k ∷ filter s (range_with_len (k + 1) n)) (filter s (range_with_len (k + 1) n))) ≡ cond b (k ∷ filter s (range_with_len (k + 1) n)) (filter s (range_with_len (k + 1) n))
     step true e r = let a : g k ≡ k = h k (omega arith) (omega arith) e in cc
     step false e r = r
-
-map_map : {X Y Z : Type 0} (f : X → Y) (g : Y → Z) (xs : List X) → map g (map f xs) ≡ map (λ x. g (f x)) xs
-map_map f g [] = refl
-map_map f g (x ∷ xs) = ap (λ ys. g (f x) ∷ ys) (map_map f g xs)
 
 -- the first place is that of the first element that passes
 pub places-first : {X : Type 0} (t : X → Bool) (k : ℕ) (xs : List X) (i : ℕ) (d : X) → i < length xs → t (get_or xs i d) ≡ true → list_any t (take i xs) ≡ false → first_of (places_from t k xs) ≡ k + i

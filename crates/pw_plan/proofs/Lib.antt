@@ -23,3 +23,4 @@ pub mod Among
 pub mod Indexing
 pub mod Memberships
 pub mod Firsts
+pub mod RequestBounds

@@ -41,7 +41,7 @@ index_is P p d lt =
 
 -- # What a place found tells
 
-place_le : {X : Type 0} (t : X → Bool) (xs : List X) → position_or_len t xs ≤ length xs
+pub place_le : {X : Type 0} (t : X → Bool) (xs : List X) → position_or_len t xs ≤ length xs
 place_le t xs = prefix_len-le-length (λ x. not (t x)) xs
 
 module _ {X : Type 0} (t : X → Bool) (xs : List X) (f : ℕ → Membership) (at : (k : ℕ) → (f k).place ≡ k) where
@@ -70,12 +70,12 @@ group_member_is gs p r e = subst (λ s. IfSome s (λ s. s.member ≡ member_plac
     by true = refl
     by false = tt
 
-get_some : {X : Type 0} (xs : List X) (p : ℕ) (d : X) → p < length xs → slice_get xs p ≡ Some (get_or xs p d)
+pub get_some : {X : Type 0} (xs : List X) (p : ℕ) (d : X) → p < length xs → slice_get xs p ≡ Some (get_or xs p d)
 get_some [] p d lt = absurd (omega arith)
 get_some (x ∷ xs) zero d lt = refl
 get_some (x ∷ xs) (suc p) d lt = get_some xs p d (omega arith)
 
-get_none : {X : Type 0} (xs : List X) (p : ℕ) → length xs ≤ p → slice_get xs p ≡ None
+pub get_none : {X : Type 0} (xs : List X) (p : ℕ) → length xs ≤ p → slice_get xs p ≡ None
 get_none [] p le = refl
 get_none (x ∷ xs) zero le = absurd (omega arith)
 get_none (x ∷ xs) (suc p) le = get_none xs p (omega arith)

@@ -19,20 +19,13 @@ use Rattle.pw_plan.specs.inner.DomainList.{all_domains, domain_with, domains_of,
 use Rattle.pw_plan.specs.Groups.{has_member, is_idle}
 use Rattle.pw_plan.specs.Covering.{covers, same_kind}
 use Rattle.pw_plan.proofs.Lists.{and_first, and_second, any_at, each_append, each_flat_map, each_map, or_first, or_second, places-only}
+use Rattle.pw_base.proofs.Facts.{is_false, or_none}
 
 -- # At most one element passes
 
 abbrev pub OnlyOne : {X : Type 0} → (X → Bool) → List X → Type 0
 OnlyOne t [] = Unit {0}
 OnlyOne t (x ∷ xs) = (t x ≡ true → list_any t xs ≡ false) × OnlyOne t xs
-
-is_false : (b : Bool) → (b ≡ true → ⊥) → b ≡ false
-is_false true h = absurd (h refl)
-is_false false h = refl
-
-or_none : (a b : Bool) → a ≡ false → b ≡ false → (a || b) ≡ false
-or_none true b e f = cc
-or_none false b e f = f
 
 any_none : {X : Type 0} (t : X → Bool) (xs ys : List X) → list_any t xs ≡ false → list_any t ys ≡ false → list_any t (xs ++ ys) ≡ false
 any_none t [] ys a b = b

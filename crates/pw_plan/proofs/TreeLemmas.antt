@@ -17,7 +17,7 @@ use Rattle.pw_plan.specs.Sound.{IsTree, is_child}
 use Rattle.pw_plan.proofs.Lines.{parent_below}
 use Rattle.pw_plan.proofs.Lists.{and_both, each_append, places-each}
 
-all_of : {X : Type 0} (t : X → Bool) (xs : List X) → AllByRecursion (λ x. t x ≡ true) xs → list_all t xs ≡ true
+pub all_of : {X : Type 0} (t : X → Bool) (xs : List X) → AllByRecursion (λ x. t x ≡ true) xs → list_all t xs ≡ true
 all_of t [] a = refl
 all_of t (x ∷ xs) a = and_both (t x) (list_all t xs) a.0 (all_of t xs a.1)
 
@@ -25,7 +25,7 @@ mapped : {X Y : Type 0} (P : Y → Type 0) (f : X → Y) (xs : List X) → AllBy
 mapped P f [] a = tt
 mapped P f (x ∷ xs) a = (a.0, mapped P f xs a.1)
 
-lt_true : (m n : ℕ) → m < n → nat_lt m n ≡ true
+pub lt_true : (m n : ℕ) → m < n → nat_lt m n ≡ true
 lt_true m n lt = grind (arith, nat_tests)
 
 module _ (cs : List ContainerParts) (ps : List CpuParts) (fit : PartsFit cs ps) where

@@ -23,14 +23,14 @@ abbrev pub Has : Plan → Request → Type 0
 Has P q = cpu_of q < length P.cpus
 
 -- on how many members a new state of a domain is set: all of a SW_ALL domain, else one
-abbrev pub set_by : Coord → ℕ → ℕ
-set_by SwAll members = members
-set_by SwAny members = 1
-set_by HwAll members = 1
+abbrev pub set_count : Coord → ℕ → ℕ
+set_count SwAll members = members
+set_count SwAny members = 1
+set_count HwAll members = 1
 
 -- the members of the processor's SW_ALL domain of this kind, else 1
 abbrev pub domain_bound : Plan → DomainKind → ℕ → ℕ
-domain_bound P kind p = set_by (domain_at P (domain_of P kind p)).coord (length (domain_at P (domain_of P kind p)).members)
+domain_bound P kind p = set_count (domain_at P (domain_of P kind p)).coord (length (domain_at P (domain_of P kind p)).members)
 
 -- the members of the processor's group, 1 where it has none
 abbrev pub group_bound : Plan → ℕ → ℕ

@@ -3,7 +3,7 @@ ghost use Rattle.pw_plan.specs.Covering.{covers};
 ghost use Rattle.pw_plan.specs.Opening.{opening_by};
 ghost use Rattle.pw_plan.specs.Covering.{same_kind};
 ghost use Rattle.pw_plan.specs.Opening.{opening_count};
-ghost use Rattle.pw_plan.specs.Requests.{set_by};
+ghost use Rattle.pw_plan.specs.Requests.{set_count};
 
 use crate::domain::{Domain, DomainKind};
 use crate::groups::{has_member, is_idle};
@@ -27,8 +27,8 @@ pub fn covers(kind: DomainKind, cpu: u32, domain: &Domain) -> bool
 }
 
 /// On how many members a new state of a domain is set.
-pub fn set_by(coord: Coord, members: u32) -> u32
-    ensures { result ≡ set_by coord members }
+pub fn set_count(coord: Coord, members: u32) -> u32
+    ensures { result ≡ set_count coord members }
 {
     match coord {
         Coord::SwAll => members,

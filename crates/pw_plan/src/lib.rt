@@ -26,4 +26,4 @@ pub use limits::in_32_bits;
 pub use parts::{ContainerParts, CpuParts, Scale};
 pub use parts_check::parts_ok;
 pub use plan::Plan;
-pub use request::Request;
+pub use request::{ANY_LATENCY, MOST_OF_A_REQUEST, Request};

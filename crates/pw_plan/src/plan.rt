@@ -3,7 +3,7 @@ ghost use Rattle.pw_plan.specs.Orderly.{IsOrderly};
 ghost use Rattle.pw_plan.specs.Planning.{IsPlanOf};
 ghost use Rattle.pw_plan.specs.Sound.{IsSound};
 
-use crate::bounds::{opening_count, set_by};
+use crate::bounds::{opening_count, set_count};
 use crate::domain::{Child, Domain, DomainKind, Group};
 use crate::domains::all_domains;
 use crate::fault::PlanFault;
@@ -220,7 +220,7 @@ impl Plan {
             None => 1,
             Some(membership) => {
                 let domain = self.domain(membership.place);
-                set_by(domain.coord, domain.members.as_slice().len() as u32)
+                set_count(domain.coord, domain.members.as_slice().len() as u32)
             }
         }
     }

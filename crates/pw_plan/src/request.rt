@@ -1,3 +1,9 @@
+/// The tolerance that bears any wake latency.
+pub const ANY_LATENCY: u32 = u32::MAX;
+
+/// The most operations of one request: one for each processor of a domain or a group.
+pub const MOST_OF_A_REQUEST: u32 = 256;
+
 /// What a processor, or the platform in its name, asks of the coordinator.
 #[derive(Clone, Copy)]
 pub enum Request {

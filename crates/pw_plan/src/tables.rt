@@ -25,7 +25,7 @@ fn table_of(alloc: Global, cpu: &CpuParts) -> Result<List<CDependency>, Memory>
 }
 
 /// The entries of each processor's `_CSD`, by domain and index.
-pub fn tables_of(alloc: Global, cpus: &[CpuParts]) -> Result<List<List<CDependency>>, Memory>
+pub fn entry_tables(alloc: Global, cpus: &[CpuParts]) -> Result<List<List<CDependency>>, Memory>
     requires few { length cpus.now ≤ 256 }
     requires csd { (p : ℕ) → p < length cpus.now → FitsCsd (cpu_in cpus.now p) }
     ensures { IfOk result (λ tables. AreTables cpus.now tables) }

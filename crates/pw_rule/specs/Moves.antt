@@ -21,10 +21,10 @@ use Rattle.pw_machine.specs.Machine.{Given, IsNoted, count_held, turns_of, seat_
 use Rattle.pw_machine.specs.Steps.{Asks, HoldsAs, IsIdle, IsSpare}
 use Rattle.pw_regs.specs.declared.registers.Registers.{Ghosts as Registers}
 use Rattle.pw_journal.specs.Journaled.{Journaled}
-use Rattle.pw_rule.specs.declared.limit.Limit.{Limit}
-use Rattle.pw_rule.specs.declared.load.Load.{Load}
-use Rattle.pw_rule.specs.declared.load.Load.TheVariants.{Log}
-use Rattle.pw_rule.specs.Loads.{AreOpening, Homes, IsRecordOf, LiesAt}
+use Rattle.pw_rule.specs.declared.setup.Setup.{Setup}
+use Rattle.pw_rule.specs.declared.content.Content.{Content}
+use Rattle.pw_rule.specs.declared.content.Content.TheVariants.{Log}
+use Rattle.pw_rule.specs.Contents.{AreOpening, Homes, IsRecordOf, LiesAt}
 use Rattle.pw_rule.specs.Promises.{IsPromised, Promise}
 use Rattle.pw_rule.specs.Rule.{Ruled, first_of, given_of, promise_of}
 use Rattle.pw_rule.specs.Plays.{IsFirst, IsFound, IsGrown, Tracked, claimed_step, drew_step, gave_step, gone_step, led_step, looked_step, opened_by_step, opened_step, put_step, took_step}
@@ -41,24 +41,24 @@ module _ {R : Type 0} (by : Registers R) where
 
   -- every turn is seat 0's, each record is in its slot as it opens, and the journal's slot, the last, is empty
   abbrev pub TableBegins : Type 0
-  TableBegins = (key : Limit R) (xs : List (Option (Load R))) → AreOpening key.plan xs → length xs ≡ record_count key.plan
+  TableBegins = (key : Setup R) (xs : List (Option (Content R))) → AreOpening key.plan xs → length xs ≡ record_count key.plan
       → Ruled by key (opening (replicate (record_count key.plan + 2) 1) (xs ++ None ∷ []) (first_of key))
 
   -- its records are freed one after the other
   abbrev pub RecordIsOpened : Type 0
-  RecordIsOpened = (n : ℕ) (key : Limit R) (id : ℕ) (m : Tracked R) (t k : ℕ) → k ≡ suc t → m.0.view.mark ≡ true
+  RecordIsOpened = (n : ℕ) (key : Setup R) (id : ℕ) (m : Tracked R) (t k : ℕ) → k ≡ suc t → m.0.view.mark ≡ true
       → 0 < count_held t m.0.view.held → m.0.view.out ≡ []
       → Allows (Ruled by key) n id m k (λ _. 0) (λ r. opened_step (step n k 0 0 none) m r)
 
   -- then it takes the journal's slot in hand
   abbrev pub JournalIsClaimed : Type 0
-  JournalIsClaimed = (n : ℕ) (key : Limit R) (id : ℕ) (m : Tracked R) (k a b : ℕ) → k ≡ suc (record_count key.plan) → m.0.view.mark ≡ true
+  JournalIsClaimed = (n : ℕ) (key : Setup R) (id : ℕ) (m : Tracked R) (k a b : ℕ) → k ≡ suc (record_count key.plan) → m.0.view.mark ≡ true
       → m.0.view.out ≡ []
       → Allows (Ruled by key) n id m k (λ y. y) (claimed_step (record_count key.plan) (step n k a b none) m)
 
   -- and puts the journal there
   abbrev pub JournalIsOpened : Type 0
-  JournalIsOpened = (n : ℕ) (key : Limit R) (id : ℕ) (x : Track) (more : List (ℕ × Option (Load R))) (j : Journaled R) (k : ℕ)
+  JournalIsOpened = (n : ℕ) (key : Setup R) (id : ℕ) (x : Track) (more : List (ℕ × Option (Content R))) (j : Journaled R) (k : ℕ)
       (m : Tracked R)
       → k ≡ suc (record_count key.plan) → record_count key.plan < n → m ≡ (x, (record_count key.plan, Some (Log j)) ∷ more)
       → IsFirst by (promise_of by key) (given_of by key) x.view j
@@ -67,33 +67,34 @@ module _ {R : Type 0} (by : Registers R) where
   -- # A request
 
   abbrev pub RecordIsTaken : Type 0
-  RecordIsTaken = (gives_up : Bool) (n : ℕ) (key : Limit R) (id : ℕ) (m : Tracked R) (q : Request) (t k new : ℕ)
+  RecordIsTaken = (gives_up : Bool) (n : ℕ) (key : Setup R) (id : ℕ) (m : Tracked R) (q : Request) (t k new : ℕ)
       → k ≡ suc t → t < record_count key.plan → new ≡ suc m.0.view.number → Asks key.plan m.0.view q → TellsNext key.plan m.0.view q t
       → Allows (Ruled by key) n id m k (λ y. either (y == 0) new y) (took_step gives_up (given_of by key) q (step n k 0 new none) m)
 
   abbrev pub JournalIsTaken : Type 0
-  JournalIsTaken = (gives_up : Bool) (n : ℕ) (key : Limit R) (id : ℕ) (m : Tracked R) (q : Request) (k new : ℕ)
+  JournalIsTaken = (gives_up : Bool) (n : ℕ) (key : Setup R) (id : ℕ) (m : Tracked R) (q : Request) (k new : ℕ)
       → k ≡ suc (record_count key.plan) → new ≡ suc m.0.view.number → Asks key.plan m.0.view q
       → TellsNext key.plan m.0.view q (record_count key.plan)
       → Allows (Ruled by key) n id m k (λ y. either (y == 0) new y)
       (led_step by gives_up (promise_of by key) (given_of by key) q (step n k 0 new none) m)
 
   abbrev pub EntryIsMade : Type 0
-  EntryIsMade = (n : ℕ) (key : Limit R) (id : ℕ) (x : Track) (more : List (ℕ × Option (Load R))) (j : Journaled R) (e : HistoryEntry)
+  EntryIsMade = (n : ℕ) (key : Setup R) (id : ℕ) (x : Track) (more : List (ℕ × Option (Content R))) (j : Journaled R) (e : HistoryEntry)
       (k : ℕ) (m : Tracked R)
       → k ≡ suc (record_count key.plan) → record_count key.plan < n → m ≡ (x, (record_count key.plan, Some (Log j)) ∷ more)
       → IsGrown by (promise_of by key) (given_of by key) x.view e j
       → Allows (Ruled by key) n id m k (λ _. 0) (λ r. put_step key.plan e (by.faults j.regs) (step n k 0 0 none) m r)
 
   abbrev pub JournalIsLetGo : Type 0
-  JournalIsLetGo = (n : ℕ) (key : Limit R) (id : ℕ) (x : Track) (more : List (ℕ × Option (Load R))) (j : Journaled R) (k : ℕ)
+  JournalIsLetGo = (n : ℕ) (key : Setup R) (id : ℕ) (x : Track) (more : List (ℕ × Option (Content R))) (j : Journaled R) (k : ℕ)
       (m : Tracked R)
       → k ≡ suc (record_count key.plan) → record_count key.plan < n → m ≡ (x, (record_count key.plan, Some (Log j)) ∷ more)
       → IsFound by (promise_of by key) (given_of by key) x.view j
       → Allows (Ruled by key) n id m k (λ _. 0) (λ r. gone_step (by.faults j.regs) (step n k 0 0 none) m r)
 
   abbrev pub RecordIsFreed : Type 0
-  RecordIsFreed = (n : ℕ) (key : Limit R) (id : ℕ) (x : Track) (more : List (ℕ × Option (Load R))) (t k : ℕ) (part : Part) (y : Load R)
+  RecordIsFreed = (n : ℕ) (key : Setup R) (id : ℕ) (x : Track) (more : List (ℕ × Option (Content R))) (t k : ℕ) (part : Part)
+      (y : Content R)
       (m : Tracked R)
       → k ≡ suc t → t < n → m ≡ (x, (t, Some y) ∷ more) → IsRecordOf key.plan t part y → x.view.releasing ≡ true
       → HoldsAs t part x.view.held → x.view.out ≡ []
@@ -102,20 +103,20 @@ module _ {R : Type 0} (by : Registers R) where
   -- # Seats
 
   abbrev pub NumberIsDrawn : Type 0
-  NumberIsDrawn = (n : ℕ) (key : Limit R) (id : ℕ) (m : Tracked R) (made new : ℕ) → new ≡ made + 1 → made < 65536 → IsIdle m.0.view
+  NumberIsDrawn = (n : ℕ) (key : Setup R) (id : ℕ) (m : Tracked R) (made new : ℕ) → new ≡ made + 1 → made < 65536 → IsIdle m.0.view
       → m.0.view.read ≡ Some made
       → Allows (Ruled by key) n id m 0 (λ y. either (y == made) new y) (drew_step (step n 0 made new none) m)
 
   abbrev pub NumberIsRead : Type 0
-  NumberIsRead = (n : ℕ) (key : Limit R) (id : ℕ) (m : Tracked R) → IsIdle m.0.view
+  NumberIsRead = (n : ℕ) (key : Setup R) (id : ℕ) (m : Tracked R) → IsIdle m.0.view
       → Allows (Ruled by key) n id m 0 (λ y. y) (looked_step key.plan (step n 0 0 0 none) m)
 
   abbrev pub SeatIsSplit : Type 0
-  SeatIsSplit = (key : Limit R) (id : ℕ) (x : Track) (n parts : ℕ) → IsIdle x.view → x.view.told ≡ None → IsSpare n x.view → 0 < parts
+  SeatIsSplit = (key : Setup R) (id : ℕ) (x : Track) (n parts : ℕ) → IsIdle x.view → x.view.told ≡ None → IsSpare n x.view → 0 < parts
       → parts < x.view.parts → Splits (Ruled by key) id x (left_track n parts x) (right_track n parts x)
 
   abbrev pub SeatsAreJoined : Type 0
-  SeatsAreJoined = (key : Limit R) (id : ℕ) (x : Track) (other : ℕ) (y : Track) → IsIdle x.view → IsIdle y.view → x.view.told ≡ None
+  SeatsAreJoined = (key : Setup R) (id : ℕ) (x : Track) (other : ℕ) (y : Track) → IsIdle x.view → IsIdle y.view → x.view.told ≡ None
       → y.view.told ≡ None → Joins (Ruled by key) id x other y (joined_track x y) spent_track
 
   -- # The end
@@ -140,11 +141,11 @@ module _ {R : Type 0} (by : Registers R) where
     pub records : (t : ℕ) → t < record_count given.plan → LiesAt given.plan hs t (part_at given.plan t (replay given.plan journal.entries))
 
   abbrev pub AloneHasAll : Type 0
-  AloneHasAll = (key : Limit R) (s : State (Option (Load R)) Track) (id : ℕ) (x : Track) → Ruled by key s → get_elem? s.views id ≡ some x
+  AloneHasAll = (key : Setup R) (s : State (Option (Content R)) Track) (id : ℕ) (x : Track) → Ruled by key s → get_elem? s.views id ≡ some x
       → IsIdle x.view
       → x.view.parts ≡ 65536 → IsWhole (promise_of by key) (given_of by key) x.view s.homes
 
   -- so it is with the slots of a table that was closed with such a seat
   abbrev pub TableCloses : Type 0
-  TableCloses = (key : Limit R) (id : ℕ) (x : Track) (ws : List ℕ) (xs : List (Option (Load R))) → Final (Seen (Ruled by key) id x) ws xs
+  TableCloses = (key : Setup R) (id : ℕ) (x : Track) (ws : List ℕ) (xs : List (Option (Content R))) → Final (Seen (Ruled by key) id x) ws xs
       → IsIdle x.view → x.view.parts ≡ 65536 → IsWhole (promise_of by key) (given_of by key) x.view (map some xs)

@@ -1,7 +1,7 @@
 ghost use Rattle.pw_rule.specs.Rule.{Ruled, first_of};
 
-use crate::limit::Limit;
-use crate::load::Load;
+use crate::content::Content;
+use crate::setup::Setup;
 use crate::track::Track;
 use atomic_table::TableRule;
 use pw_regs::Registers;
@@ -13,7 +13,7 @@ pub struct Turns<R> {
     regs: PhantomData<R>,
 }
 
-impl<R: Registers> TableRule<Option<Load<R>>, Track, Limit<R>> for Turns<R> {
+impl<R: Registers> TableRule<Option<Content<R>>, Track, Setup<R>> for Turns<R> {
     ghost holds = { Ruled R.Registers };
 
     ghost first = { first_of };

@@ -135,13 +135,13 @@ behind_first x y z xs (zero, lt, is) = (0, omega arith, is)
 behind_first x y z xs (suc k, lt, is) = (suc (suc k), omega (arith, lt), is)
 
 -- No file is unread where no read of the script, of the history or of a block failed.
-pub never_unread : (step : Bool) (script history : List ℕ) (names : List (List ℕ)) (before after : FilesSeen) → NoneFailed (script ∷ history ∷ names) before after
-    → (reviewing step script history names before after).unread → ⊥
-never_unread step script history names before after none (inl u) =
-    drives.never_unread step script names before after (λ name within. none name (behind_first script history name names within)) (inl u)
-never_unread step script history names before after none (inr (inl u)) =
-    drives.never_unread step script names before after (λ name within. none name (behind_first script history name names within)) (inr u)
-never_unread step script history names before after none (inr (inr u)) = none history (Contains-behind script (history ∷ names) history (Contains-one history names)) u.rose
+pub never_read_fault : (step : Bool) (script history : List ℕ) (names : List (List ℕ)) (before after : FilesSeen) → NoneFailed (script ∷ history ∷ names) before after
+    → (reviewing step script history names before after).read_fault → ⊥
+never_read_fault step script history names before after none (inl u) =
+    drives.never_read_fault step script names before after (λ name within. none name (behind_first script history name names within)) (inl u)
+never_read_fault step script history names before after none (inr (inl u)) =
+    drives.never_read_fault step script names before after (λ name within. none name (behind_first script history name names within)) (inr u)
+never_read_fault step script history names before after none (inr (inr u)) = none history (Contains-behind script (history ∷ names) history (Contains-one history names)) u.rose
 
 -- # The status of what is refused
 

@@ -11,7 +11,7 @@ use Rattle.pw_script.specs.Reading.{requests_of}
 use Rattle.pw_audit.specs.declared.answer.AuditFault.{AuditFault}
 use Rattle.pw_audit.specs.declared.answer.AuditFault.TheVariants.{TooLong, Wrong, Unfinished, Memory}
 use Rattle.pw_load.specs.Ends.{Stops}
-use Rattle.pw_load.specs.Ends.Stops.{refused, unread, without_memory}
+use Rattle.pw_load.specs.Ends.Stops.{refused, read_fault, without_memory}
 use Rattle.pw_load.proofs.Outcomes.{IsWithin}
 use Rattle.pw_runs.specs.Runs.{AreGiven, driving}
 use Rattle.pw_runs.specs.Histories.{HoldHistory, HoldNoHistory, history_line, history_status}
@@ -27,7 +27,7 @@ pub telling_within : (before after : FilesSeen) (name : List ℕ) (P : Plan) (as
 telling_within before after name P asked entries held = record {
   texts = λ text says. record { entries = entries; held = held; says = says };
   refusals = λ status line never. absurd never;
-  unreads = λ never. absurd never;
+  read_faults = λ never. absurd never;
   pieces = λ e. absurd (false≢true e);
 }
 
@@ -51,8 +51,8 @@ stops_judging before after name P asked Memory why = without_memory
 pub stops_given : (step : Bool) (script history : List ℕ) (names : List (List ℕ)) (before after : FilesSeen) {status : ℕ} {text : List ℕ}
     → Stops (driving step script names before after) status text → Stops (reviewing step script history names before after) status text
 stops_given step script history names before after (refused r) = refused (ungiven r)
-stops_given step script history names before after (unread (inl u)) = unread (inl u)
-stops_given step script history names before after (unread (inr u)) = unread (inr (inl u))
+stops_given step script history names before after (read_fault (inl u)) = read_fault (inl u)
+stops_given step script history names before after (read_fault (inr u)) = read_fault (inr (inl u))
 stops_given step script history names before after without_memory = without_memory
 
 module _ {S : Type 0} (F : Files S) (old mid new : S) (kept : KeepsFiles F.told F.holds F.faults old mid) (name : List ℕ) where
@@ -75,7 +75,7 @@ module _ {S : Type 0} (F : Files S) (old mid new : S) (kept : KeepsFiles F.told 
   judging_within step script names P lines given = record {
     texts = telling_so;
     refusals = refusing;
-    unreads = λ rose. inr (inr (record { plan = P; lines = lines; given = given; rose = rose_before rose }));
+    read_faults = λ rose. inr (inr (record { plan = P; lines = lines; given = given; rose = rose_before rose }));
     pieces = λ e. absurd (false≢true e);
   }
     where

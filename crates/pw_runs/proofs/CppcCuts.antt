@@ -75,7 +75,7 @@ module _ (P : CppcPlan) (read : List ℕ) where
   parsing_within before after name content = record {
     texts = λ text never. absurd never;
     refusals = refusing;
-    unreads = λ never. absurd never;
+    read_faults = λ never. absurd never;
     pieces = λ e. absurd (false≢true e);
   }
     where

@@ -5,7 +5,7 @@ use Rattle.pw_base.specs.Outside.{Rose}
 use Rattle.pw_load.specs.Seen.{Seen}
 use Rattle.pw_load.specs.Ends.{Does, Work}
 use Rattle.pw_load.specs.Ends.Stops.{without_memory as no_memory}
-use Rattle.pw_load.specs.Ends.Prints.{whole as all_printed, unwritten as part_printed}
+use Rattle.pw_load.specs.Ends.Prints.{whole as all_printed, write_fault as part_printed}
 use Rattle.pw_load.specs.Ends.Does.{stopped as stops, printed as printed_so}
 use Rattle.pw_cppc.specs.declared.plan.CppcPlan.{CppcPlan}
 use Rattle.pw_cppc.specs.declared.entry.CppcEntry.{CppcEntry}
@@ -17,7 +17,7 @@ use Rattle.pw_cppc_drive.specs.Reading.{requests_of}
 use Rattle.pw_cppc_drive.specs.Driven.{OperatesFor}
 use Rattle.pw_runs.specs.CppcRuns.{AreGiven, IsTextOn, PrintsRun, SteersSerially, entries_of, steering}
 use Rattle.pw_runs.specs.CppcRuns.SteersSerially.{stopped, steered}
-use Rattle.pw_runs.specs.CppcRuns.PrintsRun.{whole, unwritten, failed, failed_unwritten, without_memory}
+use Rattle.pw_runs.specs.CppcRuns.PrintsRun.{whole, write_fault, failed, failed_write_fault, without_memory}
 use Rattle.pw_runs.specs.CppcWorkers.{IsRunBy, IsTextBy, Steers, steering_together}
 use Rattle.pw_runs.specs.CppcWorkers.Steers.{stopped as stopped_by, opened as opened_by, steered as steered_by}
 use Rattle.pw_runs.proofs.CppcHistories.{whole_history}
@@ -39,9 +39,9 @@ module _ (work : Work) (before after : Seen) (P : CppcPlan) (most : ℕ) (openin
   by_print : (status : ℕ) (text said : List ℕ) → PrintsRun P opening es before.outputs after.outputs status text said
       → Does work before.outputs after.outputs status text said ⊎ Failed work before after status
   by_print status text said (whole none) = inl (printed_so (text_of none) all_printed)
-  by_print status text said (unwritten n none rose) = inl (printed_so (text_of none) (part_printed n rose))
+  by_print status text said (write_fault n none rose) = inl (printed_so (text_of none) (part_printed n rose))
   by_print status text said (failed {k} at) = inr (failed_of k at)
-  by_print status text said (failed_unwritten {k} n at rose) = inr (failed_of k at)
+  by_print status text said (failed_write_fault {k} n at rose) = inr (failed_of k at)
   by_print status text said without_memory = inl (stops no_memory)
 
 module _ (script : List ℕ) (names : List (List ℕ)) (before after : Seen) where

@@ -13,7 +13,7 @@ use Rattle.pw_load.specs.Steps.{AreHeldBy, IsNoPlanOf, IsUnspelled}
 use Rattle.pw_runs.specs.Runs.{IsRefusalOn as DriveRefuses}
 use Rattle.pw_runs.specs.Runs.IsRefusalOn.{unspelled as blocks_unspelled, unplanned as blocks_unplanned}
 use Rattle.pw_runs.specs.Scripts.{script_line}
-use Rattle.pw_runs.proofs.One.{drive_is_one, never_unread as drive_never_unread, one_planned, planned_not_unspelled, planned_not_without, refusal_is_1_or_7 as drive_status}
+use Rattle.pw_runs.proofs.One.{drive_is_one, never_read_fault as drive_never_unread, one_planned, planned_not_unspelled, planned_not_without, refusal_is_1_or_7 as drive_status}
 use Rattle.pw_cppc.specs.declared.plan.CppcPlan.{CppcPlan}
 use Rattle.pw_cppc.specs.Machine.{AreCppcParts}
 use Rattle.pw_cppc_drive.specs.declared.script.CppcLine.{CppcLine}
@@ -150,10 +150,10 @@ given_not_refused script names files tells P lines given status text r = given_a
 -- # Files of which no read failed
 
 -- No file is unread where no read of the script or of a block failed, whoever makes the lines.
-pub never_unread : (script : List ℕ) (names : List (List ℕ)) (before after : FilesSeen) → NoneFailed (script ∷ names) before after
-    → (steering script names before after).unread → ⊥
-never_unread script names before after none (inl u) = drive_never_unread false script names before after none (inl u)
-never_unread script names before after none (inr u) = none script (0, omega arith, refl) u.rose
+pub never_read_fault : (script : List ℕ) (names : List (List ℕ)) (before after : FilesSeen) → NoneFailed (script ∷ names) before after
+    → (steering script names before after).read_fault → ⊥
+never_read_fault script names before after none (inl u) = drive_never_unread false script names before after none (inl u)
+never_read_fault script names before after none (inr u) = none script (0, omega arith, refl) u.rose
 
 -- # The status of what is refused
 

@@ -27,26 +27,10 @@ use Rattle.pw_cppc.specs.Parts.{no_parts}
 use Rattle.pw_cppc.specs.Domains.{domains_of}
 use Rattle.pw_cppc.specs.Sound.{IsPlanOf, IsSound, places_of as all_places}
 use Rattle.pw_cppc.specs.Machine.{AreCppcParts, IsCppcOf, dependency_place}
+use Rattle.pw_base.proofs.Facts.{same_ok}
+use Rattle.acpi_build.proofs.OneTable.{same_data, one_data}
 
 -- # What stands at a place
-
-same_data : {d e : Data} → data_object d ≡ data_object e → d ≡ e
-same_data is = cc
-
--- one data object is given at a place
-one_data : (entries : List Entry) (place : Place) (d e : Data) (w v : Width) → IsDistinct (places_of entries) → GivenAt entries place d w → GivenAt entries place e v
-    → (d ≡ e) × (w ≡ v)
-one_data entries place d e w v distinct (j, x, l, is, (path, object, sized)) (k, y, m, at, (way, other, width)) =
-    let first : entry_in entries j ≡ x = get_or_default entries j no_entry x l ∙ is in
-    let second : entry_in entries k ≡ y = get_or_default entries k no_entry y m ∙ at in
-    let here : number_at entries place ≡ Some j = numbered entries j place distinct l (ap (λ (z : Entry). z.path) first ∙ path) in
-    let there : number_at entries place ≡ Some k = numbered entries k place distinct m (ap (λ (z : Entry). z.path) second ∙ way) in
-    let one : j ≡ k = same_some (sym here ∙ there) in
-    let same : x ≡ y = sym first ∙ ap (entry_in entries) one ∙ second in
-    (same_data (sym object ∙ ap (λ (z : Entry). z.object) same ∙ other), sym sized ∙ ap (λ (z : Entry). z.width) same ∙ width)
-
-same_ok : {A E : Type 0} {x y : A} (r : Result A E) → r ≡ Ok x → r ≡ Ok y → x ≡ y
-same_ok r first second = cc
 
 -- and means one `_PSD`
 one_table : (entries : List Entry) (place : Place) (o p : Option Dependency) → IsDistinct (places_of entries) → IsTable DomainMeans entries place o

@@ -16,7 +16,7 @@ use Rattle.pw_cppc.specs.declared.entry.CppcEntry.{CppcEntry}
 use Rattle.pw_cppc.specs.History.{stopped_at}
 use Rattle.pw_cppc_drive.specs.HistoryText.{history_text}
 use Rattle.pw_runs.specs.CppcRuns.{PrintsRun}
-use Rattle.pw_runs.specs.CppcRuns.PrintsRun.{whole, unwritten, failed, failed_unwritten, without_memory}
+use Rattle.pw_runs.specs.CppcRuns.PrintsRun.{whole, write_fault, failed, failed_write_fault, without_memory}
 
 module _ {S : Type 0} (K : Sink S) (out out' err err' : S) (P : CppcPlan) (opening : Option ℕ) (es : List CppcEntry) where
   abbrev Printed : ℕ → Type 0
@@ -36,7 +36,7 @@ module _ {S : Type 0} (K : Sink S) (out out' err err' : S) (P : CppcPlan) (openi
   printed_whole none (Ok x) all part sink memory said = record { text = text; line = []; way = whole none; on_out = all; on_err = said }
   printed_whole none (Err faults.Sink) all part sink memory said =
       let taken = part_taken (K.told out) (K.written out) (K.written out') text part in
-      record { text = take taken.0 text; line = codes "write fault\n"; way = unwritten taken.0 none (sink refl); on_out = taken.1; on_err = said }
+      record { text = take taken.0 text; line = codes "write fault\n"; way = write_fault taken.0 none (sink refl); on_out = taken.1; on_err = said }
   printed_whole none (Err faults.Memory) all part sink memory said =
       record { text = []; line = codes "no memory\n"; way = without_memory; on_out = nothing (memory refl); on_err = said }
 
@@ -48,6 +48,6 @@ module _ {S : Type 0} (K : Sink S) (out out' err err' : S) (P : CppcPlan) (openi
   printed_failed k at (Ok x) all part sink memory said = record { text = text; line = register_line k; way = failed at; on_out = all; on_err = said }
   printed_failed k at (Err faults.Sink) all part sink memory said =
       let taken = part_taken (K.told out) (K.written out) (K.written out') text part in
-      record { text = take taken.0 text; line = register_line k; way = failed_unwritten taken.0 at (sink refl); on_out = taken.1; on_err = said }
+      record { text = take taken.0 text; line = register_line k; way = failed_write_fault taken.0 at (sink refl); on_out = taken.1; on_err = said }
   printed_failed k at (Err faults.Memory) all part sink memory said =
       record { text = []; line = codes "no memory\n"; way = without_memory; on_out = nothing (memory refl); on_err = said }

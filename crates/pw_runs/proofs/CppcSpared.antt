@@ -4,7 +4,7 @@ use Rattle.pw_regs.specs.Seen.{RegistersSeen}
 use Rattle.pw_script.specs.declared.script.TheConstants.{MOST_OPERATIONS}
 use Rattle.pw_load.specs.Seen.{Seen}
 use Rattle.pw_load.specs.Ends.{Stops, Work}
-use Rattle.pw_load.specs.Ends.Stops.{refused, unread}
+use Rattle.pw_load.specs.Ends.Stops.{refused, read_fault}
 use Rattle.pw_load.specs.Ends.Stops.{without_memory as no_memory}
 use Rattle.pw_cppc.specs.declared.plan.CppcPlan.{CppcPlan}
 use Rattle.pw_cppc.specs.Requests.{opening_bound}
@@ -15,12 +15,12 @@ use Rattle.pw_cppc_drive.specs.Reading.{operations}
 use Rattle.pw_cppc_drive.specs.Driven.{OperatesFor}
 use Rattle.pw_runs.specs.CppcRuns.{PrintsRun, SteersSerially, steering}
 use Rattle.pw_runs.specs.CppcRuns.SteersSerially.{stopped, steered}
-use Rattle.pw_runs.specs.CppcRuns.PrintsRun.{whole, unwritten, failed, failed_unwritten, without_memory}
+use Rattle.pw_runs.specs.CppcRuns.PrintsRun.{whole, write_fault, failed, failed_write_fault, without_memory}
 use Rattle.pw_runs.specs.CppcWorkers.{Steers, steering_together}
 use Rattle.pw_runs.specs.CppcWorkers.Steers.{stopped as stopped_by, opened as opened_by, steered as steered_by}
 use Rattle.pw_runs.proofs.CppcOne.{refusal_is_1_or_7}
 
-none_or_some : {k : ℕ} {at : Option ℕ} → at ≡ None → at ≡ Some k → ⊥
+pub none_or_some : {k : ℕ} {at : Option ℕ} → at ≡ None → at ≡ Some k → ⊥
 none_or_some e f = absurd (cc)
 
 -- what stops before a register is operated has another status than a register's fault
@@ -30,7 +30,7 @@ stops_not_5 work refusals status line (refused r) five = elim (refusals status l
   | inl one ↦ omega (arith, one, five)
   | inr seven ↦ omega (arith, seven, five)
 ]
-stops_not_5 work refusals status line (unread u) five = absurd (omega (arith, five))
+stops_not_5 work refusals status line (read_fault u) five = absurd (omega (arith, five))
 stops_not_5 work refusals status line no_memory five = absurd (omega (arith, five))
 
 module _ (script : List ℕ) (names : List (List ℕ)) (before after : Seen) (room : MOST_OPERATIONS ≤ before.regs.room) where
@@ -47,9 +47,9 @@ module _ (script : List ℕ) (names : List (List ℕ)) (before after : Seen) (ro
   print_not_5 : (P : CppcPlan) (opening : Option ℕ) (es : List CppcEntry) → stopped_at opening es ≡ None → (status : ℕ) (text said : List ℕ)
       → PrintsRun P opening es before.outputs after.outputs status text said → status ≡ 5 → ⊥
   print_not_5 P opening es held status text said (whole none) five = absurd (omega (arith, five))
-  print_not_5 P opening es held status text said (unwritten n none rose) five = absurd (omega (arith, five))
+  print_not_5 P opening es held status text said (write_fault n none rose) five = absurd (omega (arith, five))
   print_not_5 P opening es held status text said (failed at) five = none_or_some held at
-  print_not_5 P opening es held status text said (failed_unwritten n at rose) five = none_or_some held at
+  print_not_5 P opening es held status text said (failed_write_fault n at rose) five = none_or_some held at
   print_not_5 P opening es held status text said without_memory five = absurd (omega (arith, five))
 
   -- no register's fault was counted

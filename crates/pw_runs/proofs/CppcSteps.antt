@@ -14,7 +14,7 @@ use Rattle.pw_script.specs.declared.script.ScriptFault.TheVariants.{Line, Memory
 use Rattle.pw_script.specs.declared.script.TheConstants.{MOST_OPERATIONS}
 use Rattle.pw_load.specs.Seen.{Outputs, Seen}
 use Rattle.pw_load.specs.Ends.{Stops}
-use Rattle.pw_load.specs.Ends.Stops.{refused, unread, without_memory}
+use Rattle.pw_load.specs.Ends.Stops.{refused, read_fault, without_memory}
 use Rattle.pw_load.proofs.Outcomes.{IsWithin}
 use Rattle.pw_load.specs.Steps.{AreHeldBy}
 use Rattle.pw_runs.specs.Scripts.{script_line, script_status}
@@ -79,7 +79,7 @@ pub readying_within : (script : List ℕ) (names : List (List ℕ)) (before afte
 readying_within script names before after = record {
   texts = λ text never. absurd never;
   refusals = refusing;
-  unreads = λ u. inl u;
+  read_faults = λ u. inl u;
   pieces = λ e. absurd (false≢true e);
 }
   where
@@ -94,7 +94,7 @@ module _ {S : Type 0} (F : Files S) (old mid new : S) (kept : KeepsFiles F.told 
   scripting_within script names P planned = record {
     texts = λ text never. absurd never;
     refusals = refusing;
-    unreads = λ rose. inr (record { plan = P; steered = planned; rose = rose_before F old mid new kept script rose });
+    read_faults = λ rose. inr (record { plan = P; steered = planned; rose = rose_before F old mid new kept script rose });
     pieces = λ e. absurd (false≢true e);
   }
     where
@@ -140,7 +140,7 @@ runs_steer script names before after P lines given status written text (ran run 
 pub stops_together : (script : List ℕ) (names : List (List ℕ)) (before after : FilesSeen) {status : ℕ} {line : List ℕ}
     → Stops (steering script names before after) status line → Stops (steering_together script names before after) status line
 stops_together script names before after (refused r) = refused r
-stops_together script names before after (unread u) = unread u
+stops_together script names before after (read_fault u) = read_fault u
 stops_together script names before after without_memory = without_memory
 
 -- where workers had no memory

@@ -9,7 +9,6 @@ use Rattle.pw_model.specs.declared.entry.HistoryEntry.{HistoryEntry}
 use Rattle.pw_model.specs.States.{any_latency}
 use Rattle.pw_model.specs.History.{Faultless, IsEntry, StatesRequest, entry_of, request_of}
 use Rattle.pw_model.proofs.Joining.{fault_none}
-use Rattle.pw_model.proofs.Maps.{weaker}
 use Rattle.pw_notice.specs.Limits.{requests}
 use Rattle.pw_regs.specs.Seen.{RegistersSeen}
 use Rattle.pw_script.specs.declared.script.Line.{Line as line}
@@ -18,6 +17,7 @@ use Rattle.pw_script.specs.Lawful.{Lawful}
 use Rattle.pw_script.specs.Reading.{requests_of}
 use Rattle.pw_drive.specs.Driven.{stopped_at}
 use Rattle.pw_runs.specs.Runs.{IsSerialRun, entries_of}
+use Rattle.pw_base.proofs.Facts.{weaker}
 
 -- the entries of a history that lines allow state requests
 pub entries_state : (P : Plan) (asked : List Request) (opening : Option ℕ) (es : List HistoryEntry) → Lawful P asked opening es

@@ -4,7 +4,6 @@ pub mod Many
 pub mod OnePlan
 pub mod Parsed
 pub mod Printing
-pub mod Repeats
 pub mod One
 pub mod Steps
 pub mod Worded

@@ -18,27 +18,17 @@ use Rattle.pw_script.specs.Lines.{lines_of}
 use Rattle.pw_script.specs.Reading.{Answered, Chosen, requests_of}
 use Rattle.pw_script.proofs.Existing.{lines_fit}
 use Rattle.pw_script.specs.Completing.{IsStart}
-use Rattle.pw_script.proofs.Completions.{completed-run}
+use Rattle.pw_script.proofs.Completions.{completed-run, entry_faultless}
 use Rattle.pw_runs.specs.Runs.{IsTextOn, entries_of}
 use Rattle.pw_runs.specs.Scripts.{HoldsScript, limit_by}
 use Rattle.pw_runs.specs.Workers.{IsTextBy, Seals}
+use Rattle.pw_generate.proofs.Summaries.{nothing_starts}
 
 -- # The lines in their order
-
-entry_faultless : (q : Request) → (entry_of 0 q).fault ≡ 0
-entry_faultless (Idle p s t) = refl
-entry_faultless (Wake p) = refl
-entry_faultless (Perf p i) = refl
-entry_faultless (Throttle p i) = refl
-entry_faultless (PerfLimit p n) = refl
-entry_faultless (ThrottleLimit p n) = refl
 
 entries_faultless : (asked : List Request) → Faultless (entries_of asked)
 entries_faultless [] = tt
 entries_faultless (q ∷ qs) = (entry_faultless q, entries_faultless qs)
-
-nothing_starts : (P : Plan) (asked : List Request) → IsStart P asked []
-nothing_starts P asked = record { legal = legal-empty P; begins = λ p lt. record { rest = own p asked; is = refl } }
 
 -- the history of requests that the plan has, in their order, is one that they allow
 in_order_lawful : (P : Plan) (asked : List Request) → AllByRecursion (Has P) asked → Lawful P asked None (entries_of asked)

@@ -31,26 +31,11 @@ use Rattle.pw_runs.specs.Runs.{AreGiven, ArePlanned, IsRefusalOn, IsTextOn, IsUn
 use Rattle.pw_runs.specs.Workers.{IsTextBy}
 use Rattle.pw_runs.specs.Runs.IsRefusalOn.{unspelled, unplanned, unscripted}
 use Rattle.pw_runs.proofs.OnePlan.{same_plans}
-use Rattle.pw_runs.proofs.Repeats.{one_first_repeat}
+use Rattle.pw_load.proofs.Repeats.{one_first_repeat}
+use Rattle.pw_base.proofs.Facts.{same_err}
+use Rattle.pw_load.proofs.One.{one_twice, one_unplanned, twice_not_distinct}
 
 -- # Blocks that make no plan
-
-one_twice : (entries : List Entry) (s t : ℕ) (a b : List ℕ) → IsGivenTwice entries s a → IsGivenTwice entries t b → (s ≡ t) × (a ≡ b)
-one_twice entries s t a b p q = (p.is ∙ sym q.is, p.says ∙ ap twice_line (one_first_repeat (places_of entries) p.at q.at p.first q.first) ∙ sym q.says)
-
-same_fault : {A E : Type 0} {made : Result A E} {f g : E} → made ≡ Err f → made ≡ Err g → f ≡ g
-same_fault p q = cc
-
-one_unplanned : (entries : List Entry) (s t : ℕ) (a b : List ℕ) → IsUnplanned entries s a → IsUnplanned entries t b → (s ≡ t) × (a ≡ b)
-one_unplanned entries s t a b p q =
-    let same = same_fault p.first q.first in
-    let first = p.says in
-    let second = q.says in
-    (p.is ∙ sym q.is, cc)
-
-twice_not_distinct : (blocks : List Block) (status : ℕ) (line : List ℕ) → IsDistinct (places_of (entries_in blocks))
-    → IsGivenTwice (entries_in blocks) status line → ⊥
-twice_not_distinct blocks status line distinct twice = first_repeat_repeats _ twice.at twice.first distinct
 
 one_without : (blocks : List Block) (s t : ℕ) (a b : List ℕ) → IsNoPlanOf blocks s a → IsNoPlanOf blocks t b → (s ≡ t) × (a ≡ b)
 one_without blocks s t a b (inl p) (inl q) = one_twice (entries_in blocks) s t a b p q
@@ -210,14 +195,14 @@ Contains-behind : {X : Type 0} (y : X) (xs : List X) (x : X) → Contains xs x �
 Contains-behind y xs x (k, lt, is) = (suc k, omega (arith, lt), is)
 
 -- No file is unread where no read of the script or of a block failed, whoever makes the lines.
-pub never_unread : (step : Bool) (script : List ℕ) (names : List (List ℕ)) (before after : FilesSeen) → NoneFailed (script ∷ names) before after
-    → (driving step script names before after).unread → ⊥
-never_unread step script names before after none (inl u) =
+pub never_read_fault : (step : Bool) (script : List ℕ) (names : List (List ℕ)) (before after : FilesSeen) → NoneFailed (script ∷ names) before after
+    → (driving step script names before after).read_fault → ⊥
+never_read_fault step script names before after none (inl u) =
     let some = u.failed.some in
     let within = u.failed.within in
     let at = Contains-get_or names (u.number - 1) [] (omega (arith, some, within)) in
     none (name_at names u.number) (Contains-behind script names (name_at names u.number) at) u.failed.rose
-never_unread step script names before after none (inr u) = none script (0, omega arith, refl) u.rose
+never_read_fault step script names before after none (inr u) = none script (0, omega arith, refl) u.rose
 
 -- # The status of what is refused
 

@@ -14,7 +14,7 @@ use Rattle.pw_load.specs.Seen.{outputs_seen}
 use Rattle.pw_load.specs.Ends.{Ended, print_line, print_status}
 use Rattle.pw_load.proofs.Outcomes.{part_taken}
 use Rattle.pw_runs.specs.Runs.{PrintsRun, register_line}
-use Rattle.pw_runs.specs.Runs.PrintsRun.{whole, unwritten, failed, failed_unwritten, without_memory}
+use Rattle.pw_runs.specs.Runs.PrintsRun.{whole, write_fault, failed, failed_write_fault, without_memory}
 use Rattle.pw_runs.specs.Failing.{failed_line, failed_status}
 
 module _ {S : Type 0} (K : Sink S) (out out' err err' : S) (P : Plan) (opening : Option ℕ) (es : List HistoryEntry) where
@@ -35,7 +35,7 @@ module _ {S : Type 0} (K : Sink S) (out out' err err' : S) (P : Plan) (opening :
   printed_whole none (Ok x) all part sink memory said = record { text = text; line = []; way = whole none; on_out = all; on_err = said }
   printed_whole none (Err faults.Sink) all part sink memory said =
       let taken = part_taken (K.told out) (K.written out) (K.written out') text part in
-      record { text = take taken.0 text; line = codes "write fault\n"; way = unwritten taken.0 none (sink refl); on_out = taken.1; on_err = said }
+      record { text = take taken.0 text; line = codes "write fault\n"; way = write_fault taken.0 none (sink refl); on_out = taken.1; on_err = said }
   printed_whole none (Err faults.Memory) all part sink memory said =
       record { text = []; line = codes "no memory\n"; way = without_memory; on_out = nothing (memory refl); on_err = said }
 
@@ -47,6 +47,6 @@ module _ {S : Type 0} (K : Sink S) (out out' err err' : S) (P : Plan) (opening :
   printed_failed k at (Ok x) all part sink memory said = record { text = text; line = register_line k; way = failed at; on_out = all; on_err = said }
   printed_failed k at (Err faults.Sink) all part sink memory said =
       let taken = part_taken (K.told out) (K.written out) (K.written out') text part in
-      record { text = take taken.0 text; line = register_line k; way = failed_unwritten taken.0 at (sink refl); on_out = taken.1; on_err = said }
+      record { text = take taken.0 text; line = register_line k; way = failed_write_fault taken.0 at (sink refl); on_out = taken.1; on_err = said }
   printed_failed k at (Err faults.Memory) all part sink memory said =
       record { text = []; line = codes "no memory\n"; way = without_memory; on_out = nothing (memory refl); on_err = said }

@@ -22,7 +22,7 @@ use Rattle.pw_script.specs.declared.script.ScriptFault.TheVariants.{Line, Memory
 use Rattle.pw_drive.specs.Drives.{GivesBack}
 use Rattle.pw_load.specs.Seen.{Outputs, Seen}
 use Rattle.pw_load.specs.Ends.{Stops}
-use Rattle.pw_load.specs.Ends.Stops.{refused, unread, without_memory}
+use Rattle.pw_load.specs.Ends.Stops.{refused, read_fault, without_memory}
 use Rattle.pw_load.proofs.Outcomes.{IsWithin}
 use Rattle.pw_load.specs.Steps.{AreHeldBy, loading, placing, planning}
 use Rattle.pw_runs.specs.Scripts.{HoldsNoScript, HoldsScript, script_line, script_status}
@@ -45,7 +45,7 @@ pub placing_within : (blocks : List Block) → IsWithin (placing (entries_in blo
 placing_within blocks = record {
   texts = λ text never. absurd never;
   refusals = λ status line twice. inl twice;
-  unreads = λ never. absurd never;
+  read_faults = λ never. absurd never;
   pieces = λ e. absurd (false≢true e);
 }
 
@@ -53,7 +53,7 @@ planning_blocks : (blocks : List Block) → IsDistinct (places_of (entries_in bl
 planning_blocks blocks distinct = record {
   texts = λ text never. absurd never;
   refusals = λ status line without. inr (distinct, without);
-  unreads = λ never. absurd never;
+  read_faults = λ never. absurd never;
   pieces = λ e. absurd (false≢true e);
 }
 
@@ -67,7 +67,7 @@ pub loading_within : (before after : FilesSeen) (names : List (List ℕ)) → Is
 loading_within before after names = record {
   texts = λ text never. absurd never;
   refusals = λ status line without. unspelled without;
-  unreads = λ u. u;
+  read_faults = λ u. u;
   pieces = λ e. absurd (false≢true e);
 }
 
@@ -77,7 +77,7 @@ pub mapping_within : (before after : FilesSeen) (names : List (List ℕ)) (block
 mapping_within before after names blocks held = record {
   texts = λ text never. absurd never;
   refusals = λ status line without. unplanned blocks held without;
-  unreads = λ never. absurd never;
+  read_faults = λ never. absurd never;
   pieces = λ e. absurd (false≢true e);
 }
 
@@ -108,7 +108,7 @@ pub readying_within : (step : Bool) (script : List ℕ) (names : List (List ℕ)
 readying_within step script names before after = record {
   texts = λ text never. absurd never;
   refusals = refusing;
-  unreads = λ u. inl u;
+  read_faults = λ u. inl u;
   pieces = λ e. absurd (false≢true e);
 }
   where
@@ -130,7 +130,7 @@ module _ {S : Type 0} (F : Files S) (old mid new : S) (kept : KeepsFiles F.told 
   scripting_within step script names P planned = record {
     texts = λ text never. absurd never;
     refusals = refusing;
-    unreads = λ rose. inr (record { plan = P; planned = planned; rose = rose_before script rose });
+    read_faults = λ rose. inr (record { plan = P; planned = planned; rose = rose_before script rose });
     pieces = λ e. absurd (false≢true e);
   }
     where
@@ -177,7 +177,7 @@ runs_drive step script names before after P lines given status written text (ran
 pub stops_working : (step : Bool) (script : List ℕ) (names : List (List ℕ)) (before after : FilesSeen) {status : ℕ} {line : List ℕ}
     → Stops (driving step script names before after) status line → Stops (working step script names before after) status line
 stops_working step script names before after (refused r) = refused r
-stops_working step script names before after (unread u) = unread u
+stops_working step script names before after (read_fault u) = read_fault u
 stops_working step script names before after without_memory = without_memory
 
 -- where workers had no memory
@@ -195,14 +195,6 @@ works_drive step script names sealed before after P lines given status written t
 works_drive step script names sealed before after P lines given status written text (worked run prints seals) = drove_by given run prints seals
 
 -- # Results
-
-pub if_ok : {A E : Type 0} {P Q : A → Type 0} (r : Result A E) → ((a : A) → P a → Q a) → IfOk r P → IfOk r Q
-if_ok (Ok a) f p = f a p
-if_ok (Err e) f p = tt
-
-pub if_err : {A E : Type 0} {P Q : E → Type 0} (r : Result A E) → ((e : E) → P e → Q e) → IfErr r P → IfErr r Q
-if_err (Ok a) f p = tt
-if_err (Err e) f p = f e p
 
 -- the plan of objects that are apart is the plan of the blocks that place them
 pub plan_by : (entries : List Entry) (blocks : List Block) (P : Plan) → entries ≡ entries_in blocks → IsDistinct (places_of entries)

@@ -17,13 +17,13 @@ use Rattle.pw_generate.specs.Summary.{script_summary}
 use Rattle.pw_load.specs.Seen.{Outputs}
 use Rattle.pw_load.specs.Ends.{Does}
 use Rattle.pw_load.specs.Ends.Stops.{without_memory as no_memory}
-use Rattle.pw_load.specs.Ends.Prints.{whole as all_printed, unwritten as part_printed}
+use Rattle.pw_load.specs.Ends.Prints.{whole as all_printed, write_fault as part_printed}
 use Rattle.pw_load.specs.Ends.Does.{stopped as stops, printed as printed_so}
 use Rattle.pw_load.proofs.Completeness.{IsOne}
 use Rattle.pw_runs.proofs.OnePlan.{same_plans}
 use Rattle.pw_runs.specs.Trials.{Generates, IsMachine, IsSummaryOf, PrintsSummary, trying}
 use Rattle.pw_runs.specs.Trials.Generates.{drove, opened, undone}
-use Rattle.pw_runs.specs.Trials.PrintsSummary.{whole, unwritten, failed, without_memory}
+use Rattle.pw_runs.specs.Trials.PrintsSummary.{whole, write_fault, failed, without_memory}
 
 -- # One summary
 
@@ -64,7 +64,7 @@ module _ (n : ℕ) (sealed : Option Sealed) (before after : Outputs) (old new : 
       → (status : ℕ) (text said : List ℕ) → PrintsSummary n P opening es before after status text said
       → Does (trying n) before after status text said ⊎ Failed n old new status
   by_print P opening es machine run status text said (whole none sums) = inl (printed_so sums all_printed)
-  by_print P opening es machine run status text said (unwritten m none sums rose) = inl (printed_so sums (part_printed m rose))
+  by_print P opening es machine run status text said (write_fault m none sums rose) = inl (printed_so sums (part_printed m rose))
   by_print P opening es machine run status text said (failed at) = inr (failed_of machine run at)
   by_print P opening es machine run status text said without_memory = inl (stops no_memory)
 

@@ -14,7 +14,7 @@ use Rattle.pw_load.specs.Seen.{outputs_seen}
 use Rattle.pw_load.specs.Ends.{Ended, print_line, print_status}
 use Rattle.pw_load.proofs.Outcomes.{part_taken}
 use Rattle.pw_runs.specs.inner.Trying.{SumsUp}
-use Rattle.pw_runs.specs.inner.Trying.SumsUp.{whole, unwritten, without_memory}
+use Rattle.pw_runs.specs.inner.Trying.SumsUp.{whole, write_fault, without_memory}
 
 module _ {S : Type 0} (K : Sink S) (out out' err err' : S) (P : Plan) (opening : Option ℕ) (es : List HistoryEntry) where
   abbrev Printed : ℕ → Type 0
@@ -34,6 +34,6 @@ module _ {S : Type 0} (K : Sink S) (out out' err err' : S) (P : Plan) (opening :
   printed_whole none (Ok x) all part sink memory said = record { text = text; line = []; way = whole none; on_out = all; on_err = said }
   printed_whole none (Err faults.Sink) all part sink memory said =
       let taken = part_taken (K.told out) (K.written out) (K.written out') text part in
-      record { text = take taken.0 text; line = codes "write fault\n"; way = unwritten taken.0 none (sink refl); on_out = taken.1; on_err = said }
+      record { text = take taken.0 text; line = codes "write fault\n"; way = write_fault taken.0 none (sink refl); on_out = taken.1; on_err = said }
   printed_whole none (Err faults.Memory) all part sink memory said =
       record { text = []; line = codes "no memory\n"; way = without_memory; on_out = nothing (memory refl); on_err = said }

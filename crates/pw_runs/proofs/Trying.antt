@@ -23,9 +23,9 @@ use Rattle.pw_load.specs.Seen.{Outputs}
 use Rattle.pw_runs.specs.Trials.{Generates, IsMachine, IsSummaryOf, PrintsSummary}
 use Rattle.pw_runs.specs.Trials.Generates.{drove}
 use Rattle.pw_runs.specs.Trials.Generates.{opened as opened_all, undone as undone_all}
-use Rattle.pw_runs.specs.Trials.PrintsSummary.{failed as lost, unwritten as part_printed, whole as all_printed, without_memory as unprinted}
+use Rattle.pw_runs.specs.Trials.PrintsSummary.{failed as lost, write_fault as part_printed, whole as all_printed, without_memory as unprinted}
 use Rattle.pw_runs.specs.inner.Trying.{SumsUp, Tries}
-use Rattle.pw_runs.specs.inner.Trying.SumsUp.{failed, unwritten, whole, without_memory}
+use Rattle.pw_runs.specs.inner.Trying.SumsUp.{failed, write_fault, whole, without_memory}
 use Rattle.pw_runs.specs.inner.Trying.Tries.{opened, ran, undone}
 use Rattle.pw_runs.proofs.Many.{asked_have}
 
@@ -55,7 +55,7 @@ load_summed n P opening es old new small machine run none =
 summed_so : (n : ℕ) (P : Plan) (opening : Option ℕ) (es : List HistoryEntry) (before after : Outputs) → (stopped_at opening es ≡ None → IsSummaryOf n (summary_text P es))
     → (status : ℕ) (text said : List ℕ) → SumsUp P opening es before after status text said → PrintsSummary n P opening es before after status text said
 summed_so n P opening es before after sums status text said (whole none) = all_printed none (sums none)
-summed_so n P opening es before after sums status text said (unwritten m none rose) = part_printed m none (sums none) rose
+summed_so n P opening es before after sums status text said (write_fault m none rose) = part_printed m none (sums none) rose
 summed_so n P opening es before after sums status text said (failed at) = lost at
 summed_so n P opening es before after sums status text said without_memory = unprinted
 

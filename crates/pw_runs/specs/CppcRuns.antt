@@ -88,7 +88,7 @@ abbrev pub steering : (script : List ℕ) → (names : List (List ℕ)) → File
 steering script names before after = record {
   text = IsTextOn before script names;
   refusal = IsRefusalOn before script names;
-  unread = IsOneUnread before after names ⊎ IsScriptUnread before after script names;
+  read_fault = IsOneUnread before after names ⊎ IsScriptUnread before after script names;
   in_pieces = false;
 }
 
@@ -104,10 +104,10 @@ pub record IsSerialRun (P : CppcPlan) (lines : List CppcLine) (opening : Option 
 -- Its history was printed, whole or a beginning of it; where a register failed, that is what the status and the line say.
 pub data PrintsRun (P : CppcPlan) (opening : Option ℕ) (es : List CppcEntry) (before after : Outputs) : ℕ → List ℕ → List ℕ → Type 0 where
   whole : stopped_at opening es ≡ None → PrintsRun P opening es before after 0 (history_text P opening es) []
-  unwritten : (n : ℕ) → stopped_at opening es ≡ None → Rose before.out.faults after.out.faults
+  write_fault : (n : ℕ) → stopped_at opening es ≡ None → Rose before.out.faults after.out.faults
       → PrintsRun P opening es before after 4 (take n (history_text P opening es)) (codes "write fault\n")
   failed : {k : ℕ} → stopped_at opening es ≡ Some k → PrintsRun P opening es before after 5 (history_text P opening es) (register_line k)
-  failed_unwritten : {k : ℕ} (n : ℕ) → stopped_at opening es ≡ Some k → Rose before.out.faults after.out.faults
+  failed_write_fault : {k : ℕ} (n : ℕ) → stopped_at opening es ≡ Some k → Rose before.out.faults after.out.faults
       → PrintsRun P opening es before after 5 (take n (history_text P opening es)) (register_line k)
   without_memory : PrintsRun P opening es before after 6 [] (codes "no memory\n")
 

@@ -34,7 +34,7 @@ abbrev pub steering_together : (script : List ℕ) → (names : List (List ℕ))
 steering_together script names before after = record {
   text = IsTextBy before script names;
   refusal = IsRefusalOn before script names;
-  unread = IsOneUnread before after names ⊎ IsScriptUnread before after script names;
+  read_fault = IsOneUnread before after names ⊎ IsScriptUnread before after script names;
   in_pieces = false;
 }
 

@@ -55,7 +55,7 @@ abbrev pub reviewing : (step : Bool) → (script history : List ℕ) → (names 
 reviewing step script history names before after = record {
   text = IsLawfulOn before step script history names;
   refusal = IsRefusalFor before step script history names;
-  unread = IsOneUnread before after names ⊎ IsScriptUnread before after script names
+  read_fault = IsOneUnread before after names ⊎ IsScriptUnread before after script names
       ⊎ IsHistoryUnread before after step script history names;
   in_pieces = false;
 }

@@ -35,7 +35,7 @@ pub record IsSummaryOf (n : ℕ) (text : List ℕ) : Type 0 where
 
 -- to generate: it refuses nothing, and reads no file
 abbrev pub trying : ℕ → Work
-trying n = record { text = IsSummaryOf n; refusal = λ status line. ⊥; unread = ⊥; in_pieces = false }
+trying n = record { text = IsSummaryOf n; refusal = λ status line. ⊥; read_fault = ⊥; in_pieces = false }
 
 -- # How it ends
 
@@ -45,7 +45,7 @@ pub data PrintsSummary (n : ℕ) (P : Plan) (opening : Option ℕ) (es : List Hi
     : ℕ → List ℕ → List ℕ → Type 0 where
   whole : stopped_at opening es ≡ None → IsSummaryOf n (summary_text P es)
       → PrintsSummary n P opening es before after 0 (summary_text P es) []
-  unwritten : (m : ℕ) → stopped_at opening es ≡ None → IsSummaryOf n (summary_text P es) → Rose before.out.faults after.out.faults
+  write_fault : (m : ℕ) → stopped_at opening es ≡ None → IsSummaryOf n (summary_text P es) → Rose before.out.faults after.out.faults
       → PrintsSummary n P opening es before after 4 (take m (summary_text P es)) (codes "write fault\n")
   failed : {k : ℕ} → stopped_at opening es ≡ Some k → PrintsSummary n P opening es before after 5 [] (register_line k)
   without_memory : PrintsSummary n P opening es before after 6 [] (codes "no memory\n")

@@ -33,7 +33,7 @@ abbrev pub working : (step : Bool) → (script : List ℕ) → (names : List (Li
 working step script names before after = record {
   text = IsTextBy before step script names;
   refusal = IsRefusalOn before step script names;
-  unread = IsOneUnread before after names ⊎ IsScriptUnread before after script names;
+  read_fault = IsOneUnread before after names ⊎ IsScriptUnread before after script names;
   in_pieces = false;
 }
 

@@ -8,7 +8,7 @@ ghost use Rattle.pw_runs.specs.inner.AuditParts.{telling};
 
 use crate::put_between;
 use pw_base::{Failed, Sink};
-use pw_load::unwritten;
+use pw_load::write_fault;
 use pw_text::Page;
 
 /// Puts that a history of so many entries is lawful, by way of a page, and hands all of it to the sink.
@@ -30,6 +30,6 @@ pub fn print_lawful<K: Sink>(page: &mut Page, out: &mut K, err: &mut K, entries:
 {
     match put_lawful(page, out, entries) {
         Ok(()) => 0,
-        Err(_) => unwritten(err),
+        Err(_) => write_fault(err),
     }
 }

@@ -10,10 +10,10 @@ ghost use Rattle.pw_runs.specs.inner.AuditParts.{judging};
 
 use crate::audit_print::print_lawful;
 use crate::audit_refusal::refuse_history;
-use crate::given_in;
 use crate::history::{Unlawful, read_history};
+use crate::read_given;
 use pw_base::{Files, Sink};
-use pw_load::{unread, without_memory};
+use pw_load::{read_fault, without_memory};
 use pw_plan::Plan;
 use pw_script::Script;
 use pw_text::Page;
@@ -41,7 +41,7 @@ fn judge<F: Files, K: Sink>(
 {
     match read_history(alloc, files, name, plan, script) {
         Ok(entries) => print_lawful(page, out, err, entries),
-        Err(Unlawful::Unread) => unread(err),
+        Err(Unlawful::Unread) => read_fault(err),
         Err(Unlawful::Fault(fault)) => refuse_history(page, err, fault),
     }
 }
@@ -69,7 +69,7 @@ pub fn audit<F: Files, K: Sink>(
     let Ok(mut page) = Page::new(alloc) else {
         return without_memory(err);
     };
-    match given_in(alloc, files, step, script, blocks, &mut page, err) {
+    match read_given(alloc, files, step, script, blocks, &mut page, err) {
         Err(status) => status,
         Ok((plan, lines)) => judge(alloc, files, history, &plan, &lines, &mut page, out, err),
     }

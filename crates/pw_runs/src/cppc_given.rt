@@ -49,7 +49,7 @@ fn with_script<F: Files, K: Sink>(
 /// The plan of the performance of the processors that the blocks in the files of these names describe,
 /// and the script for it: the blocks come first. Or the status, once the error output has the line that
 /// says why there is no plan or no script, by way of an empty page.
-pub fn given_in<F: Files, K: Sink>(
+pub fn read_given<F: Files, K: Sink>(
     alloc: Global,
     files: &mut F,
     script: &str,

@@ -8,7 +8,7 @@ ghost use Rattle.pw_cppc_drive.specs.Reading.{Fit};
 ghost use Rattle.pw_runs.specs.CppcRuns.{SteersSerially};
 ghost use Rattle.pw_runs.specs.inner.CppcParts.{RunsSerially};
 
-use crate::cppc_given::given_in;
+use crate::cppc_given::read_given;
 use crate::cppc_print::print_driven;
 use pw_base::{Files, Sink};
 use pw_cppc::CppcPlan;
@@ -66,7 +66,7 @@ pub fn cppc_serially<F: Files, K: Sink, R: Registers>(
     let Ok(mut page) = Page::new(alloc) else {
         return (without_memory(err), regs);
     };
-    match given_in(alloc, files, script, blocks, &mut page, err) {
+    match read_given(alloc, files, script, blocks, &mut page, err) {
         Err(status) => (status, regs),
         Ok((plan, lines)) => run(alloc, plan, &lines, &mut page, out, err, regs),
     }

@@ -12,7 +12,7 @@ use aml_block::{FileFault, read_all};
 use pw_base::{Files, Sink};
 use pw_cppc::CppcPlan;
 use pw_cppc_drive::{CppcScript, cppc_parse};
-use pw_load::{unread, without_memory};
+use pw_load::{read_fault, without_memory};
 use pw_script::MOST_BYTES;
 use pw_text::Page;
 use std::alloc::Global;
@@ -66,7 +66,7 @@ pub fn script_in<F: Files, K: Sink>(
         (sink_seen K.Sink err.old) (sink_seen K.Sink err.new) status) }
 {
     match read_all(alloc, files, name, MOST_BYTES as usize + 1) {
-        Err(FileFault::ReadFault) => Err(unread(err)),
+        Err(FileFault::ReadFault) => Err(read_fault(err)),
         Err(FileFault::Memory) => Err(without_memory(err)),
         Ok(bytes) => script_of(alloc, &bytes, plan, page, err),
     }

@@ -9,7 +9,7 @@ ghost use Rattle.pw_cppc_drive.specs.Reading.{Fit};
 ghost use Rattle.pw_runs.specs.CppcWorkers.{Steers};
 ghost use Rattle.pw_runs.specs.inner.CppcWorks.{Works};
 
-use crate::cppc_given::given_in;
+use crate::cppc_given::read_given;
 use crate::cppc_print::print_driven;
 use pw_base::{Files, Sink};
 use pw_cppc::CppcPlan;
@@ -71,7 +71,7 @@ pub fn cppc<T: Threads + Wait + Sync, F: Files, K: Sink, R: Registers + Send>(
     let Ok(mut page) = Page::new(alloc) else {
         return (without_memory(err), regs);
     };
-    match given_in(alloc, files, script, blocks, &mut page, err) {
+    match read_given(alloc, files, script, blocks, &mut page, err) {
         Err(status) => (status, regs),
         Ok((plan, lines)) => work(rt, alloc, plan, &lines, &mut page, out, err, regs),
     }

@@ -16,7 +16,7 @@ use crate::planned::plan_in;
 use crate::refusal::refuse_script;
 use crate::script::{Missing, read_script};
 use pw_base::{Files, Sink};
-use pw_load::unread;
+use pw_load::read_fault;
 use pw_plan::Plan;
 use pw_script::Script;
 use pw_text::Page;
@@ -49,7 +49,7 @@ fn script_in<F: Files, K: Sink>(
 {
     match read_script(alloc, files, name, plan, step) {
         Ok(script) => Ok(script),
-        Err(Missing::Unread) => Err(unread(err)),
+        Err(Missing::Unread) => Err(read_fault(err)),
         Err(Missing::Fault(fault)) => Err(refuse_script(page, err, fault)),
     }
 }
@@ -88,7 +88,7 @@ fn with_script<F: Files, K: Sink>(
 /// The plan of the blocks in the files of these names, and the script for it: the blocks come first. Or
 /// the status, once the error output has the line that says why there is no plan or no script, by way of
 /// an empty page.
-pub fn given_in<F: Files, K: Sink>(
+pub fn read_given<F: Files, K: Sink>(
     alloc: Global,
     files: &mut F,
     step: bool,

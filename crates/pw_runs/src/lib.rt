@@ -28,7 +28,7 @@ mod working;
 pub use auditing::audit;
 pub use cppc_running::cppc_serially;
 pub use cppc_working::cppc;
-pub use given::given_in;
+pub use given::read_given;
 pub use outcome::{Outcome, handed_on};
 pub use print::{end_failed, failed_after};
 pub use refusal::{refuse_script, say_register};

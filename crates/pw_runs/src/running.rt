@@ -10,7 +10,7 @@ ghost use Rattle.pw_load.specs.Ends.{Ended};
 ghost use Rattle.pw_runs.specs.Runs.{DrivesSerially};
 ghost use Rattle.pw_runs.specs.inner.Parts.{RunsSerially};
 
-use crate::given::given_in;
+use crate::given::read_given;
 use crate::outcome::Outcome;
 use crate::print::print_run;
 use pw_base::{Files, Sink};
@@ -95,7 +95,7 @@ pub fn drive_serially<F: Files, K: Sink, R: Registers>(
             sealed: None,
         };
     };
-    match given_in(alloc, files, step, script, blocks, &mut page, err) {
+    match read_given(alloc, files, step, script, blocks, &mut page, err) {
         Err(status) => Outcome {
             status,
             regs,

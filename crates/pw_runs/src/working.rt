@@ -11,7 +11,7 @@ ghost use Rattle.pw_load.specs.Ends.{Ended};
 ghost use Rattle.pw_runs.specs.Workers.{Drives};
 ghost use Rattle.pw_runs.specs.inner.Works.{Works};
 
-use crate::given::given_in;
+use crate::given::read_given;
 use crate::outcome::{Outcome, handed_on};
 use crate::print::print_run;
 use pw_base::{Files, Gate, Sink};
@@ -102,7 +102,7 @@ pub fn drive<T: Threads + Wait + Sync, F: Files, K: Sink, R: Registers + Send, G
             sealed: None,
         };
     };
-    match given_in(alloc, files, step, script, blocks, &mut page, err) {
+    match read_given(alloc, files, step, script, blocks, &mut page, err) {
         Err(status) => Outcome {
             status,
             regs,

@@ -38,7 +38,7 @@ module _ (P : Plan) where
 
 -- # The lines of a text
 
-one_line : (l r : List ℕ) → Over 10 l → pieces_of (l ++ 10 ∷ r) ≡ with_feed l ∷ pieces_of r
+pub one_line : (l r : List ℕ) → Over 10 l → pieces_of (l ++ 10 ∷ r) ≡ with_feed l ∷ pieces_of r
 one_line [] r o = refl
 one_line (b ∷ l) r o =
     let over = o.0 in

@@ -28,7 +28,7 @@ entries_are : (P : Plan) (qs : List Request) → AllByRecursion (Has P) qs → A
 entries_are P [] has = tt
 entries_are P (q ∷ qs) has = (entry_is P 0 q has.0, entries_are P qs has.1)
 
-entry_faultless : (q : Request) → (entry_of 0 q).fault ≡ 0
+pub entry_faultless : (q : Request) → (entry_of 0 q).fault ≡ 0
 entry_faultless (Idle p s t) = refl
 entry_faultless (Wake p) = refl
 entry_faultless (Perf p i) = refl
@@ -36,7 +36,7 @@ entry_faultless (Throttle p i) = refl
 entry_faultless (PerfLimit p n) = refl
 entry_faultless (ThrottleLimit p n) = refl
 
-faultless : (qs : List Request) → Faultless (map (entry_of 0) qs)
+pub faultless : (qs : List Request) → Faultless (map (entry_of 0) qs)
 faultless [] = tt
 faultless (q ∷ qs) = (entry_faultless q, faultless qs)
 

@@ -14,11 +14,11 @@ use Rattle.pw_model.specs.Operations.{opening_ops}
 use Rattle.pw_model.proofs.Bounds.{opening_ops-length, ops_of-le}
 use Rattle.pw_notice.specs.Limits.{own, requests}
 use Rattle.pw_script.specs.Lawful.{IsRunOf, Lawful}
-use Rattle.pw_script.proofs.Printed.{bound_small}
 use Rattle.pw_script.specs.Asking.{IsNarrowRequest}
 use Rattle.pw_script.specs.Telling.{IsNarrow, IsNarrowFault}
 use Rattle.pw_script.specs.Completing.{IsStart}
 use Rattle.pw_script.proofs.Firsts.{each_first, own-past}
+use Rattle.pw_plan.proofs.RequestBounds.{bound_small}
 
 -- # Requests
 

@@ -16,7 +16,7 @@ use Rattle.pw_plan.specs.declared.request.Request.{Request}
 use Rattle.pw_plan.specs.declared.request.Request.TheVariants.{Idle, Wake, Perf, Throttle, PerfLimit, ThrottleLimit}
 use Rattle.pw_plan.specs.Groups.{no_domain, no_group}
 use Rattle.pw_plan.specs.Places.{domain_at, domain_of, group_at, group_of}
-use Rattle.pw_plan.specs.Requests.{Has, cpu_of, domain_bound, group_bound, ops_bound, set_by}
+use Rattle.pw_plan.specs.Requests.{Has, cpu_of, domain_bound, group_bound, ops_bound, set_count}
 use Rattle.pw_model.specs.declared.entry.HistoryEntry.{HistoryEntry}
 use Rattle.pw_model.specs.declared.state.State.{State}
 use Rattle.pw_model.specs.States.{opening}
@@ -28,49 +28,7 @@ use Rattle.pw_script.specs.HistoryText.{asked_line, entry_lines, history_lines, 
 use Rattle.pw_script.specs.Openings.{opened, opening_line}
 use Rattle.pw_script.specs.inner.Behind.{head_text}
 use Rattle.pw_script.proofs.Spacing.{behind_append, behind_more, spaced_behind}
-
--- # How many operations a request has
-
-members_few : (P : Plan) (d : ℕ) → length (domain_at P d).members ≤ 256
-unfolding no_domain
-members_few P d = elim (cases_lt d (length P.domains)) [
-  | inl lt ↦ P.sound.domains.sizes d no_domain lt
-  | inr ge ↦ let e : domain_at P d ≡ no_domain = get_or_past P.domains d no_domain ge in rw e (omega arith)
-]
-
-set_few : (coord : Coord) (n : ℕ) → n ≤ 256 → set_by coord n ≤ 256
-set_few SwAll n le = le
-set_few SwAny n le = omega arith
-set_few HwAll n le = omega arith
-
-domain_few : (P : Plan) (kind : DomainKind) (p : ℕ) → domain_bound P kind p ≤ 256
-domain_few P kind p = set_few (domain_at P (domain_of P kind p)).coord (length (domain_at P (domain_of P kind p)).members) (members_few P (domain_of P kind p))
-
-group_few : (P : Plan) (p : ℕ) → group_bound P p ≤ 256
-unfolding no_group
-group_few P p = elim (cases_lt (group_of P p) (length P.groups)) [
-  | inl lt ↦ step (nat_lt (group_of P p) (length P.groups)) (P.sound.groups.sizes (group_of P p) no_group lt)
-  | inr ge ↦ past (nat_lt (group_of P p) (length P.groups)) (get_or_past P.groups (group_of P p) no_group ge)
-]
-  where
-    step : (b : Bool) → length (group_at P (group_of P p)).members ≤ 256 → cond b (length (group_at P (group_of P p)).members) 1 ≤ 256
-    step true le = le
-    step false le = omega arith
-
-    past : (b : Bool) → group_at P (group_of P p) ≡ no_group → cond b (length (group_at P (group_of P p)).members) 1 ≤ 256
-    past true e = rw e (omega arith)
-    past false e = omega arith
-
-pub bound_small : (P : Plan) (q : Request) → ops_bound P q ≤ 256
-bound_small P (Idle p s t) = group_few P p
-bound_small P (Wake p) = omega arith
-bound_small P (Perf p i) = domain_few P kinds.Perf p
-bound_small P (Throttle p i) = domain_few P kinds.Throttle p
-bound_small P (PerfLimit p n) = domain_few P kinds.Perf p
-bound_small P (ThrottleLimit p n) = domain_few P kinds.Throttle p
-
-pub entry_has : (P : Plan) (e : HistoryEntry) → StatesRequest P e → Has P (request_of e)
-entry_has P e is = request_has P e is
+use Rattle.pw_plan.proofs.RequestBounds.{members_few, set_few, domain_few, group_few}
 
 -- # Entries
 

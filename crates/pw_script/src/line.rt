@@ -12,11 +12,8 @@ use crate::script::LineWhy;
 use crate::wish::{Verb, Wish};
 use pw_base::Memory;
 use pw_model::ScaleKind;
-use pw_plan::{Plan, Request};
+use pw_plan::{ANY_LATENCY, Plan, Request};
 use std::collections::HashMap;
-
-/// The tolerance that bears any wake latency.
-const ANY_LATENCY: u32 = u32::MAX;
 
 /// Whether bytes are this text.
 fn is(bytes: &[u8], text: &str) -> bool

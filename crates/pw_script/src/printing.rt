@@ -21,12 +21,9 @@ use acpi_values::Op;
 use pw_base::{Failed, Sink};
 use pw_core::{Ops, State};
 use pw_model::{HistoryEntry, Reply};
-use pw_plan::{Plan, Request};
+use pw_plan::{MOST_OF_A_REQUEST, Plan, Request};
 use pw_text::{Page, PrintFault};
 use std::alloc::Global;
-
-/// How many operations a request has at most.
-const MOST_OF_A_REQUEST: u32 = 256;
 
 /// Puts the lines of operations that were done, in order.
 fn put_done<K: Sink>(
@@ -98,7 +95,7 @@ fn put_faulted<K: Sink>(
 }
 
 /// Puts the lines of an entry that was asked in this state, and leaves the state after it.
-#[tactic(auto, using(crate::proofs::Printed::bound_small, crate::proofs::Printed::entry_has))]
+#[tactic(auto, using(pw_plan::proofs::RequestBounds::bound_small, pw_model::proofs::Staying::request_has))]
 fn put_entry<K: Sink>(
     page: &mut Page,
     sink: &mut K,

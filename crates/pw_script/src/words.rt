@@ -8,11 +8,8 @@ use crate::digits::put_decimal;
 use acpi_values::Chain;
 use pw_base::{Failed, Sink};
 use pw_model::Reply;
-use pw_plan::Request;
+use pw_plan::{ANY_LATENCY, Request};
 use pw_text::Page;
-
-/// The tolerance that bears any wake latency.
-const ANY_LATENCY: u32 = u32::MAX;
 
 /// Puts a number behind a text.
 pub fn put_labelled<K: Sink>(

@@ -1,3 +1,2 @@
 pub mod One
 pub mod Parts
-pub mod Repeats

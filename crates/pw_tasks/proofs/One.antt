@@ -22,18 +22,11 @@ use Rattle.pw_load.specs.Lines.{blocks_line, twice_line}
 use Rattle.pw_load.specs.Steps.{IsGivenTwice, IsOneUnread, IsUnplanned}
 use Rattle.pw_tasks.specs.Tasks.{IsCheckText, IsTextOf, IsRefusalOf, IsTextOn, IsRefusalOn, work_on}
 use Rattle.pw_tasks.specs.Tasks.IsRefusalOn.{unspelled, unusable}
-use Rattle.pw_tasks.proofs.Repeats.{one_first_repeat}
+use Rattle.pw_load.proofs.Repeats.{one_first_repeat}
+use Rattle.pw_base.proofs.Facts.{same_err}
+use Rattle.pw_load.proofs.One.{one_twice, one_unplanned, twice_not_distinct}
 
 -- # Objects
-
-one_twice : (entries : List Entry) (s t : ℕ) (a b : List ℕ) → IsGivenTwice entries s a → IsGivenTwice entries t b → (s ≡ t) × (a ≡ b)
-one_twice entries s t a b p q = (p.is ∙ sym q.is, p.says ∙ ap twice_line (one_first_repeat (places_of entries) p.at q.at p.first q.first) ∙ sym q.says)
-
-same_fault : {A E : Type 0} {made : Result A E} {f g : E} → made ≡ Err f → made ≡ Err g → f ≡ g
-same_fault p q = cc
-
-one_unplanned : (entries : List Entry) (s t : ℕ) (a b : List ℕ) → IsUnplanned entries s a → IsUnplanned entries t b → (s ≡ t) × (a ≡ b)
-one_unplanned entries s t a b p q = (p.is ∙ sym q.is, p.says ∙ ap refusal_line (same_fault p.first q.first) ∙ sym q.says)
 
 -- objects that make a plan aren't refused
 plan_not_fault : (entries : List Entry) (status : ℕ) (text line : List ℕ) → IsCheckText entries text → IsUnplanned entries status line → ⊥
@@ -59,11 +52,6 @@ one_text_of Show blocks a b p q = p.1 ∙ sym q.1
 one_text_of ShowAsJson blocks a b p q = p.1 ∙ sym q.1
 one_text_of Rewrite blocks a b p q = p ∙ sym q
 one_text_of Check blocks a b p q = one_check_text (entries_in blocks) a b p.1 q.1
-
--- blocks that place a place twice aren't placed apart
-twice_not_distinct : (blocks : List Block) (status : ℕ) (line : List ℕ) → IsDistinct (places_of (entries_in blocks))
-    → IsGivenTwice (entries_in blocks) status line → ⊥
-twice_not_distinct blocks status line distinct twice = first_repeat_repeats _ twice.at twice.first distinct
 
 one_refusal_of : (task : Task) (blocks : List Block) (s t : ℕ) (a b : List ℕ) → IsRefusalOf task blocks s a → IsRefusalOf task blocks t b → (s ≡ t) × (a ≡ b)
 one_refusal_of Show blocks s t a b p q = one_twice (entries_in blocks) s t a b p q
@@ -115,8 +103,8 @@ task_is_one task names before after tells = record {
 }
 
 -- a file couldn't be read only where a read of it failed
-pub never_unread : (names : List (List ℕ)) (before after : FilesSeen) → NoneFailed names before after → IsOneUnread before after names → ⊥
-never_unread names before after none u =
+pub never_read_fault : (names : List (List ℕ)) (before after : FilesSeen) → NoneFailed names before after → IsOneUnread before after names → ⊥
+never_read_fault names before after none u =
     let some = u.failed.some in
     let within = u.failed.within in
     none (name_at names u.number) (Contains-get_or names (u.number - 1) [] (omega (arith, some, within))) u.failed.rose

@@ -19,7 +19,7 @@ pub loading_within : (task : Task) (names : List (List ℕ)) (before after : Fil
 loading_within task names before after = record {
   texts = λ text never. absurd never;
   refusals = λ status line refusal. unspelled refusal;
-  unreads = λ u. u;
+  read_faults = λ u. u;
   pieces = λ e. absurd (false≢true e);
 }
 
@@ -29,7 +29,7 @@ pub placing_within : (task : Task) (blocks : List Block) → ((status : ℕ) (li
 placing_within task blocks refuses = record {
   texts = λ text never. absurd never;
   refusals = refuses;
-  unreads = λ never. absurd never;
+  read_faults = λ never. absurd never;
   pieces = λ e. absurd (false≢true e);
 }
 
@@ -38,7 +38,7 @@ pub planning_within : (entries : List Entry) → IsWithin (planning entries) (ch
 planning_within entries = record {
   texts = λ text never. absurd never;
   refusals = λ status line refusal. refusal;
-  unreads = λ never. absurd never;
+  read_faults = λ never. absurd never;
   pieces = λ e. absurd (false≢true e);
 }
 
@@ -47,7 +47,7 @@ checking_blocks : (blocks : List Block) → IsDistinct (places_of (entries_in bl
 checking_blocks blocks distinct = record {
   texts = λ text made. (distinct, made);
   refusals = λ status line refusal. inr (distinct, refusal);
-  unreads = λ never. absurd never;
+  read_faults = λ never. absurd never;
   pieces = λ e. absurd (false≢true e);
 }
 
@@ -61,7 +61,7 @@ pub over_within : (task : Task) (names : List (List ℕ)) (before after : FilesS
 over_within task names before after blocks held = record {
   texts = λ text made. record { blocks = blocks; held = held; made = made };
   refusals = λ status line refusal. unusable blocks held refusal;
-  unreads = λ never. absurd never;
+  read_faults = λ never. absurd never;
   pieces = λ e. e;
 }
 

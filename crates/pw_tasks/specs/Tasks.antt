@@ -28,7 +28,7 @@ pub record IsCheckText (entries : List Entry) (text : List ℕ) : Type 0 where
 
 -- to check objects
 abbrev pub checking : List Entry → Work
-checking entries = record { text = IsCheckText entries; refusal = IsUnplanned entries; unread = ⊥; in_pieces = false }
+checking entries = record { text = IsCheckText entries; refusal = IsUnplanned entries; read_fault = ⊥; in_pieces = false }
 
 -- # Over blocks
 
@@ -57,7 +57,8 @@ is_in_pieces Rewrite = false
 is_in_pieces Check = false
 
 abbrev pub work_over : Task → List Block → Work
-work_over task blocks = record { text = IsTextOf task blocks; refusal = IsRefusalOf task blocks; unread = ⊥; in_pieces = is_in_pieces task }
+work_over task blocks =
+    record { text = IsTextOf task blocks; refusal = IsRefusalOf task blocks; read_fault = ⊥; in_pieces = is_in_pieces task }
 
 -- # On files
 
@@ -78,6 +79,6 @@ abbrev pub work_on : Task → List (List ℕ) → FilesSeen → FilesSeen → Wo
 work_on task names before after = record {
   text = IsTextOn task names before;
   refusal = IsRefusalOn task names before;
-  unread = IsOneUnread before after names;
+  read_fault = IsOneUnread before after names;
   in_pieces = is_in_pieces task;
 }

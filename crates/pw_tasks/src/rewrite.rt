@@ -8,7 +8,7 @@ ghost use Rattle.pw_tasks.specs.Tasks.{work_over};
 
 use aml_block::{Block, encode_blocks};
 use pw_base::{Sink, put_all};
-use pw_load::{unwritten, without_memory};
+use pw_load::{without_memory, write_fault};
 use std::alloc::Global;
 
 /// Does `rewrite` over blocks: their shortest spelling, one after the other. All of them are spelled before
@@ -25,6 +25,6 @@ pub fn rewrite<K: Sink>(alloc: Global, blocks: &[Block], out: &mut K, err: &mut 
     };
     match put_all(out, text.as_slice()) {
         Ok(()) => 0,
-        Err(_) => unwritten(err),
+        Err(_) => write_fault(err),
     }
 }

@@ -7,6 +7,6 @@ mod page;
 mod paths;
 
 pub use fault::PrintFault;
-pub use numbers::{hex_digit, put_hex, put_number};
+pub use numbers::{hex_digit, put_hex, put_number, write_hex};
 pub use page::Page;
 pub use paths::{put_path, put_place};

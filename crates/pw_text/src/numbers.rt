@@ -32,8 +32,9 @@ pub fn put_hex<K: Sink>(page: &mut Page, sink: &mut K, number: u64) -> Result<()
     page.put(sink, &digits[start..])
 }
 
-// Writes the digits at the end of the buffer, and says where they begin. Std's digits have up to 64 places.
-fn write_hex(number: u64, buf: &mut [u8; 64]) -> usize
+/// Writes hexadecimal digits at the end of the buffer, and says where they begin: std's digits have up to
+/// 64 places.
+pub fn write_hex(number: u64, buf: &mut [u8; 64]) -> usize
     ensures within { result ≤ 64 }
     ensures text { drop result buf.new ≡ digits 16 true number }
 {

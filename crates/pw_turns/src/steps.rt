@@ -4,31 +4,31 @@ ghost use Rattle.pw_model.specs.Records.{record_count};
 ghost use Rattle.pw_model.specs.History.{replay};
 ghost use Rattle.pw_machine.specs.Steps.{Asks, HoldsAs, entered, find_journal_held, find_record_held, freed};
 ghost use Rattle.pw_machine.specs.Steps.{let_go, release_with_entry, release_without_entry, take_journal};
-ghost use Rattle.pw_rule.specs.Loads.{IsRecordOf};
+ghost use Rattle.pw_rule.specs.Contents.{IsRecordOf};
 ghost use Rattle.pw_rule.specs.Moves.{TellsNext};
 ghost use Rattle.pw_rule.specs.Plays.{IsFound, IsGrown, Met, mine};
 ghost use Rattle.pw_rule.specs.Rule.{given_of, promise_of};
 ghost use Rattle.pw_turns.specs.Asked.{entry_as};
 ghost use Rattle.pw_turns.specs.Went.{FreedOne, OneMore, TookOne};
-ghost use Rattle.pw_turns.specs.Steps.{IsOut, LedOut, MetRecord, TookOut, load_part};
+ghost use Rattle.pw_turns.specs.Steps.{IsOut, LedOut, MetRecord, TookOut, content_part};
 
-use crate::coordinator::{Coordinator, Raw};
-use crate::plays::{Asked, Give, Lead, Leave, Put, Take};
+use crate::coordinator::{Coordinator, TableSeat};
+use crate::plays::{Asked, Commit, LockJournal, LockRecord, UnlockJournal, UnlockRecord};
 use pw_journal::Journal;
 use pw_plan::Request;
 use pw_regs::Registers;
-use pw_rule::{Held, Load};
+use pw_rule::{Boxed, Content};
 use std::marker::Brand;
 
 impl<R: Registers> Coordinator<R> {
     /// The record of a turn, or the number of the seat that has it: then this one gives up, or goes on.
-    pub(crate) fn take<Q: Asked>(
+    pub(crate) fn lock_record<Q: Asked>(
         &self,
-        raw: &mut Raw<R>,
+        raw: &mut TableSeat<R>,
         turn: u32,
         number: u32,
         _request: Request,
-    ) -> Result<Load<R>, u32>
+    ) -> Result<Content<R>, u32>
         requires id { raw.old.table_id ≡ self.now.table.shared.table_id }
         requires given { Q.given ≡ Some (given_of R.Registers self.now.table.shared.key) }
         requires asked { Q.request ≡ _request }
@@ -38,7 +38,7 @@ impl<R: Registers> Coordinator<R> {
         requires number { (number ≡ raw.old.me.0.view.number) × (number < 65536) }
         ensures id { raw.new.table_id ≡ raw.old.table_id }
         ensures view { let given = given_of R.Registers self.now.table.shared.key in
-            MatchResult result (λ load. TookOut given _request (mine raw.old.me) turn load (mine raw.new.me))
+            MatchResult result (λ content. TookOut given _request (mine raw.old.me) turn content (mine raw.new.me))
             (λ holder. MetRecord Q.gives_up given _request (mine raw.old.me) turn holder (mine raw.new.me)) }
         ensures own { MatchResult result (λ _. TookOne turn _request raw.old.me.0.own raw.new.me.0.own)
             (λ _. OneMore raw.old.me.0.own (find_record_held turn _request Q.gives_up) raw.new.me.0.own) }
@@ -48,24 +48,24 @@ impl<R: Registers> Coordinator<R> {
         let found = self
             .table
             .shared
-            .compare_exchange::<Take<Q>>(raw, word, 0, mine);
+            .compare_exchange::<LockRecord<Q>>(raw, word, 0, mine);
         if found != 0 {
             return Err((found - 1) as u32);
         }
         match self.table.shared.exchange(raw, turn as usize, None) {
-            Some(load) => Ok(load),
+            Some(content) => Ok(content),
             None => unreachable!(),
         }
     }
 
     /// The same with what it is about picked: where another seat has the record this one gives up.
-    pub(crate) fn take_for(
+    pub(crate) fn lock_record_for(
         &self,
-        raw: &mut Raw<R>,
+        raw: &mut TableSeat<R>,
         turn: u32,
         number: u32,
         request: Request,
-    ) -> Result<Load<R>, u32>
+    ) -> Result<Content<R>, u32>
         requires id { raw.old.table_id ≡ self.now.table.shared.table_id }
         requires asks { Asks self.now.plan raw.old.me.0.view request }
         requires turn { turn < record_count self.now.plan }
@@ -73,21 +73,21 @@ impl<R: Registers> Coordinator<R> {
         requires number { (number ≡ raw.old.me.0.view.number) × (number < 65536) }
         ensures id { raw.new.table_id ≡ raw.old.table_id }
         ensures view { let given = given_of R.Registers self.now.table.shared.key in
-            MatchResult result (λ load. TookOut given request (mine raw.old.me) turn load (mine raw.new.me))
+            MatchResult result (λ content. TookOut given request (mine raw.old.me) turn content (mine raw.new.me))
             (λ holder. MetRecord true given request (mine raw.old.me) turn holder (mine raw.new.me)) }
         ensures own { MatchResult result (λ _. TookOne turn request raw.old.me.0.own raw.new.me.0.own)
             (λ _. OneMore raw.old.me.0.own (find_record_held turn request true) raw.new.me.0.own) }
     {
-        self.take::<Brand>(raw, turn, number, request)
+        self.lock_record::<Brand>(raw, turn, number, request)
     }
 
     /// The journal, or the number of the seat that has it: then this one gives up, or goes on.
-    pub(crate) fn lead<Q: Asked>(
+    pub(crate) fn lock_journal<Q: Asked>(
         &self,
-        raw: &mut Raw<R>,
+        raw: &mut TableSeat<R>,
         number: u32,
         _request: Request,
-    ) -> Result<Held<Journal<R>>, u32>
+    ) -> Result<Boxed<Journal<R>>, u32>
         requires id { raw.old.table_id ≡ self.now.table.shared.table_id }
         requires given { Q.given ≡ Some (given_of R.Registers self.now.table.shared.key) }
         requires promise { Q.promise ≡ promise_of R.Registers self.now.table.shared.key }
@@ -112,23 +112,23 @@ impl<R: Registers> Coordinator<R> {
         let found = self
             .table
             .shared
-            .compare_exchange::<Lead<Q>>(raw, last + 1, 0, mine);
+            .compare_exchange::<LockJournal<Q>>(raw, last + 1, 0, mine);
         if found != 0 {
             return Err((found - 1) as u32);
         }
         match self.table.shared.exchange(raw, last, None) {
-            Some(Load::Log(journal)) => Ok(journal),
+            Some(Content::Log(journal)) => Ok(journal),
             _ => unreachable!(),
         }
     }
 
     /// The same with what it is about picked: where another seat has the journal this one gives up.
-    pub(crate) fn lead_for(
+    pub(crate) fn lock_journal_for(
         &self,
-        raw: &mut Raw<R>,
+        raw: &mut TableSeat<R>,
         number: u32,
         request: Request,
-    ) -> Result<Held<Journal<R>>, u32>
+    ) -> Result<Boxed<Journal<R>>, u32>
         requires id { raw.old.table_id ≡ self.now.table.shared.table_id }
         requires asks { Asks self.now.plan raw.old.me.0.view request }
         requires next { TellsNext self.now.plan raw.old.me.0.view request (record_count self.now.plan) }
@@ -145,14 +145,14 @@ impl<R: Registers> Coordinator<R> {
             (λ _. OneMore raw.old.me.0.own (take_journal request) raw.new.me.0.own)
             (λ _. OneMore raw.old.me.0.own (find_journal_held request true) raw.new.me.0.own) }
     {
-        self.lead::<Brand>(raw, number, request)
+        self.lock_journal::<Brand>(raw, number, request)
     }
 
     /// Gives the journal back with one entry more.
-    pub(crate) fn put<Q: Asked>(
+    pub(crate) fn commit<Q: Asked>(
         &self,
-        raw: &mut Raw<R>,
-        journal: Held<Journal<R>>,
+        raw: &mut TableSeat<R>,
+        journal: Boxed<Journal<R>>,
         _request: Request,
         _fault: u32,
     )
@@ -178,16 +178,16 @@ impl<R: Registers> Coordinator<R> {
         let empty = self
             .table
             .shared
-            .exchange(raw, last, Some(Load::Log(journal)));
+            .exchange(raw, last, Some(Content::Log(journal)));
         let None = empty else { unreachable!() };
-        self.table.shared.store::<Put<Q>>(raw, last + 1, 0);
+        self.table.shared.store::<Commit<Q>>(raw, last + 1, 0);
     }
 
     /// The same with what it is about picked.
-    pub(crate) fn put_for(
+    pub(crate) fn commit_for(
         &self,
-        raw: &mut Raw<R>,
-        journal: Held<Journal<R>>,
+        raw: &mut TableSeat<R>,
+        journal: Boxed<Journal<R>>,
         request: Request,
         fault: u32,
     )
@@ -206,11 +206,15 @@ impl<R: Registers> Coordinator<R> {
         ensures own { let e = entry_as raw.old.me.0.view.number request fault in
             OneMore raw.old.me.0.own (release_with_entry e (R.faults journal.regs)) raw.new.me.0.own }
     {
-        self.put::<Brand>(raw, journal, request, fault);
+        self.commit::<Brand>(raw, journal, request, fault);
     }
 
     /// Gives the journal back as it was.
-    pub(crate) fn leave<Q: Asked>(&self, raw: &mut Raw<R>, journal: Held<Journal<R>>)
+    pub(crate) fn unlock_journal<Q: Asked>(
+        &self,
+        raw: &mut TableSeat<R>,
+        journal: Boxed<Journal<R>>,
+    )
         requires id { raw.old.table_id ≡ self.now.table.shared.table_id }
         requires count { Q.count ≡ R.faults journal.regs }
         requires out { IsOut (record_count self.now.plan) (mine raw.old.me) }
@@ -227,13 +231,15 @@ impl<R: Registers> Coordinator<R> {
         let empty = self
             .table
             .shared
-            .exchange(raw, last, Some(Load::Log(journal)));
+            .exchange(raw, last, Some(Content::Log(journal)));
         let None = empty else { unreachable!() };
-        self.table.shared.store::<Leave<Q>>(raw, last + 1, 0);
+        self.table
+            .shared
+            .store::<UnlockJournal<Q>>(raw, last + 1, 0);
     }
 
     /// The same with what it is about picked.
-    pub(crate) fn leave_for(&self, raw: &mut Raw<R>, journal: Held<Journal<R>>)
+    pub(crate) fn unlock_journal_for(&self, raw: &mut TableSeat<R>, journal: Boxed<Journal<R>>)
         requires id { raw.old.table_id ≡ self.now.table.shared.table_id }
         requires out { IsOut (record_count self.now.plan) (mine raw.old.me) }
         requires found { let key = self.now.table.shared.key in
@@ -245,24 +251,24 @@ impl<R: Registers> Coordinator<R> {
         ensures own { let count = R.faults journal.regs in
             OneMore raw.old.me.0.own (release_without_entry count) raw.new.me.0.own }
     {
-        self.leave::<Brand>(raw, journal);
+        self.unlock_journal::<Brand>(raw, journal);
     }
 
     /// Gives a record back, with the part that is noted of it.
-    pub(crate) fn free(&self, raw: &mut Raw<R>, turn: u32, load: Load<R>)
+    pub(crate) fn unlock_record(&self, raw: &mut TableSeat<R>, turn: u32, content: Content<R>)
         requires id { raw.old.table_id ≡ self.now.table.shared.table_id }
         requires turn { turn < record_count self.now.plan }
         requires out { IsOut turn (mine raw.old.me) }
-        requires holds { IsRecordOf self.now.plan turn (load_part load) load }
-        requires noted { HoldsAs turn (load_part load) raw.old.me.0.view.held }
+        requires holds { IsRecordOf self.now.plan turn (content_part content) content }
+        requires noted { HoldsAs turn (content_part content) raw.old.me.0.view.held }
         requires releasing { (raw.old.me.0.view.releasing ≡ true) × (raw.old.me.0.view.out ≡ []) }
         ensures id { raw.new.table_id ≡ raw.old.table_id }
         ensures view { mine raw.new.me ≡ (freed turn raw.old.me.0.view, rest raw.old.me.1) }
         ensures own { FreedOne turn raw.old.me.0.own raw.new.me.0.own }
     {
         let slot = turn as usize;
-        let empty = self.table.shared.exchange(raw, slot, Some(load));
+        let empty = self.table.shared.exchange(raw, slot, Some(content));
         let None = empty else { unreachable!() };
-        self.table.shared.store::<Give>(raw, slot + 1, 0);
+        self.table.shared.store::<UnlockRecord>(raw, slot + 1, 0);
     }
 }

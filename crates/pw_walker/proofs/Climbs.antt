@@ -20,7 +20,7 @@ use Rattle.pw_core.specs.Chains.{AreStates, AreStatesOf, IsChain, states_in}
 use Rattle.pw_core.proofs.Climbing.{is_chain, line-Some, states_in-chain_of}
 use Rattle.pw_idle.proofs.Nodes.{vote_fits, vote_proper}
 use Rattle.pw_machine.specs.Standing.{MayVote}
-use Rattle.pw_machine.specs.Walk.{Walk, climb_on, climbed, risen}
+use Rattle.pw_machine.specs.Walk.{Walk, climb_on, climbed, chain_with}
 use Rattle.pw_walker.specs.declared.place.Climb.{Climb}
 use Rattle.pw_walker.specs.Places.{AreStatesUpTo, IsClimb, ahead}
 use Rattle.pw_walker.specs.inner.Going.{HandsOn, past}
@@ -68,7 +68,7 @@ all_states P q p s t ss e h =
 
 -- # The chain with one more state, while it rises
 
-states_risen : (c : Chain) (b : Bool) (s : ℕ) (d : Chain) → d ≡ cond b (chain_of (states_in c ++ s ∷ [])) c → states_in d ≡ risen b (states_in c) s
+states_risen : (c : Chain) (b : Bool) (s : ℕ) (d : Chain) → d ≡ cond b (chain_of (states_in c ++ s ∷ [])) c → states_in d ≡ chain_with b (states_in c) s
 states_risen c true s d e = ap states_in e ∙ states_in-chain_of (states_in c ++ s ∷ [])
 states_risen c false s d e = ap states_in e
 
@@ -78,7 +78,7 @@ chain_risen c true s d is room e =
     rw e (is_chain (states_in c ++ s ∷ []) (omega (arith, more, room)))
 chain_risen c false s d is room e = rw e is
 
-one_longer : (b : Bool) (ss : List ℕ) (s : ℕ) → length (risen b ss s) ≤ length ss + 1
+one_longer : (b : Bool) (ss : List ℕ) (s : ℕ) → length (chain_with b ss s) ≤ length ss + 1
 one_longer true ss s = let e = length-append ss (s ∷ []) in omega (arith, e)
 one_longer false ss s = omega arith
 
@@ -93,7 +93,7 @@ module _ (P : Plan) (q : Request) (n : ℕ) (c : Climb) (lt : n < length P.conta
   some_room = let r = room_here in omega (arith, r)
 
   module _ (v : Vote) (b : Bool) (d : Chain) (be : b ≡ (c.rising && nat_lt 0 v.state)) (de : d ≡ cond b (chain_of (states_in c.chain ++ v.state ∷ [])) c.chain) where
-    states_are : states_in d ≡ risen b (states_in c.chain) v.state
+    states_are : states_in d ≡ chain_with b (states_in c.chain) v.state
     states_are = states_risen c.chain b v.state d de
 
     goes : b ≡ (c.rising && not (v.state == 0))
@@ -102,21 +102,21 @@ module _ (P : Plan) (q : Request) (n : ℕ) (c : Climb) (lt : n < length P.conta
     -- where the walk then stands
     pub past_stops : (w : Walk) (runs : Bool) → runs ≡ true → w ≡ climbed P q (states_in d) → w ≡ past P q n c v runs
     past_stops w runs e is =
-        let f : w ≡ climbed P q (risen (c.rising && not (v.state == 0)) (states_in c.chain) v.state) =
-        is ∙ ap (climbed P q) states_are ∙ ap (λ r. climbed P q (risen r (states_in c.chain) v.state)) goes in
+        let f : w ≡ climbed P q (chain_with (c.rising && not (v.state == 0)) (states_in c.chain) v.state) =
+        is ∙ ap (climbed P q) states_are ∙ ap (λ r. climbed P q (chain_with r (states_in c.chain) v.state)) goes in
         f ∙ ap (past P q n c v) (sym e)
 
     pub past_goes : (w : Walk) (runs : Bool) → runs ≡ false → w ≡ climb_on P q (Container n) v (states_in d) b (container_at P n).parent → w ≡ past P q n c v runs
     past_goes w runs e is =
         is ∙ ap (λ ss. climb_on P q (Container n) v ss b (container_at P n).parent) states_are
-        ∙ ap (λ r. climb_on P q (Container n) v (risen r (states_in c.chain) v.state) r (container_at P n).parent) goes
+        ∙ ap (λ r. climb_on P q (Container n) v (chain_with r (states_in c.chain) v.state) r (container_at P n).parent) goes
         ∙ ap (past P q n c v) (sym e)
 
     pub chain_there : IsClimb P q c → IsChain d
     chain_there h = chain_risen c.chain b v.state d h.chain some_room de
 
     module _ (h : IsClimb P q c) (parent : parent_of P c.child ≡ Some n) (fits : v.state ≤ length (rows_of (container_at P n).idle)) where
-      states_by : (r : Bool) → b ≡ r → AreStatesUpTo P q (risen r (states_in c.chain) v.state) (cond r up [])
+      states_by : (r : Bool) → b ≡ r → AreStatesUpTo P q (chain_with r (states_in c.chain) v.state) (cond r up [])
       states_by false e = up_to_none P q (states_in c.chain) (ahead P c) h.states
       states_by true e =
           let both = sym be ∙ e in

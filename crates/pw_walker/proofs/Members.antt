@@ -19,10 +19,6 @@ use Rattle.pw_model.specs.Records.{Part, domain, scaled_count}
 use Rattle.pw_model.proofs.Calls.{calls_serve}
 use Rattle.pw_model.proofs.Levels.{has_domain}
 
--- a list of operations with more
-abbrev pub with_ops : Bounded Op → List Op → Bounded Op
-with_ops old ops = record old { elements = old.elements ++ ops }
-
 is_index : (scale : Option Scale) (i : ℕ) → i < count_of scale → IsIndex scale i
 is_index None i lt = absurd (omega (arith, lt))
 is_index (Some scale) i lt = lt

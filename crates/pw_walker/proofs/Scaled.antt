@@ -20,8 +20,8 @@ use Rattle.pw_plan.specs.Orderly.{is_scaled}
 use Rattle.pw_plan.specs.Parts.{scale_of}
 use Rattle.pw_plan.specs.Places.{cpu_at, domain_at, domain_of}
 use Rattle.pw_plan.proofs.Lists.{and_both, or_left}
-use Rattle.pw_model.proofs.Maps.{weaker}
 use Rattle.pw_model.specs.Records.{scaled_count}
+use Rattle.pw_base.proofs.Facts.{weaker}
 
 module _ {X : Type 0} (t : X → Bool) (d : X) where
   counted : (x : X) (xs : List X) → count_by t (x ∷ xs) ≡ cond (t x) 1 0 + count_by t xs

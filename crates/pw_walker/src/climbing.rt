@@ -16,7 +16,7 @@ ghost use Rattle.pw_walker.specs.Undoing.{FitsVote, IsOldVote, vote_back};
 ghost use Rattle.pw_walker.specs.inner.Going.{Comes, HandsOn, IsReady, past};
 
 use crate::place::{Climb, OldVote, Place};
-use crate::turning::{Voted, risen, rises, turn};
+use crate::turning::{Voted, chain_with, goes_on, set_vote};
 use acpi_values::{Chain, Op};
 use pw_core::{Ops, chain_composite};
 use pw_idle::NodeRec;
@@ -93,8 +93,8 @@ fn go_past(
         ≡ past plan.now request.now node climb turned.vote turned.runs }
     ensures comes { Comes plan.now request.now result ops.old ops.new }
 {
-    let rising = rises(climb.rising, turned.vote.state);
-    let chain = risen(climb.chain, rising, turned.vote.state);
+    let rising = goes_on(climb.rising, turned.vote.state);
+    let chain = chain_with(climb.chain, rising, turned.vote.state);
     if turned.runs {
         return climbed(plan, request, chain, ops);
     }
@@ -155,7 +155,7 @@ pub fn step_node(
     ensures capacity { ops.new.capacity ≡ ops.old.capacity }
 {
     let old = vote_of(plan, node, climb.child, held);
-    let turned = turn(held, plan, node, climb.child, climb.vote);
+    let turned = set_vote(held, plan, node, climb.child, climb.vote);
     let place = go_past(plan, request, node, climb, turned, ops);
     (place, old)
 }

@@ -16,7 +16,7 @@ use pw_model::Reply;
 use pw_plan::{DomainKind, Plan};
 
 /// Asks for a state on the record of the processor's domain, where the processor is this member.
-pub fn ask_on(
+pub fn ask_domain(
     levels: &mut DomainRec,
     plan: &Plan,
     kind: DomainKind,
@@ -52,7 +52,7 @@ pub fn ask_on(
 }
 
 /// Sets a limit on the record of the processor's domain, where the processor is this member.
-pub fn limit_on(
+pub fn limit_domain(
     levels: &mut DomainRec,
     plan: &Plan,
     kind: DomainKind,

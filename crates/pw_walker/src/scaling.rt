@@ -11,7 +11,7 @@ ghost use Rattle.pw_walker.specs.Places.{IsPlace, walk_of};
 ghost use Rattle.pw_walker.specs.Records.{IsDomain};
 ghost use Rattle.pw_walker.specs.Undoing.{FitsLevel, IsOldLevel, level_back};
 
-use crate::levels::{ask_on, limit_on};
+use crate::levels::{ask_domain, limit_domain};
 use crate::place::{OldLevel, Place};
 use pw_core::Ops;
 use pw_domain::DomainRec;
@@ -63,7 +63,7 @@ fn ask(
         member,
         index: held.own_ask(member),
     };
-    let reply = ask_on(held, plan, kind, cpu, member, index, ops);
+    let reply = ask_domain(held, plan, kind, cpu, member, index, ops);
     (reply, old)
 }
 
@@ -99,7 +99,7 @@ fn limit(
         member,
         limit: held.own_limit(member),
     };
-    let reply = limit_on(held, plan, kind, cpu, member, n, ops);
+    let reply = limit_domain(held, plan, kind, cpu, member, n, ops);
     (reply, old)
 }
 

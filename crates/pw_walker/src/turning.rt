@@ -18,7 +18,7 @@ use pw_model::Vote;
 use pw_plan::{Child, Plan};
 
 /// The chain after a container, while it rises with one state more.
-pub fn risen(chain: Chain, rising: bool, state: u8) -> Chain
+pub fn chain_with(chain: Chain, rising: bool, state: u8) -> Chain
     requires chain { IsChain chain }
     requires room { length (states_in chain) < 9 }
     ensures { result ≡ (if rising then chain_of (states_in chain ++ state ∷ []) else chain) }
@@ -31,7 +31,7 @@ pub fn risen(chain: Chain, rising: bool, state: u8) -> Chain
 }
 
 /// Whether a chain goes on with this state.
-pub fn rises(rising: bool, state: u8) -> bool
+pub fn goes_on(rising: bool, state: u8) -> bool
     ensures { result ≡ (rising && nat_lt 0 state) }
 {
     rising && state > 0
@@ -47,7 +47,7 @@ pub struct Voted {
 }
 
 /// Sets the vote of a child in the record of its container.
-pub fn turn(held: &mut NodeRec, plan: &Plan, node: u32, child: Child, vote: Vote) -> Voted
+pub fn set_vote(held: &mut NodeRec, plan: &Plan, node: u32, child: Child, vote: Vote) -> Voted
     requires node { node < length plan.now.containers }
     requires inside { IsIn plan.now child }
     requires parent { parent_of plan.now child ≡ Some node }

@@ -23,7 +23,7 @@ IsWhyUnlawful before after name P asked (Fault fault) = fault ≢ Memory → Hol
 
 -- to tell that a history of so many entries is lawful
 abbrev pub telling : ℕ → Work
-telling entries = record { text = λ text. text ≡ lawful_line entries; refusal = λ status line. ⊥; unread = ⊥; in_pieces = false }
+telling entries = record { text = λ text. text ≡ lawful_line entries; refusal = λ status line. ⊥; read_fault = ⊥; in_pieces = false }
 
 -- under this name a history is held, and the text says how many entries it has
 pub record IsToldOf (files : FilesSeen) (name : List ℕ) (P : Plan) (asked : List Request) (text : List ℕ) : Type 0 where
@@ -43,6 +43,6 @@ abbrev pub judging : FilesSeen → FilesSeen → List ℕ → Plan → List Requ
 judging before after name P asked = record {
   text = IsToldOf before name P asked;
   refusal = IsRefusedOf before name P asked;
-  unread = Rose (before.faults name) (after.faults name);
+  read_fault = Rose (before.faults name) (after.faults name);
   in_pieces = false;
 }

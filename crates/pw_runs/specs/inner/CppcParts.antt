@@ -38,7 +38,7 @@ pub record IsUnparsed (P : CppcPlan) (bytes : List ℕ) (status : ℕ) (text : L
 
 -- to parse bytes as a script of a plan
 abbrev pub parsing : CppcPlan → List ℕ → Work
-parsing P bytes = record { text = λ text. ⊥; refusal = IsUnparsed P bytes; unread = ⊥; in_pieces = false }
+parsing P bytes = record { text = λ text. ⊥; refusal = IsUnparsed P bytes; read_fault = ⊥; in_pieces = false }
 
 -- under this name no script of the plan is held
 pub record IsNotScripted (files : FilesSeen) (P : CppcPlan) (name : List ℕ) (status : ℕ) (text : List ℕ) : Type 0 where
@@ -53,7 +53,7 @@ abbrev pub scripting : FilesSeen → FilesSeen → CppcPlan → List ℕ → Wor
 scripting before after P name = record {
   text = λ text. ⊥;
   refusal = IsNotScripted before P name;
-  unread = Rose (before.faults name) (after.faults name);
+  read_fault = Rose (before.faults name) (after.faults name);
   in_pieces = false;
 }
 

@@ -31,7 +31,7 @@ pub record IsPlanBy (blocks : List Block) (P : Plan) : Type 0 where
 
 -- to make a plan of blocks
 abbrev pub mapping : List Block → Work
-mapping blocks = record { text = λ text. ⊥; refusal = IsNoPlanOf blocks; unread = ⊥; in_pieces = false }
+mapping blocks = record { text = λ text. ⊥; refusal = IsNoPlanOf blocks; read_fault = ⊥; in_pieces = false }
 
 -- Blocks under these names aren't spelled, or make no plan.
 pub data IsNoPlanIn (files : FilesSeen) (names : List (List ℕ)) (status : ℕ) (text : List ℕ) : Type 0 where
@@ -43,7 +43,7 @@ abbrev pub readying : FilesSeen → FilesSeen → List (List ℕ) → Work
 readying before after names = record {
   text = λ text. ⊥;
   refusal = IsNoPlanIn before names;
-  unread = IsOneUnread before after names;
+  read_fault = IsOneUnread before after names;
   in_pieces = false;
 }
 
@@ -72,7 +72,7 @@ abbrev pub scripting : FilesSeen → FilesSeen → Plan → Bool → List ℕ �
 scripting before after P step name = record {
   text = λ text. ⊥;
   refusal = IsNotScripted before P step name;
-  unread = Rose (before.faults name) (after.faults name);
+  read_fault = Rose (before.faults name) (after.faults name);
   in_pieces = false;
 }
 

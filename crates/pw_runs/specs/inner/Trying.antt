@@ -16,7 +16,7 @@ use Rattle.pw_runs.specs.Runs.{register_line}
 -- the summary of a history was printed, whole or a beginning of it, or a register failed
 pub data SumsUp (P : Plan) (opening : Option ℕ) (es : List HistoryEntry) (before after : Outputs) : ℕ → List ℕ → List ℕ → Type 0 where
   whole : stopped_at opening es ≡ None → SumsUp P opening es before after 0 (summary_text P es) []
-  unwritten : (m : ℕ) → stopped_at opening es ≡ None → Rose before.out.faults after.out.faults
+  write_fault : (m : ℕ) → stopped_at opening es ≡ None → Rose before.out.faults after.out.faults
       → SumsUp P opening es before after 4 (take m (summary_text P es)) (codes "write fault\n")
   failed : {k : ℕ} → stopped_at opening es ≡ Some k → SumsUp P opening es before after 5 [] (register_line k)
   without_memory : SumsUp P opening es before after 6 [] (codes "no memory\n")

@@ -14,7 +14,7 @@ use Rattle.pw_model.specs.Refusals.{fixed_refusal}
 use Rattle.pw_core.specs.Chains.{states_in}
 use Rattle.pw_regs.specs.Rooms.{HasRoom}
 use Rattle.pw_machine.specs.Standing.{MayVote}
-use Rattle.pw_machine.specs.Walk.{Walk, climb_on, climbed, risen}
+use Rattle.pw_machine.specs.Walk.{Walk, climb_on, climbed, chain_with}
 use Rattle.pw_walker.specs.declared.place.Climb.{Climb}
 use Rattle.pw_walker.specs.declared.place.Place.{Place}
 use Rattle.pw_walker.specs.Places.{IsClimb, IsPlace}
@@ -51,5 +51,5 @@ IsVote (ThrottleLimit p n) = ⊥
 abbrev pub past : Plan → Request → ℕ → Climb → Vote → Bool → Walk
 past P q n c v runs =
     let goes = c.rising && not (v.state == 0) in
-    if runs then climbed P q (risen goes (states_in c.chain) v.state)
-    else climb_on P q (Container n) v (risen goes (states_in c.chain) v.state) goes (container_at P n).parent
+    if runs then climbed P q (chain_with goes (states_in c.chain) v.state)
+    else climb_on P q (Container n) v (chain_with goes (states_in c.chain) v.state) goes (container_at P n).parent

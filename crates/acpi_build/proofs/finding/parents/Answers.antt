@@ -7,7 +7,7 @@ use Rattle.pw_plan.specs.Limits.{in_32_bits}
 use Rattle.acpi_build.specs.Finding.{containers_of}
 use Rattle.acpi_build.specs.inner.Labels.{container_labels}
 use Rattle.acpi_build.proofs.Labelled.{are_parents}
-use Rattle.acpi_build.proofs.Orders.{weaker}
+use Rattle.pw_base.proofs.Facts.{if_ok}
 use Rattle.acpi_build.proofs.finding.parents.Goals as goal
 
 pub labels_around-requires : goal.labels_around-requires
@@ -22,4 +22,4 @@ returns c =
     let known : c.as_slice.result.now ≡ container_labels space (containers_of space) = c.as_slice.ensures.value ∙ c.in_ok-labels.ensures
     ∙ ap (λ cs. map (λ k. option_map in_32_bits (position (nat_eq k) cs)) (range_with_len 0 c.count.result)) c.requires.order
     ∙ ap (λ n. map (λ k. option_map in_32_bits (position (nat_eq k) (containers_of space))) (range_with_len 0 n)) c.count.ensures in
-    weaker c.labels_around.result (λ r is. are_parents space c.as_slice.result.now r.items c.placed-objects.ensures.distinct known is) c.labels_around.ensures
+    if_ok c.labels_around.result (λ r is. are_parents space c.as_slice.result.now r.items c.placed-objects.ensures.distinct known is) c.labels_around.ensures

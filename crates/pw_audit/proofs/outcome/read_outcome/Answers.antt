@@ -3,8 +3,8 @@ use Rattle.acpi_values.specs.declared.operation.Op.{Op}
 use Rattle.pw_base.specs.Room.{Bounded}
 use Rattle.pw_model.specs.Operations.{ops_of}
 use Rattle.pw_model.proofs.Bounds.{ops_of-le}
-use Rattle.pw_script.proofs.Printed.{bound_small}
 use Rattle.pw_audit.proofs.Outcomes.{no_count, no_reply}
+use Rattle.pw_plan.proofs.RequestBounds.{bound_small}
 use Rattle.pw_audit.proofs.outcome.read_outcome.Goals as goal
 
 pub overflow_cast-count : goal.overflow_cast-count

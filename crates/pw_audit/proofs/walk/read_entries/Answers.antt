@@ -14,14 +14,11 @@ use Rattle.pw_audit.specs.inner.Queues.{left_of}
 use Rattle.pw_audit.specs.inner.Stopping.{known}
 use Rattle.pw_audit.proofs.Knowing.{known_asked}
 use Rattle.pw_audit.proofs.Walking.{Steps, Walked, end_text, end_unfinished, end_whole, fault_whole, fault_wrong, leaves_init, none_left, some_left, step_seats, step_short, step_shorter, step_text, walked_init, walked_own, walked_refuses, walked_short, walked_size, walked_step}
+use Rattle.pw_base.proofs.Facts.{empty}
 use Rattle.pw_audit.proofs.walk.read_entries.Goals as goal
 
 differ : false ≡ true → ⊥
 differ e = cc
-
-no_bytes : (xs : List ℕ) → length xs ≡ 0 → xs ≡ []
-no_bytes [] e = refl
-no_bytes (x ∷ xs) e = absurd (omega arith)
 
 pub loop-left-init : goal.loop-left-init
 loop-left-init c =
@@ -224,7 +221,7 @@ returns-then-entry-ne0-clause-text c =
       after = c.in_ok-entry.ensures.after;
       fits = c.in_ok-entry.ensures.fits;
     } in
-    let none : rest ≡ [] = no_bytes rest (none_left (length rest) (sym c.is_empty-then-entry-ne0.ensures ∙ c.if-not-is_empty.false)) in
+    let none : rest ≡ [] = empty rest (none_left (length rest) (sym c.is_empty-then-entry-ne0.ensures ∙ c.if-not-is_empty.false)) in
     step_text P L text H S queues passed left w n number e T new next rest s ∙ ap (λ (l : List ℕ). history_text P None (H ++ e ∷ []) ++ l) none ∙ append-nil (history_text P None (H ++ e ∷ []))
     ∙ ap (λ (es : List HistoryEntry). history_text P None es) (sym c.in_ok-push.ensures.items)
 

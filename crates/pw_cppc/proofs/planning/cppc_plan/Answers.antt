@@ -2,11 +2,8 @@ use Rattle.std.specs.Prelude.{Result, Ok, Err, IfOk}
 use Rattle.std.proofs.Common.{◌∙◌, sym, subst}
 use Rattle.std.proofs.lemmas.List.{length-map}
 use Rattle.pw_cppc.specs.Machine.{AreCppcParts}
+use Rattle.pw_base.proofs.Facts.{if_ok}
 use Rattle.pw_cppc.proofs.planning.cppc_plan.Goals as goal
-
-if_ok : {A E : Type 0} {P Q : A → Type 0} (r : Result A E) → ((a : A) → P a → Q a) → IfOk r P → IfOk r Q
-if_ok (Ok a) f p = f a p
-if_ok (Err e) f p = tt
 
 pub new-requires-clause-paths : goal.new-requires-clause-paths
 new-requires-clause-paths c = rw c.in_ok-paths.ensures (length-map c.args.machine.now.cpus _ ∙ sym c.in_ok-cpus.ensures.count)

@@ -1,5 +1,5 @@
 use Rattle.std.proofs.Common.{sym}
-use Rattle.pw_domain.proofs.Filled.{filled_more}
+use Rattle.pw_base.proofs.Filled.{filled_more}
 use Rattle.pw_domain.proofs.group.zeros.Goals as goal
 
 pub loop-member-preserved : goal.loop-member-preserved

@@ -1,5 +1,5 @@
 use Rattle.std.proofs.Common.{arith}
-use Rattle.pw_script.proofs.Printed.{bound_small}
+use Rattle.pw_plan.proofs.RequestBounds.{bound_small}
 use Rattle.pw_drive.proofs.running.most_operations.Goals as goal
 
 pub returns-clause-requests : goal.returns-clause-requests

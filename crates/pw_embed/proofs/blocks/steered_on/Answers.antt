@@ -1,6 +1,6 @@
 use Rattle.std.proofs.Common.{sym, subst}
 use Rattle.pw_cppc.specs.SpacePlan.{IsPlanOver}
-use Rattle.pw_embed.proofs.Refusing.{if_ok}
+use Rattle.pw_base.proofs.Facts.{if_ok}
 use Rattle.pw_embed.proofs.blocks.steered_on.Goals as goal
 
 pub returns : goal.returns

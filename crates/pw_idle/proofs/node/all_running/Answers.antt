@@ -1,6 +1,6 @@
 use Rattle.std.proofs.Common.{sym}
 use Rattle.pw_model.specs.States.{running}
-use Rattle.pw_idle.proofs.Filled.{filled_more}
+use Rattle.pw_base.proofs.Filled.{filled_more}
 use Rattle.pw_idle.proofs.node.all_running.Goals as goal
 
 pub loop-child-preserved : goal.loop-child-preserved

@@ -1,5 +1,5 @@
 use Rattle.std.proofs.Common.{sym}
-use Rattle.pw_idle.proofs.Filled.{filled_more}
+use Rattle.pw_base.proofs.Filled.{filled_more}
 use Rattle.pw_idle.proofs.node.no_counts.Goals as goal
 
 pub loop-row-preserved : goal.loop-row-preserved

@@ -2,7 +2,7 @@ use Rattle.std.proofs.Common.{codes}
 use Rattle.pw_base.specs.Seen.{files_seen}
 use Rattle.pw_script.specs.Reading.{requests_of}
 use Rattle.pw_load.specs.Ends.Does.{stopped}
-use Rattle.pw_load.specs.Ends.Stops.{unread}
+use Rattle.pw_load.specs.Ends.Stops.{read_fault}
 use Rattle.pw_load.proofs.Outcomes.{did_within, ended_saying}
 use Rattle.pw_runs.specs.Histories.{history_line}
 use Rattle.pw_runs.proofs.AuditSteps.{stops_judging, telling_within}
@@ -16,8 +16,8 @@ returns-in-Ok-clause-did g c =
 pub returns-in-Err-Unread-clause-did : goal.returns-in-Err-Unread-clause-did
 returns-in-Err-Unread-clause-did g c =
     let rose = rw c.in-Err-Unread.field-0-is at c.in-Err-Unread.ensures.unlawful in
-    ended_saying g.K.Sink c.args.out.now c.args.err.now c.unread.new.err (codes "read fault\n") c.unread.result
-    (rw c.unread.ensures.status (stopped (unread rose))) c.unread.ensures.line
+    ended_saying g.K.Sink c.args.out.now c.args.err.now c.read_fault.new.err (codes "read fault\n") c.read_fault.result
+    (rw c.read_fault.ensures.status (stopped (read_fault rose))) c.read_fault.ensures.line
 
 pub returns-in-Err-Fault-clause-did : goal.returns-in-Err-Fault-clause-did
 returns-in-Err-Fault-clause-did g c =

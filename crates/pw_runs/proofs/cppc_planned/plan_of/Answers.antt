@@ -1,6 +1,7 @@
 use Rattle.pw_load.proofs.Outcomes.{stopped_within}
-use Rattle.pw_runs.proofs.Steps.{if_err, if_ok, placing_within, planning_within}
+use Rattle.pw_runs.proofs.Steps.{placing_within, planning_within}
 use Rattle.pw_runs.proofs.CppcSteps.{plan_by}
+use Rattle.pw_base.proofs.Facts.{if_ok, if_err}
 use Rattle.pw_runs.proofs.cppc_planned.plan_of.Goals as goal
 
 pub plan_over-made-requires-clause-countable : goal.plan_over-made-requires-clause-countable

@@ -1,15 +1,15 @@
 use Rattle.std.proofs.Common.{codes}
 use Rattle.pw_base.specs.Seen.{files_seen}
-use Rattle.pw_load.specs.Ends.Stops.{unread, without_memory}
+use Rattle.pw_load.specs.Ends.Stops.{read_fault, without_memory}
 use Rattle.pw_load.proofs.Outcomes.{stopped_within}
-use Rattle.pw_runs.proofs.Steps.{if_err}
 use Rattle.pw_runs.proofs.CppcCuts.{held_if, parsing_within}
+use Rattle.pw_base.proofs.Facts.{if_err}
 use Rattle.pw_runs.proofs.cppc_script.script_in.Goals as goal
 
 pub returns-in-Err-ReadFault-clause-stopped : goal.returns-in-Err-ReadFault-clause-stopped
 returns-in-Err-ReadFault-clause-stopped g c =
     let rose = c.in-Err-ReadFault.ensures.failed c.in-Err-ReadFault.field-0-is in
-    record { line = codes "read fault\n"; way = rw c.unread.ensures.status (unread rose); said = c.unread.ensures.line }
+    record { line = codes "read fault\n"; way = rw c.read_fault.ensures.status (read_fault rose); said = c.read_fault.ensures.line }
 
 pub returns-in-Err-Memory-clause-stopped : goal.returns-in-Err-Memory-clause-stopped
 returns-in-Err-Memory-clause-stopped g c =

@@ -17,14 +17,14 @@ pub returns-in-Err-clause-did : goal.returns-in-Err-clause-did
 returns-in-Err-clause-did g c =
     let why = c.in-Err.ensures.stopped in
     let before = files_seen g.F.Files c.args.files.now in
-    let after = files_seen g.F.Files c.given_in.new.files in
-    ended_saying g.K.Sink c.args.out.now c.args.err.now c.given_in.new.err why.line c.in-Err.status
+    let after = files_seen g.F.Files c.read_given.new.files in
+    ended_saying g.K.Sink c.args.out.now c.args.err.now c.read_given.new.err why.line c.in-Err.status
     (stopped (stops_together c.args.script.now (names_of c.args.blocks.now) before after why.way) refl) why.said
 
 pub returns-clause-did : goal.returns-clause-did
 returns-clause-did g c =
-    let worked = rw c.in-Ok-given_in.ensures.quiet at c.work.ensures.worked in
+    let worked = rw c.in-Ok-read_given.ensures.quiet at c.work.ensures.worked in
     let before = all_seen g.F.Files g.K.Sink g.R.Registers c.args.files.now c.args.out.now c.args.err.now c.args.regs in
-    let after = all_seen g.F.Files g.K.Sink g.R.Registers c.given_in.new.files c.work.new.out c.work.new.err c.work.result.1 in
+    let after = all_seen g.F.Files g.K.Sink g.R.Registers c.read_given.new.files c.work.new.out c.work.new.err c.work.result.1 in
     ended_as (works_steer c.args.script.now (names_of c.args.blocks.now) before after
-    c.in-Ok-given_in.plan c.in-Ok-given_in.lines.lines c.in-Ok-given_in.ensures.given c.work.result.0) worked
+    c.in-Ok-read_given.plan c.in-Ok-read_given.lines.lines c.in-Ok-read_given.ensures.given c.work.result.0) worked

@@ -1,6 +1,6 @@
 use Rattle.std.proofs.Common.{codes}
 use Rattle.pw_base.specs.Seen.{files_seen}
-use Rattle.pw_load.specs.Ends.Stops.{unread}
+use Rattle.pw_load.specs.Ends.Stops.{read_fault}
 use Rattle.pw_runs.specs.Scripts.{script_line}
 use Rattle.pw_runs.proofs.Steps.{stops_scripting}
 use Rattle.pw_runs.proofs.given.script_in.Goals as goal
@@ -8,7 +8,7 @@ use Rattle.pw_runs.proofs.given.script_in.Goals as goal
 pub returns-in-Err-Unread-clause-stopped : goal.returns-in-Err-Unread-clause-stopped
 returns-in-Err-Unread-clause-stopped g c =
     let rose = rw c.in-Err-Unread.field-0-is at c.in-Err-Unread.ensures.missing in
-    record { line = codes "read fault\n"; way = rw c.unread.ensures.status (unread rose); said = c.unread.ensures.line }
+    record { line = codes "read fault\n"; way = rw c.read_fault.ensures.status (read_fault rose); said = c.read_fault.ensures.line }
 
 pub returns-in-Err-Fault-clause-stopped : goal.returns-in-Err-Fault-clause-stopped
 returns-in-Err-Fault-clause-stopped g c =

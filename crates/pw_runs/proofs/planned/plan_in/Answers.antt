@@ -1,7 +1,8 @@
 use Rattle.pw_base.specs.Seen.{files_seen}
 use Rattle.aml_block.specs.Held.{names_of}
 use Rattle.pw_load.proofs.Outcomes.{stopped_within}
-use Rattle.pw_runs.proofs.Steps.{if_err, if_ok, loading_within, mapping_within, planned_by}
+use Rattle.pw_runs.proofs.Steps.{loading_within, mapping_within, planned_by}
+use Rattle.pw_base.proofs.Facts.{if_ok, if_err}
 use Rattle.pw_runs.proofs.planned.plan_in.Goals as goal
 
 pub returns-in-Err-clause-stopped : goal.returns-in-Err-clause-stopped

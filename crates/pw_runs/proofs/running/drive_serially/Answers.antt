@@ -15,12 +15,12 @@ returns-in_default-clause-did g c =
 pub returns-in-Err-clause-did : goal.returns-in-Err-clause-did
 returns-in-Err-clause-did g c =
     let why = c.in-Err.ensures.stopped in
-    ended_saying g.K.Sink c.args.out.now c.args.err.now c.given_in.new.err why.line c.in-Err.status (stopped why.way refl) why.said
+    ended_saying g.K.Sink c.args.out.now c.args.err.now c.read_given.new.err why.line c.in-Err.status (stopped why.way refl) why.said
 
 pub returns-clause-did : goal.returns-clause-did
 returns-clause-did g c =
-    let ran = rw c.in-Ok-given_in.ensures.quiet at c.run.ensures.ran in
+    let ran = rw c.in-Ok-read_given.ensures.quiet at c.run.ensures.ran in
     let before = all_seen g.F.Files g.K.Sink g.R.Registers c.args.files.now c.args.out.now c.args.err.now c.args.regs in
-    let after = all_seen g.F.Files g.K.Sink g.R.Registers c.given_in.new.files c.run.new.out c.run.new.err c.run.result.regs in
+    let after = all_seen g.F.Files g.K.Sink g.R.Registers c.read_given.new.files c.run.new.out c.run.new.err c.run.result.regs in
     ended_as (runs_drive c.args.step c.args.script.now (names_of c.args.blocks.now) before after
-    c.in-Ok-given_in.plan c.in-Ok-given_in.lines.lines c.in-Ok-given_in.ensures.given c.run.result.status) ran
+    c.in-Ok-read_given.plan c.in-Ok-read_given.lines.lines c.in-Ok-read_given.ensures.given c.run.result.status) ran

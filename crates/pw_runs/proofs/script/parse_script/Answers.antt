@@ -1,5 +1,5 @@
 use Rattle.std.proofs.Common.{true, false, rules}
-use Rattle.pw_runs.proofs.Steps.{if_err, if_ok}
+use Rattle.pw_base.proofs.Facts.{if_ok, if_err}
 use Rattle.pw_runs.proofs.script.parse_script.Goals as goal
 
 pub returns-then-step-clause-script : goal.returns-then-step-clause-script

@@ -1,6 +1,6 @@
 use Rattle.std.proofs.Common.{◌∙◌, codes}
 use Rattle.pw_load.specs.Ends.Stops.{without_memory}
-use Rattle.pw_load.specs.Ends.Prints.{whole, unwritten}
+use Rattle.pw_load.specs.Ends.Prints.{whole, write_fault}
 use Rattle.pw_load.specs.Ends.Does.{stopped, printed}
 use Rattle.pw_load.proofs.Outcomes.{ended_printing, ended_saying, ended_within}
 use Rattle.pw_tasks.proofs.rewrite.rewrite.Goals as goal
@@ -18,5 +18,5 @@ returns-in-Ok-put_all-clause-did g c =
 pub returns-clause-did : goal.returns-clause-did
 returns-clause-did g c =
     let text = c.as_slice.result.now in
-    ended_within g.K.Sink c.args.out.now c.put_all.new.sink c.args.err.now c.unwritten.new.err text (codes "write fault\n") c.unwritten.result
-    (λ n. rw c.unwritten.ensures.status (printed (c.as_slice.ensures.value ∙ c.in-Ok.ensures) (unwritten n c.in-Err.ensures.failed))) c.in-Err.ensures.part c.unwritten.ensures.line
+    ended_within g.K.Sink c.args.out.now c.put_all.new.sink c.args.err.now c.write_fault.new.err text (codes "write fault\n") c.write_fault.result
+    (λ n. rw c.write_fault.ensures.status (printed (c.as_slice.ensures.value ∙ c.in-Ok.ensures) (write_fault n c.in-Err.ensures.failed))) c.in-Err.ensures.part c.write_fault.ensures.line

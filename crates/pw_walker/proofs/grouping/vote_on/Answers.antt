@@ -7,7 +7,7 @@ use Rattle.pw_model.specs.Answers.{chain_of}
 use Rattle.pw_model.proofs.Accepting.{idle_from}
 use Rattle.pw_domain.specs.Groups.{group_part}
 use Rattle.pw_walker.proofs.Groups.{level_is, member_below, member_may, ops_are}
-use Rattle.pw_walker.proofs.Members.{with_ops}
+use Rattle.pw_core.proofs.Drawing.{with_more}
 use Rattle.pw_walker.proofs.grouping.vote_on.Goals as goal
 
 pub vote_ops-level-requires-clause-place : goal.vote_ops-level-requires-clause-place
@@ -48,4 +48,4 @@ returns-in-Idle-clause-list c =
     let member = rw c.in-Idle.is at c.requires.member in
     let ops = ops_are P c.in-Idle.cpu within c.args.held.now.group c.args.member number member c.in-Idle.state
     (group_part c.args.held.now) (group_part c.vote_ops-level.new.self) c.vote_ops-level.ensures.part in
-    rw c.in-Idle.is (c.vote_ops-level.ensures.list ∙ ap (λ (xs : List Op). with_ops c.args.ops.now xs) ops)
+    rw c.in-Idle.is (c.vote_ops-level.ensures.list ∙ ap (λ (xs : List Op). with_more c.args.ops.now xs) ops)

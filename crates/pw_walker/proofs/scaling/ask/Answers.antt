@@ -19,6 +19,6 @@ returns-clause-old c =
     let lt = place_within P c.args.kind c.args.cpu c.requires.cpu c.requires.scale d k refl c.member_of-member.ensures in
     record {
       fits = rw c.own_ask.ensures (ask_stands P d k held c.requires.of lt);
-      back = ask_back P c.args.kind c.args.cpu d k held.asks held.limits (domain_part c.ask_on-reply.new.levels) c.member_of-member.ensures
-          c.args.index c.own_ask.result c.own_ask.ensures c.ask_on-reply.ensures.part;
+      back = ask_back P c.args.kind c.args.cpu d k held.asks held.limits (domain_part c.ask_domain-reply.new.levels) c.member_of-member.ensures
+          c.args.index c.own_ask.result c.own_ask.ensures c.ask_domain-reply.ensures.part;
     }

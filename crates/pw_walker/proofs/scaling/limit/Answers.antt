@@ -19,6 +19,6 @@ returns-clause-old c =
     let lt = place_within P c.args.kind c.args.cpu c.requires.cpu c.requires.scale d k refl c.member_of-member.ensures in
     record {
       fits = rw c.own_limit.ensures (limit_stands P d k held c.requires.of lt);
-      back = limit_back P c.args.kind c.args.cpu d k held.asks held.limits (domain_part c.limit_on-reply.new.levels) c.member_of-member.ensures
-          c.args.n c.own_limit.result c.own_limit.ensures c.limit_on-reply.ensures.part;
+      back = limit_back P c.args.kind c.args.cpu d k held.asks held.limits (domain_part c.limit_domain-reply.new.levels) c.member_of-member.ensures
+          c.args.n c.own_limit.result c.own_limit.ensures c.limit_domain-reply.ensures.part;
     }

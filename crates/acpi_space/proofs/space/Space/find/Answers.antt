@@ -2,8 +2,8 @@ use Rattle.std.proofs.Common.{Contains, MatchOption, ap, ◌∙◌}
 use Rattle.acpi_space.specs.Namespace.{places_of}
 use Rattle.acpi_space.specs.Standing.{IsFound}
 use Rattle.acpi_space.specs.inner.Standing.{entries_at}
-use Rattle.acpi_space.proofs.Trees.{subst2}
 use Rattle.acpi_space.proofs.Known.{unplaced}
+use Rattle.pw_base.proofs.Facts.{subst2}
 use Rattle.acpi_space.proofs.space.Space.find.Goals as goal
 
 pub returns-in-Some : goal.returns-in-Some

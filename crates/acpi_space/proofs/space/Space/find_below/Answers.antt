@@ -4,8 +4,8 @@ use Rattle.acpi_space.specs.Places.{Place}
 use Rattle.acpi_space.specs.Namespace.{places_of}
 use Rattle.acpi_space.specs.Standing.{IsFound}
 use Rattle.acpi_space.specs.inner.Standing.{entries_at, entry_in}
-use Rattle.acpi_space.proofs.Trees.{subst2}
 use Rattle.acpi_space.proofs.Known.{unplaced, path_is}
+use Rattle.pw_base.proofs.Facts.{subst2}
 use Rattle.acpi_space.proofs.space.Space.find_below.Goals as goal
 
 pub returns-in-Some : goal.returns-in-Some

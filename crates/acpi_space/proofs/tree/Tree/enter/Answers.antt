@@ -5,8 +5,9 @@ use Rattle.std.specs.Vec.{vec_len}
 use Rattle.std.proofs.lemmas.List.{take_at}
 use Rattle.acpi_space.specs.declared.tree.Name.{Name}
 use Rattle.acpi_space.specs.inner.Trees.{IsNext, IsTold, Reaches, below, key, key_cmp, places_in}
-use Rattle.acpi_space.proofs.Trees.{added_tree, added_view, ap2, child_answer, length_in, reached_added, reached_there, same_answers, same_map, subst2}
+use Rattle.acpi_space.proofs.Trees.{added_tree, added_view, ap2, child_answer, length_in, reached_added, reached_there, same_answers, same_map}
 use Rattle.acpi_space.proofs.Rising.{short}
+use Rattle.pw_base.proofs.Facts.{subst2}
 use Rattle.acpi_space.proofs.tree.Tree.enter.Goals as goal
 
 -- the names as they were, when the last is taken off again

@@ -8,7 +8,7 @@ use Rattle.pw_model.specs.Effects.{idle_effect}
 use Rattle.pw_walker.specs.Records.{IsGroup}
 use Rattle.pw_drive.specs.Keeping.{part_in}
 use Rattle.pw_drive.proofs.Grouped.{group_is, group_small, grouped_ops, grouped_reply, member_fits, member_within, ops_are, serves_group, state_is, takes_are}
-use Rattle.pw_walker.proofs.Members.{with_ops}
+use Rattle.pw_core.proofs.Drawing.{with_more}
 use Rattle.pw_drive.proofs.records.Records.idle_among.Goals as goal
 
 pub overflow_cast-at : goal.overflow_cast-at
@@ -48,5 +48,5 @@ returns c =
     ∙ ap (λ (x : ℕ). Entered (chain_of (x ∷ []))) (c.vote_ops-state.ensures.c_state ∙ state_is P R p c.requires.of place k at c.in-Some.ensures.member held e r s is part)
     ∙ sym (grouped_reply P (part_in R) p c.requires.kind at.1 c.args.own))
     (c.vote_ops-state.ensures.list
-    ∙ ap (λ (xs : List Op). with_ops c.args.ops.now xs) (ops_are P R p c.requires.of place k at c.in-Some.ensures.member held e r s is part
+    ∙ ap (λ (xs : List Op). with_more c.args.ops.now xs) (ops_are P R p c.requires.of place k at c.in-Some.ensures.member held e r s is part
     ∙ sym (grouped_ops P (part_in R) p c.requires.kind at.1 c.args.own)))

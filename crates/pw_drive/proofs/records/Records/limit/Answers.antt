@@ -5,8 +5,9 @@ use Rattle.pw_domain.specs.declared.domain.DomainRec.{DomainRec}
 use Rattle.pw_model.specs.Effects.{limit_effect}
 use Rattle.pw_model.specs.Records.{domain}
 use Rattle.pw_drive.specs.Keeping.{domain_in}
-use Rattle.pw_walker.proofs.Members.{member_small, scaled_exists, with_ops}
+use Rattle.pw_walker.proofs.Members.{member_small, scaled_exists}
 use Rattle.pw_drive.proofs.Putting.{record_is, record_there, record_within, serves_level}
+use Rattle.pw_core.proofs.Drawing.{with_more}
 use Rattle.pw_drive.proofs.records.Records.limit.Goals as goal
 
 pub index_mut-levels-requires : goal.index_mut-levels-requires
@@ -20,8 +21,8 @@ overflow_cast-membership c =
     c.in-Some.ensures.member in
     omega (arith, few)
 
-pub limit_on-requires-clause-of : goal.limit_on-requires-clause-of
-limit_on-requires-clause-of c =
+pub limit_domain-requires-clause-of : goal.limit_domain-requires-clause-of
+limit_domain-requires-clause-of c =
     let at = record_there c.args.plan.now c.args.self.now c.args.kind c.args.cpu c.requires.of c.requires.cpu c.requires.scale c.in-Some.membership.place c.in-Some.ensures.place.0
     c.index_mut-levels.result.now c.index_mut-levels.ensures.value in
     record_is c.args.plan.now c.args.self.now c.args.kind c.args.cpu c.requires.of c.requires.cpu c.requires.scale c.index_mut-levels.result.now at
@@ -33,10 +34,10 @@ returns c =
     let at = record_there c.args.plan.now c.args.self.now c.args.kind c.args.cpu c.requires.of c.requires.cpu c.requires.scale c.in-Some.membership.place c.in-Some.ensures.place.0
     c.index_mut-levels.result.now c.index_mut-levels.ensures.value in
     let x = domain_in c.args.self.now.domains.items d in
-    serves_level P c.args.self.now _ d c.limit_on.new.levels (limit_effect P c.args.kind c.args.cpu c.args.n d (domain_part x)) c.limit_on.result c.args.ops.now c.limit_on.new.ops
-    c.requires.of (scaled_exists P c.args.kind c.args.cpu c.requires.cpu c.requires.scale) c.limit_on.ensures.of refl refl
-    (ap (λ k. set c.args.self.now.domains.items k c.limit_on.new.levels) c.in-Some.ensures.place.0)
-    (subst (λ (y : DomainRec). (limit_effect P c.args.kind c.args.cpu c.args.n d (domain_part y)).takes ≡ record { place = domain d; part = domain_part c.limit_on.new.levels }
-    ∷ []) at c.limit_on.ensures.part)
-    (subst (λ (y : DomainRec). c.limit_on.result ≡ (limit_effect P c.args.kind c.args.cpu c.args.n d (domain_part y)).reply) at c.limit_on.ensures.reply)
-    (subst (λ (y : DomainRec). c.limit_on.new.ops ≡ with_ops c.args.ops.now (limit_effect P c.args.kind c.args.cpu c.args.n d (domain_part y)).ops) at c.limit_on.ensures.list)
+    serves_level P c.args.self.now _ d c.limit_domain.new.levels (limit_effect P c.args.kind c.args.cpu c.args.n d (domain_part x)) c.limit_domain.result c.args.ops.now c.limit_domain.new.ops
+    c.requires.of (scaled_exists P c.args.kind c.args.cpu c.requires.cpu c.requires.scale) c.limit_domain.ensures.of refl refl
+    (ap (λ k. set c.args.self.now.domains.items k c.limit_domain.new.levels) c.in-Some.ensures.place.0)
+    (subst (λ (y : DomainRec). (limit_effect P c.args.kind c.args.cpu c.args.n d (domain_part y)).takes ≡ record { place = domain d; part = domain_part c.limit_domain.new.levels }
+    ∷ []) at c.limit_domain.ensures.part)
+    (subst (λ (y : DomainRec). c.limit_domain.result ≡ (limit_effect P c.args.kind c.args.cpu c.args.n d (domain_part y)).reply) at c.limit_domain.ensures.reply)
+    (subst (λ (y : DomainRec). c.limit_domain.new.ops ≡ with_more c.args.ops.now (limit_effect P c.args.kind c.args.cpu c.args.n d (domain_part y)).ops) at c.limit_domain.ensures.list)

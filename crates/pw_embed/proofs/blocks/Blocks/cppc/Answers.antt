@@ -1,7 +1,8 @@
 use Rattle.std.proofs.Common.{[], refl, sym}
 use Rattle.pw_embed.specs.Blocks.{AreSpelled, Refused}
 use Rattle.pw_embed.specs.Faults.{no_fault}
-use Rattle.pw_embed.proofs.Refusing.{if_err, refused}
+use Rattle.pw_embed.proofs.Refusing.{refused}
+use Rattle.pw_base.proofs.Facts.{if_err}
 use Rattle.pw_embed.proofs.blocks.Blocks.cppc.Goals as goal
 
 pub returns-in_default-clause-refused : goal.returns-in_default-clause-refused

@@ -1,6 +1,7 @@
 use Rattle.std.proofs.Common.{sym}
 use Rattle.pw_embed.specs.Blocks.{AreSpelled}
-use Rattle.pw_embed.proofs.Refusing.{if_err, refused}
+use Rattle.pw_embed.proofs.Refusing.{refused}
+use Rattle.pw_base.proofs.Facts.{if_err}
 use Rattle.pw_embed.proofs.blocks.Blocks.plan.Goals as goal
 
 pub returns-in-Ok-placed-clause-refused : goal.returns-in-Ok-placed-clause-refused

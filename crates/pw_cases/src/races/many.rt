@@ -1,0 +1,124 @@
+use crate::races::case::registers;
+use crate::races::told::{operations_in, put_text};
+use pw_audit::audit;
+use pw_base::{MemorySink, OpenGate};
+use pw_plan::Plan;
+use pw_played::{Played, machine_of, play, play_alone};
+use pw_script::Script;
+use std::alloc::Global;
+use std::sync::Wait;
+use std::thread::Threads;
+
+/// As many operations as the registers have room for.
+const ROOM: u32 = 1 << 16;
+
+/// A machine that is generated with so many containers, and the load for it.
+#[derive(Drop)]
+struct Trial {
+    containers: u32,
+    plan: Plan,
+    script: Script,
+}
+
+impl Trial {
+    fn new(alloc: Global, containers: u32) -> Option<Trial> {
+        let (plan, script) = machine_of(alloc, containers)?;
+        Some(Trial {
+            containers,
+            plan,
+            script,
+        })
+    }
+
+    /// A run by workers on registers that fail at this call.
+    fn run<R: Threads + Wait + Sync>(&self, rt: &R, alloc: Global, fail: u32) -> Option<Played> {
+        let (plan, _) = machine_of(alloc, self.containers)?;
+        let regs = registers(alloc, ROOM, fail)?;
+        play(rt, alloc, plan, &self.script, regs, &OpenGate)
+    }
+
+    /// The summary of one caller's run.
+    fn summary(&self, alloc: Global) -> Option<MemorySink> {
+        let (plan, _) = machine_of(alloc, self.containers)?;
+        let regs = registers(alloc, ROOM, 0)?;
+        play_alone(alloc, plan, &self.script, regs)?.summary
+    }
+
+    /// Whether the audit accepts the text of a run, with as many entries as it has, and with the
+    /// operations that the registers saw.
+    fn is_lawful(&self, alloc: Global, played: &Played) -> bool {
+        let written = played.text.written();
+        match audit(alloc, &self.plan, &self.script, written) {
+            Ok(shown) => {
+                shown.entries.as_slice().len() == played.entries
+                    && operations_in(written) == Some(played.operations)
+            }
+            Err(_) => false,
+        }
+    }
+}
+
+/// Whether a run has this summary.
+fn has_summary(played: &Played, summary: &[u8]) -> bool {
+    match &played.summary {
+        None => false,
+        Some(own) => own.written() == summary,
+    }
+}
+
+/// Whether this call was the last that the registers saw: all before it were done, and none after it.
+fn ended_at(played: &Played, call: u32) -> bool {
+    played.operations.checked_add(1) == Some(call as usize)
+}
+
+/// How many of so many runs are lawful, have an entry for each line, and the summary of one caller's
+/// run; and that summary.
+pub(crate) fn put_runs<R: Threads + Wait + Sync>(
+    rt: &R,
+    text: &mut String,
+    alloc: Global,
+    size: u32,
+    times: u32,
+) -> Option<()> {
+    let trial = Trial::new(alloc, size)?;
+    let lines = trial.script.lines.as_slice().len();
+    let summary = trial.summary(alloc)?;
+    let (mut lawful, mut whole, mut same) = (0u32, 0u32, 0u32);
+    for _run in 0..times {
+        let played = trial.run(rt, alloc, 0)?;
+        lawful = lawful.saturating_add(u32::from(trial.is_lawful(alloc, &played)));
+        whole = whole.saturating_add(u32::from(played.entries == lines));
+        same = same.saturating_add(u32::from(has_summary(&played, summary.written())));
+    }
+    writeln!(
+        text,
+        "{times} runs of {size} containers: {lawful} lawful, {whole} with {lines} entries, {same} with one summary"
+    )
+    .ok()?;
+    put_text(text, summary.written())
+}
+
+/// How many of so many runs, in each of which a register fails at another call, are lawful, and end with
+/// that fault.
+pub(crate) fn put_faults<R: Threads + Wait + Sync>(
+    rt: &R,
+    text: &mut String,
+    alloc: Global,
+    containers: u32,
+    fails: &[u32],
+) -> Option<()> {
+    let trial = Trial::new(alloc, containers)?;
+    let (mut lawful, mut ended) = (0u32, 0u32);
+    for fail in fails {
+        let played = trial.run(rt, alloc, *fail)?;
+        let ends = played.summary.is_none() && ended_at(&played, *fail);
+        lawful = lawful.saturating_add(u32::from(trial.is_lawful(alloc, &played)));
+        ended = ended.saturating_add(u32::from(ends));
+    }
+    let times = fails.len();
+    writeln!(
+        text,
+        "{times} runs of {containers} containers with a register that fails: {lawful} lawful, {ended} ended there"
+    )
+    .ok()
+}

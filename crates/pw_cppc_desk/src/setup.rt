@@ -1,0 +1,10 @@
+use pw_cppc::CppcPlan;
+use std::snapshot::Snapshot;
+
+/// What was given to open: the plan, how many entries there may be, and the registers as they were.
+#[derive(Drop)]
+pub struct Setup<R> {
+    pub plan: CppcPlan,
+    pub capacity: u32,
+    pub regs: Snapshot<R>,
+}

@@ -1,7 +1,0 @@
-use Rattle.std.proofs.Common.{◌≡◌}
-use Rattle.pw_cppc_desk.specs.Owning.{Owns}
-use Rattle.pw_cppc_seats.specs.Seats.{parts_of}
-use Rattle.pw_cppc_seats.proofs.ask.rounds.Given as goal
-
-abbrev pub invariant-loop-round : goal.invariant-loop-round
-invariant-loop-round l = Owns l.desk.table.shared.table_id l.seat × (parts_of l.seat ≡ parts_of l.initial.seat)

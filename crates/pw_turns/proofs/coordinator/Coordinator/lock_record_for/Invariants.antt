@@ -1,0 +1,15 @@
+use Rattle.std.proofs.Common.{true, Some}
+use Rattle.pw_rule.specs.Rule.{given_of, promise_of}
+use Rattle.pw_turns.specs.Asked.{no_entry}
+use Rattle.pw_turns.proofs.coordinator.Coordinator.lock_record_for.Given as goal
+
+abbrev pub ghosts-lock_record : goal.ghosts-lock_record
+ghosts-lock_record g a = record {
+  given = Some (given_of g.R.Registers a.self.now.table.shared.key);
+  promise = promise_of g.R.Registers a.self.now.table.shared.key;
+  request = a._request;
+  gives_up = true;
+  entry = no_entry;
+  count = 0;
+  last = 0;
+}
