@@ -45,6 +45,18 @@ def examples(text):
             yield command, shown
 
 
+def promised():
+    """The fields of the records that say what is promised."""
+    record, found = None, set()
+    lines = [line for path in (TOP / "crates/pw_cli/specs").glob("*Promises.antt") for line in path.read_text().splitlines()]
+    for line in lines:
+        if begins := re.match(r"pub record (\w+)", line):
+            record = begins[1]
+        elif field := re.match(r"  pub (\w+) :", line):
+            found.add(f"{record}.{field[1]}")
+    return found
+
+
 def source_lines():
     """The lines of each source of a crate and of each program in C, without the space before them, so that what a document shows
     can be found."""
@@ -61,6 +73,10 @@ def main():
     claims = (TOP / "docs" / "CLAIMS.md").read_text()
     for name in crates():
         check(re.search(rf"^\*\*`{name}`\*\*", claims, re.M), f"docs/CLAIMS.md: no paragraph that begins with **`{name}`**")
+    named = set(re.findall(r"`([A-Z]\w+\.(?!antt)\w+)`", (TOP / "docs" / "PROMISES.md").read_text()))
+    for field in sorted(promised() ^ named):
+        check(False, f"docs/PROMISES.md: {field} is " + ("no field of a promise" if field in named else "a field without a sentence"))
+    check(named, "docs/PROMISES.md: no field is named")
     size = (TOP / "README.md").stat().st_size
     check(size <= 10_000, f"README.md: {size} bytes, more than 10,000")
     sources = list(source_lines())

@@ -3,3 +3,5 @@ pub mod Obeying
 pub mod Complete
 pub mod Spared
 pub mod Working
+pub mod Promising
+pub mod CppcPromising

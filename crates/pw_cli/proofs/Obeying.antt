@@ -152,7 +152,7 @@ status_steering : (serial : Bool) (script : List ℕ) (names : List (List ℕ)) 
 status_steering true script names before after status line refusal = cppc_refusal script names before status line refusal
 status_steering false script names before after status line refusal = cppc_refusal script names before status line refusal
 
-refusal_status : (asked : Asked) (before after : FilesSeen) (status : ℕ) (line : List ℕ) → (work_of asked before after).refusal status line
+pub refusal_status : (asked : Asked) (before after : FilesSeen) (status : ℕ) (line : List ℕ) → (work_of asked before after).refusal status line
     → (status ≡ 1) ⊎ (status ≡ 7) ⊎ (status ≡ 8)
 refusal_status (on_blocks task names) before after status line refusal = inl (refusal_is_1 task names before status line refusal)
 refusal_status (drive way script names) before after status line refusal = elim (status_by way.serial way.step script names before after status line refusal) [

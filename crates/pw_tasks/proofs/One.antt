@@ -47,7 +47,7 @@ one_check_text entries a b p q =
 
 -- # Blocks
 
-one_text_of : (task : Task) (blocks : List Block) (a b : List ℕ) → IsTextOf task blocks a → IsTextOf task blocks b → a ≡ b
+pub one_text_of : (task : Task) (blocks : List Block) (a b : List ℕ) → IsTextOf task blocks a → IsTextOf task blocks b → a ≡ b
 one_text_of Show blocks a b p q = p.1 ∙ sym q.1
 one_text_of ShowAsJson blocks a b p q = p.1 ∙ sym q.1
 one_text_of Rewrite blocks a b p q = p ∙ sym q

@@ -1,0 +1,91 @@
+-- What `cppc` promises, in the words of the machine: `docs/PROMISES.md` has the same in sentences.
+use Rattle.std.specs.Prelude.{◌≡◌, ◌≢◌, ◌≤◌, ◌+◌, ◌++◌, ◌∷◌, ℕ, Bool, true, false, List, [], length, take, None, Some}
+use Rattle.std.specs.Option.{is_some}
+use Rattle.acpi_values.specs.declared.dependency.Coord.TheVariants.{SwAny, HwAll}
+use Rattle.acpi_values.specs.declared.operation.Op.{Op}
+use Rattle.pw_base.specs.Seen.{Grew}
+use Rattle.pw_plan.specs.Groups.{has_member, is_software}
+use Rattle.pw_regs.specs.Seen.{Operated}
+use Rattle.pw_books.specs.Asked.{own}
+use Rattle.pw_cppc.specs.declared.numbers.CppcNumbers.{CppcNumbers}
+use Rattle.pw_cppc.specs.declared.entry.CppcEntry.{CppcEntry}
+use Rattle.pw_cppc.specs.declared.parts.Control.{Control}
+use Rattle.pw_cppc.specs.declared.parts.Control.TheVariants.{Desired}
+use Rattle.pw_cppc.specs.declared.plan.CppcPlan.{CppcPlan}
+use Rattle.pw_cppc.specs.declared.reply.CppcReply.{CppcReply}
+use Rattle.pw_cppc.specs.Answers.{after, answer, refusal}
+use Rattle.pw_cppc.specs.Controls.{HasOwnRegisters, IsFitMember, IsLastSetOn, said_by}
+use Rattle.pw_cppc.specs.History.{history_ops, replay, request_of, requests}
+use Rattle.pw_cppc.specs.Laws.{IsAllowed, IsNearest, Satisfies}
+use Rattle.pw_cppc.specs.Operations.{opening_ops, ops_of}
+use Rattle.pw_cppc.specs.Parts.{register_of}
+use Rattle.pw_cppc.specs.Planning.{domain_at, parts_at}
+use Rattle.pw_cppc.specs.States.{any_performance, ask_of, maximum_of, minimum_of, standing}
+use Rattle.pw_cppc_drive.specs.declared.script.CppcLine.{CppcLine}
+use Rattle.pw_cppc_drive.specs.HistoryText.{history_lines, history_text, lines_from}
+use Rattle.pw_cppc_drive.specs.Lawful.{TellSeats, telling}
+use Rattle.pw_cppc_drive.specs.Reading.{requests_of}
+use Rattle.pw_load.specs.Seen.{Seen}
+use Rattle.pw_runs.specs.CppcRuns.{AreGiven}
+
+-- # Where processors stand
+
+-- Each domain that software coordinates stands as one, no faster than each member allows, no faster than what is asked and demanded,
+-- and there, where all allow it; each member of one that hardware coordinates stands at its own ask within its own bounds
+-- (ACPI 6.5, 8.3, 8.4.6.1.2).
+pub record PerformancesStand (P : CppcPlan) (S : CppcNumbers) : Type 0 where
+  pub together : (d p q : ℕ) → (domain_at P d).coord ≢ HwAll → standing P S d p ≡ standing P S d q
+  pub allowed : (d p : ℕ) → is_software (domain_at P d).coord ≡ true → IsAllowed P S d (standing P S d p)
+  pub no_faster : (d p v : ℕ) → is_software (domain_at P d).coord ≡ true → Satisfies P S d v → standing P S d p ≤ v
+  pub satisfied : (d p v : ℕ) → is_software (domain_at P d).coord ≡ true → v ≤ any_performance → IsAllowed P S d v → Satisfies P S d v
+      → Satisfies P S d (standing P S d p)
+  pub alone : (d p : ℕ) → (domain_at P d).coord ≡ HwAll → IsNearest (ask_of S p) (minimum_of S p) (maximum_of S p) (standing P S d p)
+
+-- Each control of a member of a fit domain was last set to what it is to say; of a SW_ANY domain the desired performance on the member
+-- that was set last. A processor that has one register for two controls is left out.
+pub record ControlsStand (P : CppcPlan) (S : CppcNumbers) (ops : List Op) : Type 0 where
+  pub each : (d p : ℕ) (c : Control) → IsFitMember P d p → HasOwnRegisters P p → is_some (register_of c (parts_at P p)) ≡ true
+      → (c ≡ Desired → (domain_at P d).coord ≢ SwAny) → IsLastSetOn P c (λ q. q ≡ p) (said_by c P S d p) ops
+  pub any : (d p : ℕ) → IsFitMember P d p → (domain_at P d).coord ≡ SwAny
+      → ((q : ℕ) → has_member (domain_at P d).members q ≡ true → HasOwnRegisters P q)
+      → IsLastSetOn P Desired (λ q. has_member (domain_at P d).members q ≡ true) (standing P S d p) ops
+
+-- Both after these entries, with the operations that were done by then.
+pub record ProcessorsAreSteered (P : CppcPlan) (es : List CppcEntry) : Type 0 where
+  pub performances : PerformancesStand P (replay P es)
+  pub controls : ControlsStand P (replay P es) (opening_ops P ++ history_ops P es)
+
+-- Behind these entries a request that is refused is answered why, changes nothing and operates nothing.
+pub record IsTurnedDown (P : CppcPlan) (es : List CppcEntry) (e : CppcEntry) (why : CppcReply) : Type 0 where
+  pub answered : answer P (replay P es) (request_of e) ≡ why
+  pub stays : after P (replay P es) (request_of e) ≡ replay P es
+  pub silent : ops_of P (replay P es) (request_of e) ≡ []
+
+-- The lines of an entry stand behind those of the entries before it, with the answer to the numbers that these leave.
+abbrev pub IsPrinted : CppcPlan → (before : List CppcEntry) → CppcEntry → (later : List CppcEntry) → Type 0
+IsPrinted P before e later =
+    history_lines P None (before ++ e ∷ later)
+    ≡ history_lines P None before ++ lines_from P (replay P before) (1 + length before) (e ∷ later)
+
+-- # A run
+
+-- What `cppc` promises where it ends with status 0, and files that tell.
+pub record KeepsCppc (serial : Bool) (script : List ℕ) (names : List (List ℕ)) (before after : Seen) : Type 0 where
+  -- the plan is that of the blocks in the files, and the lines are the script's
+  pub plan : CppcPlan
+  pub lines : List CppcLine
+  pub given : AreGiven before.files script names plan lines
+  -- there is one history, whose text was printed
+  pub entries : List CppcEntry
+  pub printed : Grew before.outputs.out after.outputs.out (history_text plan None entries)
+  -- each processor's requests are its lines, once and in order; of a serial run all are in the script's order
+  pub asked : (p : ℕ) → own telling p (requests entries) ≡ own telling p (requests_of lines)
+  pub in_order : serial ≡ true → requests entries ≡ requests_of lines
+  -- each reply is that to the numbers which the entries before it leave
+  pub told : (es later : List CppcEntry) (e : CppcEntry) → entries ≡ es ++ e ∷ later → IsPrinted plan es e later
+  pub refused : (es : List CppcEntry) (e : CppcEntry) (why : CppcReply) → refusal plan (replay plan es) (request_of e) ≡ Some why
+      → IsTurnedDown plan es e why
+  -- after every beginning of the history the processors stand as the standard says
+  pub stands : (k : ℕ) → ProcessorsAreSteered plan (take k entries)
+  pub operated : Operated before.regs after.regs (opening_ops plan ++ history_ops plan entries)
+  pub workers : serial ≡ false → TellSeats entries
