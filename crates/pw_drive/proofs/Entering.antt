@@ -1,8 +1,6 @@
 -- One more entry in a history.
-use Rattle.std.proofs.Common.{◌≡◌, ◌≤◌, ◌<◌, ◌+◌, ◌-◌, ◌==◌, ◌++◌, ◌∷◌, ◌∙◌, ℕ, true, false, List, [], length, take, Some, refl, ap, inl, inr, arith, append-nil}
-use Rattle.std.specs.List.{AllByRecursion}
+use Rattle.std.proofs.Common.{◌≡◌, ◌≤◌, ◌<◌, ◌+◌, ◌-◌, ◌==◌, ◌++◌, ◌∷◌, ◌∙◌, ℕ, true, false, List, [], length, take, Some, refl, inl, inr, arith}
 use Rattle.std.proofs.lemmas.Bool.Decides.{nat_tests}
-use Rattle.acpi_values.specs.declared.operation.Op.{Op}
 use Rattle.pw_plan.specs.declared.plan.Plan.{Plan}
 use Rattle.pw_plan.specs.declared.request.Request.{Request}
 use Rattle.pw_plan.specs.declared.request.Request.TheVariants.{Idle, Wake, Perf, Throttle, PerfLimit, ThrottleLimit}
@@ -11,9 +9,9 @@ use Rattle.pw_plan.proofs.Lists.{each_append}
 use Rattle.pw_model.specs.declared.entry.HistoryEntry.{HistoryEntry}
 use Rattle.pw_model.specs.declared.state.State.{State}
 use Rattle.pw_model.specs.Answers.{after}
-use Rattle.pw_model.specs.History.{Faultless, IsEntry, Legal, StatesRequest, entry_of, entry_ops, fault_at, history_ops, replay, request_of}
+use Rattle.pw_model.specs.History.{Faultless, IsEntry, Legal, entry_of, entry_ops, fault_at, replay, request_of}
 use Rattle.pw_model.specs.Operations.{ops_of}
-use Rattle.pw_model.proofs.Joining.{entry_is, history_ops-append, legal-more, replay-append, request_of-entry}
+use Rattle.pw_model.proofs.Joining.{entry_is, legal-more, replay-append, request_of-entry}
 use Rattle.pw_journal.specs.Entries.{fault_entry}
 
 pub seat_of-entry : (seat : ℕ) (q : Request) → (entry_of seat q).seat ≡ seat

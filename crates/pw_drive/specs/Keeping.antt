@@ -1,14 +1,9 @@
 -- The records of a whole plan, and the parts that they hold.
-use Rattle.std.specs.Prelude.{◌≡◌, ◌<◌, ◌++◌, [], ℕ, List, length, slice_index_or}
-use Rattle.acpi_values.specs.declared.operation.Op.{Op}
-use Rattle.pw_base.specs.Room.{Bounded}
-use Rattle.pw_model.specs.declared.reply.Reply.{Reply}
-use Rattle.pw_model.specs.Effects.{Effect}
-use Rattle.pw_model.specs.Locality.{put}
+use Rattle.std.specs.Prelude.{◌≡◌, ◌<◌, [], ℕ, List, length, slice_index_or}
 use Rattle.acpi_values.specs.declared.dependency.Coord.TheVariants.{SwAll}
 use Rattle.pw_plan.specs.declared.plan.Plan.{Plan}
 use Rattle.pw_model.specs.Calls.{opening_part}
-use Rattle.pw_model.specs.Records.{IsRecord, Part, Record, container, domain, group, scaled_count, votes}
+use Rattle.pw_model.specs.Records.{Part, Record, container, domain, group, scaled_count}
 use Rattle.pw_idle.specs.declared.node.NodeRec.{NodeRec}
 use Rattle.pw_idle.specs.Nodes.{node_part}
 use Rattle.pw_domain.specs.declared.domain.DomainRec.{DomainRec}
@@ -40,26 +35,16 @@ group_in rs g = slice_index_or rs g no_group_record
 
 -- # Which records there are
 
--- One record for each container of the plan, at its number.
-pub record AreNodes (P : Plan) (rs : List NodeRec) : Type 0 where
-  pub count : length rs ≡ length P.containers
-  pub each : (n : ℕ) → n < length P.containers → IsNode P n (node_in rs n)
+-- One for each number below the count, at its number.
+pub record AreInOrder {X : Type 0} (Is : ℕ → X → Type 0) (none : X) (count : ℕ) (xs : List X) : Type 0 where
+  pub size : length xs ≡ count
+  pub each : (k : ℕ) → k < count → Is k (slice_index_or xs k none)
 
--- One for each domain of performance or throttling.
-pub record AreDomainRecords (P : Plan) (rs : List DomainRec) : Type 0 where
-  pub count : length rs ≡ scaled_count P
-  pub each : (d : ℕ) → d < scaled_count P → IsDomain P d (domain_in rs d)
-
--- One for each group.
-pub record AreGroupRecords (P : Plan) (rs : List GroupRec) : Type 0 where
-  pub count : length rs ≡ length P.groups
-  pub each : (g : ℕ) → g < length P.groups → IsGroup P g (group_in rs g)
-
--- These are the records of the plan.
+-- These are the records of the plan: of each container, of each domain of performance or throttling, and of each group.
 pub record AreRecordsOf (P : Plan) (R : Records) : Type 0 where
-  pub nodes : AreNodes P R.nodes.items
-  pub domains : AreDomainRecords P R.domains.items
-  pub groups : AreGroupRecords P R.groups.items
+  pub nodes : AreInOrder (IsNode P) no_node_record (length P.containers) R.nodes.items
+  pub domains : AreInOrder (IsDomain P) no_domain_record (scaled_count P) R.domains.items
+  pub groups : AreInOrder (IsGroup P) no_group_record (length P.groups) R.groups.items
 
 -- # What they hold
 
@@ -78,21 +63,3 @@ OpensDomain P d r = IsDomain P d r × (domain_part r ≡ opening_part P (domain 
 
 abbrev pub OpensGroup : Plan → ℕ → GroupRec → Type 0
 OpensGroup P g r = IsGroup P g r × (group_part r ≡ opening_part P (group g))
-
--- # Containers alone
-
--- the parts that records of containers hold; nothing of other records
-abbrev pub node_parts : List NodeRec → Record → Part
-node_parts rs (container n) = node_part (node_in rs n)
-node_parts rs (domain d) = votes []
-node_parts rs (group g) = votes []
-
--- # One request
-
--- Over these records a request had this effect: it was answered so, its operations were appended, and the parts are put that
--- it takes.
-pub record Serves (P : Plan) (was now : Records) (did : Effect) (reply : Reply) (before after : Bounded Op) : Type 0 where
-  pub of : AreRecordsOf P now
-  pub answers : reply ≡ did.reply
-  pub list : after ≡ record before { elements = before.elements ++ did.ops }
-  pub parts : (r : Record) → IsRecord P r → part_in now r ≡ put (part_in was) did.takes r

@@ -8,11 +8,13 @@ ghost use Rattle.pw_script.specs.declared.script.Line.{Line as asked};
 ghost use Rattle.pw_drive.specs.inner.Running.{Keeps, Ran, Stands, Turned};
 
 use crate::records::Records;
+use crate::walking::make_from;
 use pw_core::Ops;
 use pw_journal::Journal;
 use pw_plan::{MOST_OF_A_REQUEST, Plan, Request};
 use pw_regs::Registers;
 use pw_script::Line;
+use pw_walker::begin;
 
 /// How many operations the start or any request has at most.
 pub fn most_operations(plan: &Plan) -> u32
@@ -45,13 +47,8 @@ fn make<R: Registers>(
     ensures stopped { OnErr result (is_some (fault_at journal.new.entries) ≡ true) }
 {
     ops.clear();
-    let old = records.old_of(plan, request);
-    let _reply = records.serve(plan, request, ops);
-    if let Err(done) = journal.append(0, request, ops.list()) {
-        records.set_back(plan, old);
-        return Err(done);
-    }
-    Ok(())
+    let place = begin(plan, &request, ops);
+    make_from(plan, records, &request, &place, ops, journal)
 }
 
 /// Makes the requests of the lines in their order, up to the first fault.

@@ -1,0 +1,5 @@
+use Rattle.pw_turns.proofs.Frames.{rank}
+use Rattle.pw_drive.proofs.walking.+make_from.Given as goal
+
+abbrev pub decreases-make_from : goal.decreases-make_from
+decreases-make_from g l = rank l.place.now
