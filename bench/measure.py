@@ -93,6 +93,13 @@ def buffer(size):
     return block(b"\x08BUFR\x11" + length(len(content)) + content)
 
 
+def quotes(size):
+    """One package of as many strings as fit, a quote each, which JSON escapes."""
+    count = (size - 36 - 16) // 3
+    elements = b"\x0c" + count.to_bytes(4, "little") + count * b'\x0d"\x00'
+    return block(b"\x08QUOT\x13" + length(len(elements)) + elements)
+
+
 def nested(size):
     """Names of packages 32 deep."""
     value = package(b"", 0)
@@ -295,15 +302,11 @@ def beside(plain, command, path, written):
 
 
 def plain_cells(plain, command, path, wall, written):
-    """The cells on the plain program: its milliseconds, how often that goes into ours, its memory a byte; and of JSON how
-    often the time of one that writes the text with no values goes into ours."""
+    """The cells on the plain program: its milliseconds, how often that goes into ours, its memory a byte."""
     if not plain:
-        return ["", "", "", ""]
+        return ["", "", ""]
     took, space = beside(plain, command, str(path), written)
-    direct = ""
-    if "--json" in command:
-        direct = f"{wall / beside(plain, command + ' --direct', str(path), written)[0]:.2f}"
-    return [f"{took:.1f}", f"{wall / took:.2f}", f"{space * 1024 / path.stat().st_size:.1f}" if space else "", direct]
+    return [f"{took:.1f}", f"{wall / took:.2f}", f"{space * 1024 / path.stat().st_size:.1f}" if space else ""]
 
 
 def row_of(cells):
@@ -319,13 +322,14 @@ def objects(program, plain):
         ("short tables", short_tables),
         ("one flat package", flat),
         ("one buffer", buffer),
+        ("strings of one quote", quotes),
         ("nested packages", nested),
     ]
     for what, made in kinds:
         for command in ("show", "show --json", "rewrite"):
             cases += [(command, f"{n} MiB of {what}", made(n << 20)) for n in (1, 2, 4)]
     heads = ["work", "block, bytes", "output, bytes", "time, ms", "processor, ms", "ns a byte", "peak memory, KiB", "memory a byte"]
-    heads += ["time against half", "plain Rust, ms", "against plain Rust", "plain Rust, memory a byte", "against JSON written directly"]
+    heads += ["time against half", "plain Rust, ms", "against plain Rust", "plain Rust, memory a byte"]
     print(row_of(heads))
     print("|---" * len(heads) + "|")
     before = None
@@ -373,7 +377,7 @@ def grown(program, plain, kinds, commands):
     """A table of blocks that grow. The output goes to the null device, but where the plain program is beside."""
     heads = ["work", "block, bytes", "output, bytes", "time, ms", "processor, ms", "ns a byte in and out"]
     heads += ["peak memory, KiB", "memory a byte", "time against half", "iasl -d, ms"]
-    heads += ["plain Rust, ms", "against plain Rust", "plain Rust, memory a byte", "against JSON written directly"]
+    heads += ["plain Rust, ms", "against plain Rust", "plain Rust, memory a byte"]
     print(row_of(heads))
     print("|---" * len(heads) + "|")
     with tempfile.TemporaryDirectory() as folder:

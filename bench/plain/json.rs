@@ -1,5 +1,4 @@
-//! What `show --json` prints, written directly, with no value made of it: one compact line, the keys in the order of
-//! their bytes.
+//! What `show --json` prints, with no value made of it: one compact line, the keys in the order of their bytes.
 
 use crate::read::{Data, Path, Seg};
 use crate::show::{show_path, show_segs};

@@ -4,12 +4,11 @@
 //! writes it in its shortest spelling; the others place its objects, none where one was placed
 //! before; `show` prints each, and `check` reads the tables of processors and prints the plan of
 //! the machine. Which fault a block has it doesn't tell; that of a table it does.
-//! `--json` makes values first, as the program does, and `--json --direct` writes the text without.
 //! `drive` makes the requests of a script on the machine, and prints their history: by a thread for each processor, or on one
 //! thread. `cppc --serial` does so by requests for performance. `audit` tells whether a history is one that a script allows. `generate` makes a block of so many
 //! clusters, reads it again, makes the requests of a load on its machine by threads, and prints their summary. `shared` makes
 //! requests of one coordinator by several threads.
-//! usage: plain show|rewrite|check [--json [--direct]] FILE..
+//! usage: plain show|rewrite|check [--json] FILE..
 //!        plain drive [--serial] [--step] SCRIPT FILE..
 //!        plain cppc --serial SCRIPT FILE..
 //!        plain audit [--step] SCRIPT HISTORY FILE..
@@ -32,7 +31,6 @@ mod show;
 mod space;
 mod tables;
 mod turns;
-mod values;
 mod workers;
 mod written;
 
@@ -117,7 +115,6 @@ fn on_objects(command: &str, flags: &[String], blocks: &[(Vec<u8>, Vec<Term>)]) 
     let done = match (command, flags.len()) {
         ("check", _) => check(&space, &mut page)?,
         (_, 0) => show::show(&space, &mut page).map(|()| ExitCode::SUCCESS)?,
-        (_, 1) => values::show_json(&space, &mut page).map(|()| ExitCode::SUCCESS)?,
         _ => json::show_json(&space, &mut page).map(|()| ExitCode::SUCCESS)?,
     };
     // As the program does it: the process ends now.

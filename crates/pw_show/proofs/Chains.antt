@@ -1,6 +1,8 @@
 -- Texts that are put one for each element of a list.
-use Rattle.std.proofs.Common.{◌≡◌, ◌+◌, ◌<◌, ℕ, Bool, true, false, List, [], ◌∷◌, ◌++◌, map, refl, ap, ◌∙◌, Result, IsErr, is_ok, take, drop, get_or, length, add-one}
+use Rattle.std.proofs.Common.{◌≡◌, ◌+◌, ◌<◌, ℕ, true, false, List, ◌∷◌, ◌++◌, map, ap, ◌∙◌, Result, IsErr, is_ok, take, drop, get_or, length, add-one, append_assoc, sym}
 use Rattle.std.specs.List.{flat_map}
+use Rattle.std.proofs.lemmas.Grind.{flat_map-append}
+use Rattle.std.proofs.lemmas.List.{take-append-drop}
 use Rattle.std.proofs.lemmas.List.Folds.{flat_map-map}
 use Rattle.pw_base.specs.declared.sink.Sink.{Ghosts as Sink}
 use Rattle.pw_text.specs.Puts.{PutsText}
@@ -26,3 +28,12 @@ module _ {S : Type 0} {K : Sink S} where
 pub separated-first : {X : Type 0} (separator : List ℕ) (h : X → List ℕ) (xs : List X) (x : X) (rest : List X) → xs ≡ x ∷ rest
     → separated separator (map h xs) ≡ h x ++ flat_map (λ y. behind separator (h y)) rest
 separated-first separator h xs x rest e = ap (λ all. separated separator (map h all)) e ∙ ap (λ others. h x ++ others) (flat_map-map (behind separator) h rest)
+
+-- what bytes in two parts give
+pub of_parts : (f : ℕ → List ℕ) (bytes done more : List ℕ) → bytes ≡ done ++ more → flat_map f done ++ flat_map f more ≡ flat_map f bytes
+of_parts f bytes done more e = sym (flat_map-append f done more) ∙ ap (λ (l : List ℕ). flat_map f l) (sym e)
+
+-- one more piece is done
+pub more_done : (bytes done rest piece others : List ℕ) (n : ℕ) → bytes ≡ done ++ rest → piece ≡ take n rest → others ≡ drop n rest → bytes ≡ (done ++ piece) ++ others
+more_done bytes done rest piece others n e front back =
+    rw (front, back) (e ∙ ap (λ (l : List ℕ). done ++ l) (sym (take-append-drop n rest)) ∙ sym (append_assoc done (take n rest) (drop n rest)))

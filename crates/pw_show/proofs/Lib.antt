@@ -1,8 +1,8 @@
 pub mod Chains
+pub mod Compact
+pub mod Escapes
 pub mod Layers
-pub mod Characters
 pub mod Joining
 pub mod Listed
-pub mod NoFloat
 pub mod Putting
 pub mod Told

@@ -8,7 +8,7 @@ use Rattle.pw_text.specs.Puts.{PutsText}
 use Rattle.pw_text.specs.declared.fault.PrintFault.{PrintFault}
 use Rattle.pw_text.specs.declared.fault.PrintFault.TheVariants as faults
 use Rattle.pw_text.proofs.Putting.{PutsText-as, PutsText-none, PutsText-stop, PutsText-then}
-use Rattle.pw_show.specs.inner.Putting.{PutsUnlessMemory}
+use Rattle.pw_show.specs.inner.Putting.{PutsUnlessMemory, SinkAlone}
 
 -- a beginning of a text begins a longer one
 begins : (n : ℕ) (text more : List ℕ) → take n text ≡ take (length (take n text)) (text ++ more)
@@ -58,6 +58,14 @@ module _ {A S : Type 0} {K : Sink S} where
     sink = λ h. let no : of_memory {A = A} ≡ of_sink = sym is ∙ h in absurd (cc);
     memory = λ h. (0, PutsText-none a waited);
   }
+
+  -- a text was put by a call that takes no memory
+  pub puts_alone : {B E : Type 0} {a b : S} {waited waits text : List ℕ} {plain : Result B E} {r : Result A PrintFault} → SinkAlone plain r
+      → PutsText K a b waited waits text (is_ok plain) → PutsUnlessMemory K a b waited waits text r
+  puts_alone {a = a} {b = b} {waited = waited} {waits = waits} {text = text} {r = Ok x} alone p =
+      puts_done x (subst (λ d. PutsText K a b waited waits text d) (sym alone.same) p)
+  puts_alone {a = a} {b = b} {waited = waited} {waits = waits} {text = text} {r = Err e} alone p =
+      puts_failed (alone.fault refl) (subst (λ d. PutsText K a b waited waits text d) (sym alone.same) p)
 
   -- a text was put, and then another
   pub puts_then : {a b c : S} {waited left waits first second : List ℕ} {r : Result A PrintFault}

@@ -1,55 +1,102 @@
-ghost use Rattle.std.specs.Prelude.{◌≡◌, IfOk};
+ghost use Rattle.std.specs.Prelude.{◌≡◌, ◌++◌, codes, is_ok};
 ghost use Rattle.acpi_space.specs.Things.{thing};
-ghost use Rattle.serde_json.specs.View.{view};
+ghost use Rattle.serde_json.specs.Data.{string};
 ghost use Rattle.serde_json.specs.Written.{compact_text};
-ghost use Rattle.pw_show.specs.Json.{object_json, with_value, without_value};
+ghost use Rattle.pw_text.specs.Puts.{PutsText};
+ghost use Rattle.pw_text.specs.Text.{path_text};
+ghost use Rattle.pw_show.specs.Json.{object_json, told, with_value};
+ghost use Rattle.pw_show.specs.inner.Pieces.{head_text};
+ghost use Rattle.pw_show.specs.inner.Putting.{PutsUnlessMemory, comma_before};
 
-use crate::json_paths::{path_string, place_string};
-use crate::json_values::{kind_of, value_of};
+use crate::json_paths::{put_json_path, put_json_place};
+use crate::json_values::{kind_of, put_front, put_told, without_memory};
 use acpi_space::Object;
-use aml_data::Seg;
-use pw_base::Memory;
-use serde_json::{Value, json};
+use aml_data::{Data, Path, Seg};
+use pw_base::{Failed, Sink};
+use pw_text::{Page, PrintFault};
 use std::alloc::Global;
 
-/// An object of the namespace as a value: its kind, its full path, and its own value if it has one.
-pub fn object_value(alloc: Global, path: &[Seg], object: Object<'_>) -> Result<Value, Memory>
-    ensures { IfOk result (λ v. view v ≡ object_json path.now (thing object.entry)) }
+/// Puts an object of the namespace as JSON, behind a comma unless it is the first: its kind, its full path, and its
+/// own value if it has one.
+pub fn put_json_object<K: Sink>(
+    alloc: Global,
+    page: &mut Page,
+    sink: &mut K,
+    index: usize,
+    path: &[Seg],
+    object: Object<'_>,
+) -> Result<(), PrintFault>
+    ensures { PutsUnlessMemory K.Sink sink.old sink.new page.old page.new
+        (comma_before index ++ compact_text (object_json path.now (thing object.entry))) result }
 {
     match object {
-        Object::Data(value) => {
-            let told = value_of(alloc, value)?;
-            valued(alloc, kind_of(value), path, told)
+        Object::Data(value) => put_valued(alloc, page, sink, index, path, value),
+        Object::Device => {
+            without_memory(put_head(page, sink, index, b"{\"kind\":\"device\"", path, b"}"))
         }
-        Object::Device => plain(alloc, "device", path),
-        Object::Processor => plain(alloc, "processor", path),
-        Object::Method => plain(alloc, "method", path),
-        Object::Alias(target) => {
-            let target = path_string(alloc, target)?;
-            valued(alloc, "alias", path, Value::from(target))
+        Object::Processor => {
+            without_memory(put_head(page, sink, index, b"{\"kind\":\"processor\"", path, b"}"))
         }
+        Object::Method => {
+            without_memory(put_head(page, sink, index, b"{\"kind\":\"method\"", path, b"}"))
+        }
+        Object::Alias(target) => without_memory(put_alias(page, sink, index, path, target)),
     }
 }
 
-fn plain(alloc: Global, kind: &str, path: &[Seg]) -> Result<Value, Memory>
-    ensures { IfOk result (λ v. view v ≡ without_value kind.now path.now) }
+fn put_valued<K: Sink>(
+    alloc: Global,
+    page: &mut Page,
+    sink: &mut K,
+    index: usize,
+    path: &[Seg],
+    value: &Data,
+) -> Result<(), PrintFault>
+    ensures { PutsUnlessMemory K.Sink sink.old sink.new page.old page.new
+        (comma_before index ++ compact_text (with_value (told value.now).kind path.now (told value.now).value)) result }
 {
-    let path = place_string(alloc, path)?;
-    Ok(json!(in alloc; {"kind": kind, "path": path})?)
+    put_head(page, sink, index, kind_of(value), path, b",\"value\":")?;
+    put_told(alloc, page, sink, value)?;
+    page.put(sink, b"}")?;
+    Ok(())
 }
 
-fn valued(alloc: Global, kind: &str, path: &[Seg], value: Value) -> Result<Value, Memory>
-    ensures { IfOk result (λ v. view v ≡ with_value kind.now path.now (view value)) }
+fn put_alias<K: Sink>(
+    page: &mut Page,
+    sink: &mut K,
+    index: usize,
+    path: &[Seg],
+    target: &Path,
+) -> Result<(), Failed>
+    ensures { PutsText K.Sink sink.old sink.new page.old page.new
+        (comma_before index
+        ++ compact_text (with_value (codes "alias") path.now (string (path_text target.now)))) (is_ok result) }
 {
-    let path = place_string(alloc, path)?;
-    Ok(json!(in alloc; {"kind": kind, "path": path, "value": value})?)
+    put_head(
+        page,
+        sink,
+        index,
+        b"{\"kind\":\"alias\"",
+        path,
+        b",\"value\":",
+    )?;
+    put_json_path(page, sink, target)?;
+    page.put(sink, b"}")
 }
 
-/// The text of an object, without a space.
-pub fn object_text(alloc: Global, path: &[Seg], object: Object<'_>) -> Result<Vec<u8>, Memory>
-    ensures { IfOk result (λ text. text.items
-        ≡ compact_text (object_json path.now (thing object.entry))) }
+/// Puts the front of an object, its path, and what stands behind it.
+fn put_head<K: Sink>(
+    page: &mut Page,
+    sink: &mut K,
+    index: usize,
+    kind: &[u8],
+    path: &[Seg],
+    behind: &[u8],
+) -> Result<(), Failed>
+    ensures { PutsText K.Sink sink.old sink.new page.old page.new
+        (comma_before index ++ head_text kind.now path.now behind.now) (is_ok result) }
 {
-    let value = object_value(alloc, path, object)?;
-    Ok(value.to_vec(alloc)?)
+    put_front(page, sink, index, kind, b",\"path\":")?;
+    put_json_place(page, sink, path)?;
+    page.put(sink, behind)
 }

@@ -1,84 +1,83 @@
-ghost use Rattle.std.specs.Prelude.{◌≡◌, ◌∷◌, ◌++◌, IfOk, OnOk, string_bytes};
+ghost use Rattle.std.specs.Prelude.{◌≡◌, ◌∷◌, is_ok};
 ghost use Rattle.std.specs.List.{flat_map};
+ghost use Rattle.json.specs.Print.{escape};
+ghost use Rattle.serde_json.specs.Data.{string};
+ghost use Rattle.serde_json.specs.Written.{compact_text};
+ghost use Rattle.pw_text.specs.Puts.{PutsText};
 ghost use Rattle.pw_text.specs.Text.{path_prefix, path_text, place_text, segments_text};
 
 use aml_data::{Path, Seg};
-use pw_base::Memory;
-use std::alloc::Global;
+use pw_base::{Failed, Sink};
+use pw_text::Page;
 
-/// A segment and what stands before it.
-const SEGMENT: usize = 5;
-
-/// The text of a place, counted from the root.
-pub fn place_string(alloc: Global, segs: &[Seg]) -> Result<String, Memory>
-    ensures { IfOk result (λ text. string_bytes text ≡ place_text segs.now) }
+/// Puts a place, counted from the root, as a string of JSON. The only character of a path that JSON escapes is
+/// the backslash of the root.
+pub fn put_json_place<K: Sink>(page: &mut Page, sink: &mut K, segs: &[Seg]) -> Result<(), Failed>
+    ensures { PutsText K.Sink sink.old sink.new page.old page.new
+        (compact_text (string (place_text segs.now))) (is_ok result) }
 {
-    let mut text = String::with_capacity(alloc, segs.len().saturating_mul(SEGMENT))?;
-    text.push('\\')?;
-    push_segments(&mut text, segs)?;
-    Ok(text)
+    page.put(sink, b"\"\\\\")?;
+    put_segments(page, sink, segs)?;
+    page.put(sink, b"\"")
 }
 
-/// The text of a path as it is written.
-pub fn path_string(alloc: Global, path: &Path) -> Result<String, Memory>
-    ensures { IfOk result (λ text. string_bytes text ≡ path_text path.now) }
+/// Puts a path as it is written, as a string of JSON.
+pub fn put_json_path<K: Sink>(page: &mut Page, sink: &mut K, path: &Path) -> Result<(), Failed>
+    ensures { PutsText K.Sink sink.old sink.new page.old page.new
+        (compact_text (string (path_text path.now))) (is_ok result) }
 {
-    let mut text = String::new(alloc);
-    push_prefix(&mut text, path)?;
-    push_segments(&mut text, path.segs.as_slice())?;
-    Ok(text)
+    put_prefix(page, sink, path)?;
+    put_segments(page, sink, path.segs.as_slice())?;
+    page.put(sink, b"\"")
 }
 
-fn push_prefix(text: &mut String, path: &Path) -> Result<(), Memory>
-    ensures { OnOk result (string_bytes text.new ≡ string_bytes text.old ++ path_prefix path.now) }
+/// Puts the quote, and what stands before the segments.
+fn put_prefix<K: Sink>(page: &mut Page, sink: &mut K, path: &Path) -> Result<(), Failed>
+    ensures { PutsText K.Sink sink.old sink.new page.old page.new
+        (34 ∷ escape (path_prefix path.now)) (is_ok result) }
 {
     if path.root {
-        text.push('\\')?;
-        return Ok(());
+        return page.put(sink, b"\"\\\\");
     }
+    page.put(sink, b"\"")?;
     for _step in 0..path.ups {
-        text.push('^')?;
+        page.put(sink, b"^")?;
     }
     Ok(())
 }
 
-fn push_segments(text: &mut String, segs: &[Seg]) -> Result<(), Memory>
-    ensures { OnOk result (string_bytes text.new
-        ≡ string_bytes text.old ++ segments_text segs.now) }
+fn put_segments<K: Sink>(page: &mut Page, sink: &mut K, segs: &[Seg]) -> Result<(), Failed>
+    ensures { PutsText K.Sink sink.old sink.new page.old page.new
+        (escape (segments_text segs.now)) (is_ok result) }
 {
     match segs.split_first() {
         None => Ok(()),
         Some((first, rest)) => {
-            push_seg(text, *first)?;
-            push_behind_dots(text, rest)
+            put_seg(page, sink, *first)?;
+            put_behind_dots(page, sink, rest)
         }
     }
 }
 
-fn push_behind_dots(text: &mut String, segs: &[Seg]) -> Result<(), Memory>
-    ensures { OnOk result (string_bytes text.new
-        ≡ string_bytes text.old ++ flat_map (λ seg. 46 ∷ seg) segs.now) }
+fn put_behind_dots<K: Sink>(page: &mut Page, sink: &mut K, segs: &[Seg]) -> Result<(), Failed>
+    ensures { PutsText K.Sink sink.old sink.new page.old page.new
+        (flat_map (λ seg. 46 ∷ escape seg) segs.now) (is_ok result) }
 {
     for seg in segs {
-        push_behind_dot(text, *seg)?;
+        put_behind_dot(page, sink, *seg)?;
     }
     Ok(())
 }
 
-fn push_behind_dot(text: &mut String, seg: Seg) -> Result<(), Memory>
-    ensures { OnOk result (string_bytes text.new ≡ string_bytes text.old ++ 46 ∷ seg) }
+fn put_seg<K: Sink>(page: &mut Page, sink: &mut K, seg: Seg) -> Result<(), Failed>
+    ensures { PutsText K.Sink sink.old sink.new page.old page.new (escape seg) (is_ok result) }
 {
-    text.push('.')?;
-    push_seg(text, seg)
+    page.put(sink, &seg.bytes())
 }
 
-fn push_seg(text: &mut String, seg: Seg) -> Result<(), Memory>
-    ensures { OnOk result (string_bytes text.new ≡ string_bytes text.old ++ seg) }
+fn put_behind_dot<K: Sink>(page: &mut Page, sink: &mut K, seg: Seg) -> Result<(), Failed>
+    ensures { PutsText K.Sink sink.old sink.new page.old page.new (46 ∷ escape seg) (is_ok result) }
 {
     let [a, b, c, d] = seg.bytes();
-    text.push(char::from(a))?;
-    text.push(char::from(b))?;
-    text.push(char::from(c))?;
-    text.push(char::from(d))?;
-    Ok(())
+    page.put(sink, &[b'.', a, b, c, d])
 }

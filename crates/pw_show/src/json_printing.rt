@@ -1,24 +1,21 @@
-ghost use Rattle.std.specs.Prelude.{◌≡◌, ◌≤◌, ◌++◌, [], true, length, map, is_ok, codes};
+ghost use Rattle.std.specs.Prelude.{◌≡◌, ◌≤◌, ◌++◌, [], true, length, map};
 ghost use Rattle.std.specs.Prelude.{Err, OnOk};
 ghost use Rattle.std.specs.List.{All, join_with_byte};
 ghost use Rattle.pw_base.specs.Outside.{GrewByPart, KeepsSink, Rose};
 ghost use Rattle.pw_text.specs.declared.fault.PrintFault.TheVariants as faults;
-ghost use Rattle.pw_text.specs.Puts.{PutsText};
 ghost use Rattle.acpi_space.specs.Namespace.{Entry};
-ghost use Rattle.acpi_space.specs.Things.{thing};
-ghost use Rattle.serde_json.specs.Written.{compact_text};
-ghost use Rattle.pw_show.specs.Json.{entry_text, json_text, object_json};
-ghost use Rattle.pw_show.specs.inner.Putting.{PutsUnlessMemory, comma_before};
+ghost use Rattle.pw_show.specs.Json.{entry_text, json_text};
+ghost use Rattle.pw_show.specs.inner.Putting.{PutsUnlessMemory};
 
-use crate::json_objects::object_text;
-use acpi_space::{Object, Space};
+use crate::json_objects::put_json_object;
+use acpi_space::Space;
 use aml_data::Seg;
-use pw_base::{Failed, Room, Sink};
+use pw_base::{Room, Sink};
 use pw_text::{Page, PrintFault};
 use std::alloc::Global;
 
-/// Prints the objects of a space as one JSON text and a line feed. The value of one object is held at a
-/// time, so memory may run out in the midst of the text.
+/// Prints the objects of a space as one JSON text and a line feed, piece by piece. Memory is taken for a piece of a
+/// string at a time, so it may run out in the midst of the text.
 pub fn print_json<K: Sink>(alloc: Global, space: &Space<'_>, out: &mut K) -> Result<(), PrintFault>
     ensures keeps { KeepsSink K.told K.faults out.old out.new }
     ensures whole { OnOk result (K.told out.old ≡ true →
@@ -86,39 +83,7 @@ fn put_objects<K: Sink>(
 {
     for (index, placed) in space.placed().iter().enumerate() {
         space.fill_path(index, path);
-        put_object(alloc, page, sink, index, path.as_slice(), placed.object)?;
+        put_json_object(alloc, page, sink, index, path.as_slice(), placed.object)?;
     }
     Ok(())
-}
-
-/// Puts an object, behind a comma unless it is the first.
-fn put_object<K: Sink>(
-    alloc: Global,
-    page: &mut Page,
-    sink: &mut K,
-    index: usize,
-    path: &[Seg],
-    object: Object<'_>,
-) -> Result<(), PrintFault>
-    ensures { PutsUnlessMemory K.Sink sink.old sink.new page.old page.new
-        (comma_before index ++ compact_text (object_json path.now (thing object.entry))) result }
-{
-    let text = object_text(alloc, path, object)?;
-    put_text(page, sink, index, text.as_slice())?;
-    Ok(())
-}
-
-fn put_text<K: Sink>(page: &mut Page, sink: &mut K, index: usize, text: &[u8]) -> Result<(), Failed>
-    ensures { PutsText K.Sink sink.old sink.new page.old page.new
-        (comma_before index ++ text.now) (is_ok result) }
-{
-    page.put(sink, comma(index))?;
-    page.put(sink, text)
-}
-
-/// A comma, unless it stands before the first object.
-fn comma(index: usize) -> &'static [u8]
-    ensures { result.now ≡ comma_before index }
-{
-    if index == 0 { b"" } else { b"," }
 }

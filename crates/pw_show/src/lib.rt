@@ -2,6 +2,7 @@
 #![tactic(auto)]
 
 mod buffers;
+mod json_buffers;
 mod json_laws;
 mod json_objects;
 mod json_paths;
@@ -14,7 +15,6 @@ mod strings;
 mod values;
 
 pub use json_laws::{string_bytes_stand, text_is_an_array};
-pub use json_objects::object_value;
 pub use json_printing::print_json;
 pub use printing::print_space;
 pub use show::{put_line, put_space};

@@ -49,7 +49,7 @@ IsRefusalOf ShowAsJson blocks status line = IsGivenTwice (entries_in blocks) sta
 IsRefusalOf Rewrite blocks status line = ⊥
 IsRefusalOf Check blocks status line = IsNoPlanOf blocks status line
 
--- JSON is made an object at a time, while it is printed
+-- JSON takes memory while it is printed, for a piece of a string at a time
 abbrev pub is_in_pieces : Task → Bool
 is_in_pieces Show = false
 is_in_pieces ShowAsJson = true

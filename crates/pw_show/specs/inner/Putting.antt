@@ -18,3 +18,8 @@ pub record PutsUnlessMemory {A S : Type 0} (K : Sink S) (old new : S) (waited wa
 abbrev pub comma_before : ℕ → List ℕ
 comma_before zero = []
 comma_before (suc _) = 44 ∷ []
+
+-- What came of a call that takes memory too, where it took none: a failure is the sink's.
+pub record SinkAlone {A B E : Type 0} (plain : Result A E) (outcome : Result B PrintFault) : Type 0 where
+  pub same : is_ok outcome ≡ is_ok plain
+  pub fault : is_ok outcome ≡ false → outcome ≡ Err faults.Sink

@@ -1,4 +1,4 @@
-use Rattle.std.proofs.Common.{ℕ, codes, map, sym}
+use Rattle.std.proofs.Common.{codes, map, sym}
 use Rattle.std.specs.List.{flat_map}
 use Rattle.pw_text.proofs.Putting.{PutsText-as, PutsText-stop, PutsText-then}
 use Rattle.pw_show.specs.Values.{byte_digits, separated}

@@ -1,19 +1,10 @@
-use Rattle.std.proofs.Common.{◌≡◌, ◌++◌, [], ℕ, List, take, drop, refl, sym, ap, ◌∙◌, append_assoc}
+use Rattle.std.proofs.Common.{◌++◌, [], refl, sym}
 use Rattle.std.specs.List.{flat_map}
 use Rattle.std.proofs.lemmas.Grind.{flat_map-append}
-use Rattle.std.proofs.lemmas.List.{take-append-drop}
 use Rattle.pw_text.proofs.Putting.{PutsText-as, PutsText-none, PutsText-stop, PutsText-then}
 use Rattle.pw_show.specs.inner.Pieces.{spaced_byte}
+use Rattle.pw_show.proofs.Chains.{more_done, of_parts}
 use Rattle.pw_show.proofs.buffers.put_other_bytes.Goals as goal
-
--- what is put of bytes in two parts
-of_parts : (bytes done more : List ℕ) → bytes ≡ done ++ more → flat_map spaced_byte done ++ flat_map spaced_byte more ≡ flat_map spaced_byte bytes
-of_parts bytes done more e = sym (flat_map-append spaced_byte done more) ∙ ap (λ (l : List ℕ). flat_map spaced_byte l) (sym e)
-
--- one more piece is done
-more_done : (bytes done rest piece others : List ℕ) (n : ℕ) → bytes ≡ done ++ rest → piece ≡ take n rest → others ≡ drop n rest → bytes ≡ (done ++ piece) ++ others
-more_done bytes done rest piece others n e front back =
-    rw (front, back) (e ∙ ap (λ (l : List ℕ). done ++ l) (sym (take-append-drop n rest)) ∙ sym (append_assoc done (take n rest) (drop n rest)))
 
 pub loop-rest-init : goal.loop-rest-init
 loop-rest-init g c = ([], refl, PutsText-none c.args.sink.now c.args.page.now)
@@ -34,11 +25,11 @@ returns-in_err-put_piece g c =
     let piece = c.split_at.result.0.now in
     let others = c.split_at.result.1.now in
     let all = more_done bytes done c.loop-rest.rest.now piece others 512 c.loop-rest.invariant.1 c.split_at.ensures.front c.split_at.ensures.back in
-    PutsText-as (flat_map spaced_byte bytes) (of_parts bytes (done ++ piece) others all)
+    PutsText-as (flat_map spaced_byte bytes) (of_parts spaced_byte bytes (done ++ piece) others all)
     (PutsText-stop (flat_map spaced_byte others) c.from_residual.result c.from_residual.ensures.0
     (PutsText-as (flat_map spaced_byte (done ++ piece)) (sym (flat_map-append spaced_byte done piece)) (PutsText-then c.loop-rest.invariant.2 c.in_err-put_piece.ensures)))
 
 pub returns : goal.returns
 returns g c =
-    PutsText-as (flat_map spaced_byte c.args.bytes.now) (of_parts c.args.bytes.now c.loop-rest.invariant.0 c.loop-rest.rest.now c.loop-rest.invariant.1)
+    PutsText-as (flat_map spaced_byte c.args.bytes.now) (of_parts spaced_byte c.args.bytes.now c.loop-rest.invariant.0 c.loop-rest.rest.now c.loop-rest.invariant.1)
     (PutsText-then c.loop-rest.invariant.2 c.put_piece-2.ensures)

@@ -41,15 +41,15 @@ fill_path-requires-clause-room g c = λ d.
     let within : at < length c.args.space.now = omega (arith, objects.count) in
     rw c.loop-index.invariant.0 (c.requires at d within)
 
-pub returns-in_err-put_object : goal.returns-in_err-put_object
-returns-in_err-put_object g c =
+pub returns-in_err-put_json_object : goal.returns-in_err-put_json_object
+returns-in_err-put_json_object g c =
     let entries = c.args.space.now in
     let at = c.loop-index.index in
     let h = here entries c.placed-placed-items.result.now at c.as_slice.result.now c.placed-item.result
     c.placed-placed-items.ensures.objects (omega arith) c.placed-item.is
     (λ d. c.as_slice.ensures ∙ ap (λ (b : Bounded (List ℕ)). b.elements) (c.fill_path.ensures d)) in
     let fault = fault_is c.from_residual.result _ c.from_residual.ensures.1 in
-    let now = puts_as _ (ap (λ (l : List ℕ). comma_before at ++ l) h.text) (sym fault) c.in_err-put_object.ensures in
+    let now = puts_as _ (ap (λ (l : List ℕ). comma_before at ++ l) h.text) (sym fault) c.in_err-put_json_object.ensures in
     puts_as _ (joined-in_parts entry_text at entries h.entry h.within h.is) refl
     (puts_stop (flat_map (behind_comma entry_text) (drop (suc at) entries)) c.from_residual.ensures.0
     (puts_then c.loop-index.invariant.1 now))
@@ -61,7 +61,7 @@ loop-index-preserved g c =
     let h = here entries c.placed-placed-items.result.now at c.as_slice.result.now c.placed-item.result
     c.placed-placed-items.ensures.objects (omega arith) c.placed-item.is
     (λ d. c.as_slice.ensures ∙ ap (λ (b : Bounded (List ℕ)). b.elements) (c.fill_path.ensures d)) in
-    let now = PutsText-as _ (ap (λ (l : List ℕ). comma_before at ++ l) h.text) (c.in_ok-put_object.ensures.whole refl) in (
+    let now = PutsText-as _ (ap (λ (l : List ℕ). comma_before at ++ l) h.text) (c.in_ok-put_json_object.ensures.whole refl) in (
       ap (λ (b : Bounded (List ℕ)). b.capacity) (c.fill_path.ensures h.entry) ∙ c.loop-index.invariant.0,
       rw (add-one, joined-take-suc entry_text at entries h.entry h.within h.is) (PutsText-then c.loop-index.invariant.1 now),
     )

@@ -1,5 +1,5 @@
 use Rattle.std.proofs.Common.{◌<◌, length, refl, add-one, arith}
-use Rattle.pw_show.proofs.Characters.{encodes-take-suc}
+use Rattle.pw_show.proofs.Escapes.{encodes-take-suc}
 use Rattle.pw_show.proofs.json_strings.characters_of.Goals as goal
 
 pub loop-byte-preserved : goal.loop-byte-preserved

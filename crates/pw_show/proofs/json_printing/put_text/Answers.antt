@@ -1,9 +1,0 @@
-use Rattle.pw_text.proofs.Putting.{PutsText-stop, PutsText-then}
-use Rattle.pw_show.proofs.json_printing.put_text.Goals as goal
-
-pub returns-in_err-put : goal.returns-in_err-put
-returns-in_err-put g c =
-    PutsText-stop c.args.text.now c.from_residual.result c.from_residual.ensures.0 (rw c.comma.ensures at c.in_err-put.ensures)
-
-pub returns : goal.returns
-returns g c = PutsText-then (rw c.comma.ensures at c.in_ok-put.ensures) c.put-2.ensures
