@@ -20,7 +20,7 @@ from pathlib import Path
 TOP = Path(__file__).resolve().parent.parent
 SECONDS = "600"
 NO_ANSWER = 125
-TAKES_FILES = {"show", "check", "drive", "audit", "cppc", "rewrite"}
+TAKES_FILES = {"show", "check", "lint", "drive", "audit", "cppc", "rewrite"}
 ENDED = re.compile(rb"\nchecked: .*\nraces: .*\nrun=ended status=(\d+) [^\n]*\n\Z")
 
 

@@ -152,7 +152,7 @@ pub record KeepsAudit (step : Bool) (script history : List ℕ) (names : List (L
 
 -- # Blocks
 
--- What `show`, `show --json`, `rewrite` and `check` promise where they end with status 0, and files that tell.
+-- What `show`, `show --json`, `rewrite`, `check` and `lint` promise where they end with status 0, and files that tell.
 pub record KeepsTask (task : Task) (names : List (List ℕ)) (before after : Seen) : Type 0 where
   -- the files hold these blocks, and no others
   pub blocks : List Block

@@ -41,7 +41,7 @@ pub fn audits_keep_their_promise()
         → Ran words s before after 0 → KeepsAudit step script history names before after }
 {}
 
-/// So it is of `show`, `rewrite` and `check`: the one text of the only blocks that the files' bytes spell.
+/// So it is of `show`, `rewrite`, `check` and `lint`: the one text of the only blocks that the files' bytes spell.
 pub fn tasks_keep_their_promise()
     ensures { (words : List (List ℕ)) (t : task) (names : List (List ℕ)) (s : Option sealed) (before after : Seen)
         → AskFor words (on_blocks t names) → before.files.told ≡ true → Ran words s before after 0

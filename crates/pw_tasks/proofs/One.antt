@@ -12,15 +12,20 @@ use Rattle.pw_plan.specs.declared.plan.Plan.{Plan}
 use Rattle.acpi_build.proofs.Planned.{same_plan}
 use Rattle.pw_check.specs.CheckText.{check_text}
 use Rattle.pw_check.specs.Refusals.{refusal_line}
+use Rattle.pw_lint.specs.declared.finding.Finding.{Finding}
+use Rattle.pw_lint.specs.Findings.{fault_findings}
+use Rattle.pw_lint.specs.Machine.{AreFindings}
+use Rattle.pw_lint.specs.Machine.AreFindings.{of_plan, of_fault}
+use Rattle.pw_lint.specs.Words.{findings_text}
 use Rattle.aml_block.specs.Held.{name_at}
 use Rattle.aml_block.proofs.OneReading.{same_blocks, same_first_fault, blocks_not_fault}
 use Rattle.pw_words.specs.declared.command.Task.{Task}
-use Rattle.pw_words.specs.declared.command.Task.TheVariants.{Show, ShowAsJson, Rewrite, Check}
+use Rattle.pw_words.specs.declared.command.Task.TheVariants.{Show, ShowAsJson, Rewrite, Check, Lint}
 use Rattle.pw_load.specs.Seen.{NoneFailed}
 use Rattle.pw_load.proofs.Completeness.{IsOne}
 use Rattle.pw_load.specs.Lines.{blocks_line, twice_line}
 use Rattle.pw_load.specs.Steps.{IsGivenTwice, IsOneUnread, IsUnplanned}
-use Rattle.pw_tasks.specs.Tasks.{IsCheckText, IsTextOf, IsRefusalOf, IsTextOn, IsRefusalOn, work_on}
+use Rattle.pw_tasks.specs.Tasks.{IsCheckText, IsLintText, IsTextOf, IsRefusalOf, IsTextOn, IsRefusalOn, work_on}
 use Rattle.pw_tasks.specs.Tasks.IsRefusalOn.{unspelled, unusable}
 use Rattle.pw_load.proofs.Repeats.{one_first_repeat}
 use Rattle.pw_base.proofs.Facts.{same_err}
@@ -45,6 +50,19 @@ one_check_text entries a b p q =
     let same = same_plan entries p.plan q.plan p.notes q.notes p.made q.made in
     p.says ∙ same_text p.plan q.plan p.notes q.notes same.0 same.1 ∙ sym q.says
 
+-- findings are one list
+one_list : (entries : List Entry) (a b : List Finding) → AreFindings entries a → AreFindings entries b → a ≡ b
+one_list entries a b (of_plan P first p) (of_plan Q second q) =
+    let same = same_plan entries P Q first second p q in
+    let kept = same.0 in
+    rw (kept.containers, kept.cpus, kept.domains, same.1) refl
+one_list entries a b (of_plan P notes p) (of_fault fault q) = let parts = p.parts in absurd (cc)
+one_list entries a b (of_fault fault p) (of_plan Q notes q) = let parts = q.parts in absurd (cc)
+one_list entries a b (of_fault first p) (of_fault second q) = let same : first ≡ second = cc in ap fault_findings same
+
+one_lint_text : (entries : List Entry) (a b : List ℕ) → IsLintText entries a → IsLintText entries b → a ≡ b
+one_lint_text entries a b p q = p.says ∙ ap findings_text (one_list entries p.found q.found p.made q.made) ∙ sym q.says
+
 -- # Blocks
 
 pub one_text_of : (task : Task) (blocks : List Block) (a b : List ℕ) → IsTextOf task blocks a → IsTextOf task blocks b → a ≡ b
@@ -52,6 +70,7 @@ one_text_of Show blocks a b p q = p.1 ∙ sym q.1
 one_text_of ShowAsJson blocks a b p q = p.1 ∙ sym q.1
 one_text_of Rewrite blocks a b p q = p ∙ sym q
 one_text_of Check blocks a b p q = one_check_text (entries_in blocks) a b p.1 q.1
+one_text_of Lint blocks a b p q = one_lint_text (entries_in blocks) a b p.1 q.1
 
 one_refusal_of : (task : Task) (blocks : List Block) (s t : ℕ) (a b : List ℕ) → IsRefusalOf task blocks s a → IsRefusalOf task blocks t b → (s ≡ t) × (a ≡ b)
 one_refusal_of Show blocks s t a b p q = one_twice (entries_in blocks) s t a b p q
@@ -61,6 +80,7 @@ one_refusal_of Check blocks s t a b (inl p) (inl q) = one_twice (entries_in bloc
 one_refusal_of Check blocks s t a b (inl p) (inr q) = absurd (twice_not_distinct blocks s a q.0 p)
 one_refusal_of Check blocks s t a b (inr p) (inl q) = absurd (twice_not_distinct blocks t b p.0 q)
 one_refusal_of Check blocks s t a b (inr p) (inr q) = one_unplanned (entries_in blocks) s t a b p.1 q.1
+one_refusal_of Lint blocks s t a b p q = one_twice (entries_in blocks) s t a b p q
 
 apart_of : (task : Task) (blocks : List Block) (status : ℕ) (text line : List ℕ) → IsTextOf task blocks text → IsRefusalOf task blocks status line → ⊥
 apart_of Show blocks status text line made twice = twice_not_distinct blocks status line made.0 twice
@@ -68,6 +88,7 @@ apart_of ShowAsJson blocks status text line made twice = twice_not_distinct bloc
 apart_of Rewrite blocks status text line made refusal = refusal
 apart_of Check blocks status text line made (inl twice) = twice_not_distinct blocks status line made.0 twice
 apart_of Check blocks status text line made (inr unplanned) = plan_not_fault (entries_in blocks) status text line made.1 unplanned.1
+apart_of Lint blocks status text line made twice = twice_not_distinct blocks status line made.0 twice
 
 -- # Files that tell
 
@@ -117,6 +138,7 @@ refusal_of_is_1 ShowAsJson blocks status line twice = twice.is
 refusal_of_is_1 Rewrite blocks status line never = absurd never
 refusal_of_is_1 Check blocks status line (inl twice) = twice.is
 refusal_of_is_1 Check blocks status line (inr unplanned) = unplanned.1.is
+refusal_of_is_1 Lint blocks status line twice = twice.is
 
 pub refusal_is_1 : (task : Task) (names : List (List ℕ)) (files : FilesSeen) (status : ℕ) (line : List ℕ) → IsRefusalOn task names files status line → status ≡ 1
 refusal_is_1 task names files status line (unspelled p) = p.is

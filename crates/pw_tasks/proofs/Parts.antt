@@ -8,10 +8,10 @@ use Rattle.acpi_space.specs.Namespace.{Entry, entries_in, places_of}
 use Rattle.pw_show.specs.Show.{show_text}
 use Rattle.pw_show.specs.Json.{json_text}
 use Rattle.pw_words.specs.declared.command.Task.{Task}
-use Rattle.pw_words.specs.declared.command.Task.TheVariants.{Show, ShowAsJson, Check}
+use Rattle.pw_words.specs.declared.command.Task.TheVariants.{Show, ShowAsJson, Check, Lint}
 use Rattle.pw_load.proofs.Outcomes.{IsWithin}
 use Rattle.pw_load.specs.Steps.{AreHeldBy, IsGivenTwice, loading, placing, planning}
-use Rattle.pw_tasks.specs.Tasks.{IsRefusalOf, IsTextOf, checking, work_on, work_over}
+use Rattle.pw_tasks.specs.Tasks.{IsRefusalOf, IsTextOf, checking, linting, work_on, work_over}
 use Rattle.pw_tasks.specs.Tasks.IsRefusalOn.{unspelled, unusable}
 
 -- to load blocks is part of each task
@@ -54,6 +54,19 @@ checking_blocks blocks distinct = record {
 pub checking_within : (entries : List Entry) (blocks : List Block) → entries ≡ entries_in blocks → IsDistinct (places_of entries)
     → IsWithin (checking entries) (work_over Check blocks)
 checking_within entries blocks are distinct = rw are (checking_blocks blocks (rw are at distinct))
+
+-- to lint objects is to lint the blocks that place them
+linting_blocks : (blocks : List Block) → IsDistinct (places_of (entries_in blocks)) → IsWithin (linting (entries_in blocks)) (work_over Lint blocks)
+linting_blocks blocks distinct = record {
+  texts = λ text made. (distinct, made);
+  refusals = λ status line never. absurd never;
+  read_faults = λ never. absurd never;
+  pieces = λ e. absurd (false≢true e);
+}
+
+pub linting_within : (entries : List Entry) (blocks : List Block) → entries ≡ entries_in blocks → IsDistinct (places_of entries)
+    → IsWithin (linting entries) (work_over Lint blocks)
+linting_within entries blocks are distinct = rw are (linting_blocks blocks (rw are at distinct))
 
 -- to do it over blocks that the files hold is to do it on the files
 pub over_within : (task : Task) (names : List (List ℕ)) (before after : FilesSeen) (blocks : List Block) → AreHeldBy before names blocks

@@ -12,8 +12,11 @@ use Rattle.pw_plan.specs.declared.plan.Plan.{Plan}
 use Rattle.pw_show.specs.Show.{show_text}
 use Rattle.pw_show.specs.Json.{json_text}
 use Rattle.pw_check.specs.CheckText.{check_text}
+use Rattle.pw_lint.specs.declared.finding.Finding.{Finding}
+use Rattle.pw_lint.specs.Machine.{AreFindings}
+use Rattle.pw_lint.specs.Words.{findings_text}
 use Rattle.pw_words.specs.declared.command.Task.{Task}
-use Rattle.pw_words.specs.declared.command.Task.TheVariants.{Show, ShowAsJson, Rewrite, Check}
+use Rattle.pw_words.specs.declared.command.Task.TheVariants.{Show, ShowAsJson, Rewrite, Check, Lint}
 use Rattle.pw_load.specs.Ends.{Work}
 use Rattle.pw_load.specs.Steps.{AreHeldBy, IsGivenTwice, IsNoPlanOf, IsOneUnread, IsUnplanned, IsUnspelled}
 
@@ -30,24 +33,36 @@ pub record IsCheckText (entries : List Entry) (text : List ℕ) : Type 0 where
 abbrev pub checking : List Entry → Work
 checking entries = record { text = IsCheckText entries; refusal = IsUnplanned entries; read_fault = ⊥; in_pieces = false }
 
+-- The text of what is found of objects.
+pub record IsLintText (entries : List Entry) (text : List ℕ) : Type 0 where
+  pub found : List Finding
+  pub made : AreFindings entries found
+  pub says : text ≡ findings_text found
+
+-- to lint objects
+abbrev pub linting : List Entry → Work
+linting entries = record { text = IsLintText entries; refusal = λ status line. ⊥; read_fault = ⊥; in_pieces = false }
+
 -- # Over blocks
 
 -- This is the text that the task makes of blocks: to show them, the lines of the objects that they place, or the JSON of
 -- these, if they place none where one was placed before; to rewrite them, their shortest spellings one after the other; to
--- check them, the plan of their objects.
+-- check them, the plan of their objects; to lint them, what is found of these.
 abbrev pub IsTextOf : Task → List Block → List ℕ → Type 0
 IsTextOf Show blocks text = IsDistinct (places_of (entries_in blocks)) × (text ≡ show_text (entries_in blocks))
 IsTextOf ShowAsJson blocks text = IsDistinct (places_of (entries_in blocks)) × (text ≡ json_text (entries_in blocks))
 IsTextOf Rewrite blocks text = text ≡ flat_map written_block blocks
 IsTextOf Check blocks text = IsDistinct (places_of (entries_in blocks)) × IsCheckText (entries_in blocks) text
+IsTextOf Lint blocks text = IsDistinct (places_of (entries_in blocks)) × IsLintText (entries_in blocks) text
 
--- The task refuses blocks that are spelled: to show them, where a place is given twice; to rewrite them, never; to check
--- them, where a place is given twice, or else where the objects make no plan.
+-- The task refuses blocks that are spelled: to show or lint them, where a place is given twice; to rewrite them, never; to
+-- check them, where a place is given twice, or else where the objects make no plan.
 abbrev pub IsRefusalOf : Task → List Block → ℕ → List ℕ → Type 0
 IsRefusalOf Show blocks status line = IsGivenTwice (entries_in blocks) status line
 IsRefusalOf ShowAsJson blocks status line = IsGivenTwice (entries_in blocks) status line
 IsRefusalOf Rewrite blocks status line = ⊥
 IsRefusalOf Check blocks status line = IsNoPlanOf blocks status line
+IsRefusalOf Lint blocks status line = IsGivenTwice (entries_in blocks) status line
 
 -- JSON takes memory while it is printed, for a piece of a string at a time
 abbrev pub is_in_pieces : Task → Bool
@@ -55,6 +70,7 @@ is_in_pieces Show = false
 is_in_pieces ShowAsJson = true
 is_in_pieces Rewrite = false
 is_in_pieces Check = false
+is_in_pieces Lint = false
 
 abbrev pub work_over : Task → List Block → Work
 work_over task blocks =

@@ -1,8 +1,9 @@
-//! What is done over the blocks of files: `show`, `rewrite` and `check`.
+//! What is done over the blocks of files: `show`, `rewrite`, `check` and `lint`.
 #![tactic(auto)]
 
 mod check;
 mod json;
+mod lint;
 mod rewrite;
 mod show;
 mod tasks;

@@ -9,6 +9,7 @@ ghost use Rattle.pw_tasks.specs.Tasks.{work_on, work_over};
 
 use crate::check::check;
 use crate::json::show_as_json;
+use crate::lint::lint;
 use crate::rewrite::rewrite;
 use crate::show::show;
 use aml_block::Block;
@@ -40,6 +41,7 @@ fn do_over<K: Sink>(
         Task::ShowAsJson => show_as_json(alloc, blocks, page, out, err),
         Task::Rewrite => rewrite(alloc, blocks, out, err),
         Task::Check => check(alloc, blocks, page, out, err),
+        Task::Lint => lint(alloc, blocks, page, out, err),
     }
 }
 

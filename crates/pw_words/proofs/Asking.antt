@@ -8,7 +8,7 @@ use Rattle.clap.specs.Walk.{Row, Text, all_of}
 use Rattle.clap.specs.Simple.{subcommand_of}
 use Rattle.pw_words.specs.declared.command.Command.{Command}
 use Rattle.pw_words.specs.declared.command.Task.{Task}
-use Rattle.pw_words.specs.declared.command.Task.TheVariants.{Show, ShowAsJson, Rewrite, Check}
+use Rattle.pw_words.specs.declared.command.Task.TheVariants.{Show, ShowAsJson, Rewrite, Check, Lint}
 use Rattle.pw_words.specs.declared.command.Way.{Way}
 use Rattle.pw_words.specs.declared.command.WordsFault.{WordsFault}
 use Rattle.pw_words.specs.declared.command.WordsFault.TheVariants.{Refused}
@@ -33,13 +33,15 @@ use Rattle.pw_words.proofs.Subcommands.{met}
 -- the task that is asked for by a subcommand, with its flag or without
 abbrev task_by : Text → Bool → Task
 task_by name json = if bytes_eq name (codes "rewrite") then Rewrite
-    else (if bytes_eq name (codes "check") then Check else (if json then ShowAsJson else Show))
+    else (if bytes_eq name (codes "check") then Check
+    else (if bytes_eq name (codes "lint") then Lint else (if json then ShowAsJson else Show)))
 
 is_task : (task : Task) (rows : List Row) → SayTask rows task → task_by (task_name task) (is_used (codes "json") rows) ≡ task
 is_task Show rows said = ap (task_by (codes "show")) said
 is_task ShowAsJson rows said = ap (task_by (codes "show")) said
 is_task Rewrite rows said = refl
 is_task Check rows said = refl
+is_task Lint rows said = refl
 
 -- the way that is told by the flags
 abbrev way_by : List Row → Way

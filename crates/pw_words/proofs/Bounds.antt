@@ -28,7 +28,7 @@ use Rattle.pw_words.proofs.Kept.{Keeps, KeepsFilled, level_keeps, none_of_both, 
 use Rattle.pw_words.proofs.Walked.{blocks_at, word_at}
 use Rattle.pw_words.proofs.Levels.{blocks_leaf, show_leaf, task_leaf}
 use Rattle.pw_words.specs.declared.command.Task.{Task}
-use Rattle.pw_words.specs.declared.command.Task.TheVariants.{Show, ShowAsJson, Rewrite, Check}
+use Rattle.pw_words.specs.declared.command.Task.TheVariants.{Show, ShowAsJson, Rewrite, Check, Lint}
 
 -- ---- a row that joins
 
@@ -283,6 +283,7 @@ task_bound Show words free = show_bound words free
 task_bound ShowAsJson words free = show_bound words free
 task_bound Rewrite words free = blocks_bound (codes "rewrite") words free
 task_bound Check words free = blocks_bound (codes "check") words free
+task_bound Lint words free = blocks_bound (codes "lint") words free
 
 -- an entry that is there has its values
 pub stated_values : (id : Text) (P : List Text → Type 0) (rows : List Row) → is_given id rows ≡ true → Has id P rows

@@ -12,7 +12,7 @@ use Rattle.clap.specs.declared.error.kind.ErrorKind.TheVariants as kind
 use Rattle.clap.specs.declared.parser.matches.ValueSource.TheVariants.{CommandLine}
 use Rattle.clap.proofs.OnLiterals.{clap_on_literals}
 use Rattle.pw_words.specs.declared.command.Task.{Task}
-use Rattle.pw_words.specs.declared.command.Task.TheVariants.{Show, ShowAsJson, Rewrite, Check}
+use Rattle.pw_words.specs.declared.command.Task.TheVariants.{Show, ShowAsJson, Rewrite, Check, Lint}
 use Rattle.pw_words.specs.App.{blocks_app, show_app}
 use Rattle.pw_words.specs.Words.{SayTask, are_bare, task_flags, task_name}
 use Rattle.pw_words.proofs.Kept.{level_end}
@@ -44,12 +44,14 @@ task_leaf Show = show_leaf
 task_leaf ShowAsJson = show_leaf
 task_leaf Rewrite = blocks_leaf (codes "rewrite")
 task_leaf Check = blocks_leaf (codes "check")
+task_leaf Lint = blocks_leaf (codes "lint")
 
 pub leaf_name : (task : Task) → (task_leaf task).name ≡ task_name task
 leaf_name Show = refl
 leaf_name ShowAsJson = refl
 leaf_name Rewrite = refl
 leaf_name Check = refl
+leaf_name Lint = refl
 
 -- ---- files, from where the walk stands after the flags
 
@@ -108,6 +110,7 @@ files_here Show = refl
 files_here ShowAsJson = refl
 files_here Rewrite = refl
 files_here Check = refl
+files_here Lint = refl
 
 flags_walked : (task : Task) (files : List Text) → walk (task_leaf task).rules [] nothing_held (task_flags task ++ files)
     ≡ fold (walked (task_leaf task).rules []) (idle_at 1 (held (flag_rows task) None)) files
@@ -116,6 +119,7 @@ flags_walked Show files = refl
 flags_walked ShowAsJson files = refl
 flags_walked Rewrite files = refl
 flags_walked Check files = refl
+flags_walked Lint files = refl
 
 flags_fault : (task : Task) (files : List Text) → walk_fault (task_leaf task) [] (walk_from nothing_held) (task_flags task ++ files)
     ≡ walk_fault (task_leaf task) [] (idle_at 1 (held (flag_rows task) None)) files
@@ -124,6 +128,7 @@ flags_fault Show files = refl
 flags_fault ShowAsJson files = refl
 flags_fault Rewrite files = refl
 flags_fault Check files = refl
+flags_fault Lint files = refl
 
 files_end : (task : Task) (f : Text) (fs : List Text) → level_end (task_leaf task) (files_held (flag_rows task) (f ∷ fs))
     ≡ or_else (or_else (range_kinds 1 64 (length (f ∷ fs))) (values_kinds false vp.String (f ∷ fs))) []
@@ -132,6 +137,7 @@ files_end Show f fs = refl
 files_end ShowAsJson f fs = refl
 files_end Rewrite f fs = refl
 files_end Check f fs = refl
+files_end Lint f fs = refl
 
 no_files : (task : Task) → level_fault (task_leaf task) [] nothing_held (task_flags task ++ []) false [] ≡ files_kinds []
 unfolding clap_on_literals
@@ -139,6 +145,7 @@ no_files Show = refl
 no_files ShowAsJson = refl
 no_files Rewrite = refl
 no_files Check = refl
+no_files Lint = refl
 
 files_walk : (task : Task) (f : Text) (fs : List Text) → are_bare (f ∷ fs) ≡ true
     → walk (task_leaf task).rules [] nothing_held (task_flags task ++ f ∷ fs) ≡ among_files 1 (flag_rows task) (f ∷ fs)
@@ -170,6 +177,7 @@ files_said Show f fs = (refl, refl)
 files_said ShowAsJson f fs = (refl, refl)
 files_said Rewrite f fs = (tt, refl)
 files_said Check f fs = (tt, refl)
+files_said Lint f fs = (tt, refl)
 
 pub task_said : (task : Task) (f : Text) (fs : List Text) → are_bare (f ∷ fs) ≡ true
     → Tell task (f ∷ fs) (task_rows task (f ∷ fs))

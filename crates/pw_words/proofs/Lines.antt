@@ -19,7 +19,7 @@ use Rattle.clap.proofs.WalkLemmas.{both, walk_stopped}
 use Rattle.clap.proofs.SimpleLemmas.{is_false}
 use Rattle.clap.proofs.FaultLemmas.{stopped_fault}
 use Rattle.pw_words.specs.declared.command.Task.{Task}
-use Rattle.pw_words.specs.declared.command.Task.TheVariants.{Show, ShowAsJson, Rewrite, Check}
+use Rattle.pw_words.specs.declared.command.Task.TheVariants.{Show, ShowAsJson, Rewrite, Check, Lint}
 use Rattle.pw_words.specs.declared.command.Way.{Way}
 use Rattle.pw_words.specs.App.{line_app}
 use Rattle.pw_words.specs.Stated.{IsTaken}
@@ -79,6 +79,7 @@ fault_at Show rest = named_fault (codes "show") rest refl refl refl
 fault_at ShowAsJson rest = named_fault (codes "show") rest refl refl refl
 fault_at Rewrite rest = named_fault (codes "rewrite") rest refl refl refl
 fault_at Check rest = named_fault (codes "check") rest refl refl refl
+fault_at Lint rest = named_fault (codes "lint") rest refl refl refl
 
 rows_at : (task : Task) (rest : List Text)
     → subcommand_of line_app (task_name task ∷ rest) ≡ Some (task_name task, rows_after (task_leaf task).rules [] rest)
@@ -87,6 +88,7 @@ rows_at Show rest = named_rows (codes "show") rest refl
 rows_at ShowAsJson rest = named_rows (codes "show") rest refl
 rows_at Rewrite rest = named_rows (codes "rewrite") rest refl
 rows_at Check rest = named_rows (codes "check") rest refl
+rows_at Lint rest = named_rows (codes "lint") rest refl
 
 -- and of those of `drive`
 drive_fault_at : (rest : List Text) → fault_of line_app (codes "drive" ∷ rest) ≡ level_fault drive_leaf [] nothing_held rest false []
@@ -132,11 +134,11 @@ generate_rows_at rest = named_rows (codes "generate") rest refl
 -- a first word that names no subcommand
 abbrev IsOther : Text → Type 0
 IsOther word = (bytes_eq (codes "show") word ≡ false) × (bytes_eq (codes "rewrite") word ≡ false)
-    × (bytes_eq (codes "check") word ≡ false) × (bytes_eq (codes "drive") word ≡ false) × (bytes_eq (codes "audit") word ≡ false)
-    × (bytes_eq (codes "cppc") word ≡ false) × (bytes_eq (codes "generate") word ≡ false)
+    × (bytes_eq (codes "check") word ≡ false) × (bytes_eq (codes "lint") word ≡ false) × (bytes_eq (codes "drive") word ≡ false)
+    × (bytes_eq (codes "audit") word ≡ false) × (bytes_eq (codes "cppc") word ≡ false) × (bytes_eq (codes "generate") word ≡ false)
 
 none_met : (word : Text) → IsOther word → subcommand_met names idle word ≡ None
-none_met word other = rw (other.0, other.1, other.2, other.3, other.4, other.5, other.6) refl
+none_met word other = rw (other.0, other.1, other.2, other.3, other.4, other.5, other.6, other.7) refl
 
 other_refused : (word : Text) (rest : List Text) → is_dashed word ≡ false → IsOther word → fault_of line_app (word ∷ rest) ≡ [] → ⊥
 unfolding walk_fault
@@ -305,23 +307,25 @@ same_text a b e = (bytes_eq-Decides a b).0 e
 -- what a word names
 named : (flags : List Text) (word : Text) → Named flags word
 named flags word =
-    go (bytes_eq (codes "show") word) (bytes_eq (codes "rewrite") word) (bytes_eq (codes "check") word) (bytes_eq (codes "drive") word)
-    (bytes_eq (codes "audit") word) (bytes_eq (codes "cppc") word) (bytes_eq (codes "generate") word) refl refl refl refl refl refl refl
+    go (bytes_eq (codes "show") word) (bytes_eq (codes "rewrite") word) (bytes_eq (codes "check") word) (bytes_eq (codes "lint") word)
+    (bytes_eq (codes "drive") word) (bytes_eq (codes "audit") word) (bytes_eq (codes "cppc") word) (bytes_eq (codes "generate") word)
+    refl refl refl refl refl refl refl refl
   where
     at : (name : Text) → bytes_eq name word ≡ true → Named flags name → Named flags word
     at name e = subst (Named flags) (same_text name word e)
 
-    go : (a b c d e f g : Bool) → bytes_eq (codes "show") word ≡ a → bytes_eq (codes "rewrite") word ≡ b → bytes_eq (codes "check") word ≡ c
-        → bytes_eq (codes "drive") word ≡ d → bytes_eq (codes "audit") word ≡ e → bytes_eq (codes "cppc") word ≡ f
-        → bytes_eq (codes "generate") word ≡ g → Named flags word
-    go true b c d e f g p q r s t u v = at (codes "show") p (inl (show_flags flags))
-    go false true c d e f g p q r s t u v = at (codes "rewrite") q (inl (Rewrite, refl, refl))
-    go false false true d e f g p q r s t u v = at (codes "check") r (inl (Check, refl, refl))
-    go false false false true e f g p q r s t u v = at (codes "drive") s (inr (inl (drive_flags flags)))
-    go false false false false true f g p q r s t u v = at (codes "audit") t (inr (inr (inl (audit_flags flags))))
-    go false false false false false true g p q r s t u v = at (codes "cppc") u (inr (inr (inr (inl (cppc_flags flags)))))
-    go false false false false false false true p q r s t u v = at (codes "generate") v (inr (inr (inr (inr (inl (refl, refl))))))
-    go false false false false false false false p q r s t u v = inr (inr (inr (inr (inr (p, q, r, s, t, u, v)))))
+    go : (a b c d e f g h : Bool) → bytes_eq (codes "show") word ≡ a → bytes_eq (codes "rewrite") word ≡ b → bytes_eq (codes "check") word ≡ c
+        → bytes_eq (codes "lint") word ≡ d → bytes_eq (codes "drive") word ≡ e → bytes_eq (codes "audit") word ≡ f
+        → bytes_eq (codes "cppc") word ≡ g → bytes_eq (codes "generate") word ≡ h → Named flags word
+    go true b c d e f g h p q r s t u v w = at (codes "show") p (inl (show_flags flags))
+    go false true c d e f g h p q r s t u v w = at (codes "rewrite") q (inl (Rewrite, refl, refl))
+    go false false true d e f g h p q r s t u v w = at (codes "check") r (inl (Check, refl, refl))
+    go false false false true e f g h p q r s t u v w = at (codes "lint") s (inl (Lint, refl, refl))
+    go false false false false true f g h p q r s t u v w = at (codes "drive") t (inr (inl (drive_flags flags)))
+    go false false false false false true g h p q r s t u v w = at (codes "audit") u (inr (inr (inl (audit_flags flags))))
+    go false false false false false false true h p q r s t u v w = at (codes "cppc") v (inr (inr (inr (inl (cppc_flags flags)))))
+    go false false false false false false false true p q r s t u v w = at (codes "generate") w (inr (inr (inr (inr (inl (refl, refl))))))
+    go false false false false false false false false p q r s t u v w = inr (inr (inr (inr (inr (p, q, r, s, t, u, v, w)))))
 
 pub bare_filtered : (words : List Text) → are_bare (filter is_bare words) ≡ true
 bare_filtered [] = refl

@@ -8,7 +8,7 @@ use Rattle.clap.specs.Takes.{is_given}
 use Rattle.clap.specs.Faults.{check_fault, level_fault}
 use Rattle.clap.specs.declared.error.kind.ErrorKind.TheVariants as kind
 use Rattle.pw_words.specs.declared.command.Task.{Task}
-use Rattle.pw_words.specs.declared.command.Task.TheVariants.{Show, ShowAsJson, Rewrite, Check}
+use Rattle.pw_words.specs.declared.command.Task.TheVariants.{Show, ShowAsJson, Rewrite, Check, Lint}
 use Rattle.pw_words.specs.declared.command.Way.{Way}
 use Rattle.pw_words.specs.Stated.{Enters, IsTaken, is_used}
 use Rattle.pw_words.specs.Words.{AreMiscounted, AreStated, Asked, IsCount, Say, SayTask, command_name, task_name}
@@ -45,6 +45,7 @@ files_required Show rows e = one_required (is_given (codes "blocks") rows) e
 files_required ShowAsJson rows e = one_required (is_given (codes "blocks") rows) e
 files_required Rewrite rows e = one_required (is_given (codes "blocks") rows) e
 files_required Check rows e = one_required (is_given (codes "blocks") rows) e
+files_required Lint rows e = one_required (is_given (codes "blocks") rows) e
 
 -- 1 to 64 files
 abbrev pub Files : List Row → Type 0
@@ -159,7 +160,8 @@ known_task : (task : Task) → IsOnBlocks (task_name task)
 known_task Show = inl refl
 known_task ShowAsJson = inl refl
 known_task Rewrite = inr (inl refl)
-known_task Check = inr (inr refl)
+known_task Check = inr (inr (inl refl))
+known_task Lint = inr (inr (inr refl))
 
 -- no task is asked for by `drive`
 pub not_drive : (task : Task) → task_name task ≡ codes "drive" → ⊥
@@ -167,6 +169,7 @@ not_drive Show e = true≢false (sym (ap (λ n. bytes_eq n (codes "drive")) e))
 not_drive ShowAsJson e = true≢false (sym (ap (λ n. bytes_eq n (codes "drive")) e))
 not_drive Rewrite e = true≢false (sym (ap (λ n. bytes_eq n (codes "drive")) e))
 not_drive Check e = true≢false (sym (ap (λ n. bytes_eq n (codes "drive")) e))
+not_drive Lint e = true≢false (sym (ap (λ n. bytes_eq n (codes "drive")) e))
 
 -- nor by `audit`
 pub not_audit : (task : Task) → task_name task ≡ codes "audit" → ⊥
@@ -174,6 +177,7 @@ not_audit Show e = true≢false (sym (ap (λ n. bytes_eq n (codes "audit")) e))
 not_audit ShowAsJson e = true≢false (sym (ap (λ n. bytes_eq n (codes "audit")) e))
 not_audit Rewrite e = true≢false (sym (ap (λ n. bytes_eq n (codes "audit")) e))
 not_audit Check e = true≢false (sym (ap (λ n. bytes_eq n (codes "audit")) e))
+not_audit Lint e = true≢false (sym (ap (λ n. bytes_eq n (codes "audit")) e))
 
 -- nor by `cppc`
 pub not_cppc : (task : Task) → task_name task ≡ codes "cppc" → ⊥
@@ -181,6 +185,7 @@ not_cppc Show e = true≢false (sym (ap (λ n. bytes_eq n (codes "cppc")) e))
 not_cppc ShowAsJson e = true≢false (sym (ap (λ n. bytes_eq n (codes "cppc")) e))
 not_cppc Rewrite e = true≢false (sym (ap (λ n. bytes_eq n (codes "cppc")) e))
 not_cppc Check e = true≢false (sym (ap (λ n. bytes_eq n (codes "cppc")) e))
+not_cppc Lint e = true≢false (sym (ap (λ n. bytes_eq n (codes "cppc")) e))
 
 -- nor by `generate`
 pub not_generate : (task : Task) → task_name task ≡ codes "generate" → ⊥
@@ -188,6 +193,7 @@ not_generate Show e = true≢false (sym (ap (λ n. bytes_eq n (codes "generate")
 not_generate ShowAsJson e = true≢false (sym (ap (λ n. bytes_eq n (codes "generate")) e))
 not_generate Rewrite e = true≢false (sym (ap (λ n. bytes_eq n (codes "generate")) e))
 not_generate Check e = true≢false (sym (ap (λ n. bytes_eq n (codes "generate")) e))
+not_generate Lint e = true≢false (sym (ap (λ n. bytes_eq n (codes "generate")) e))
 
 pub drive_not_generate : codes "drive" ≡ codes "generate" → ⊥
 drive_not_generate e = true≢false (sym (ap (λ n. bytes_eq n (codes "generate")) e))
@@ -271,6 +277,7 @@ said_task Show rows = show_task rows
 said_task ShowAsJson rows = show_task rows
 said_task Rewrite rows = (Rewrite, refl, tt)
 said_task Check rows = (Check, refl, tt)
+said_task Lint rows = (Lint, refl, tt)
 
 -- what matches say is asked for, unless they are those of `generate` and say no number of clusters
 abbrev Said : Text → List Row → Type 0

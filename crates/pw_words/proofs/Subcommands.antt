@@ -8,7 +8,7 @@ use Rattle.clap.specs.Simple.{Shape, built, entered, label_of, names_of}
 use Rattle.clap.specs.Faults.{check_fault, entered_fault, level_fault}
 use Rattle.clap.specs.declared.error.kind.ErrorKind.TheVariants as kind
 use Rattle.pw_words.specs.declared.command.Task.{Task}
-use Rattle.pw_words.specs.declared.command.Task.TheVariants.{Show, Rewrite, Check}
+use Rattle.pw_words.specs.declared.command.Task.TheVariants.{Show, Rewrite, Check, Lint}
 use Rattle.pw_words.specs.App.{line_app}
 use Rattle.pw_words.specs.Stated.{Enters, IsTaken}
 use Rattle.pw_words.proofs.Auditing.{audit_leaf}
@@ -39,24 +39,26 @@ found_by n = find (λ s. answers_to n (label_of s)) (built line_app).subs
 
 finds : (n : Text) → (found_by n ≡ None) ⊎ ((s : Shape) × IsLeaf s × (found_by n ≡ Some s))
 finds n = go (answers_to n (label_of (task_leaf Show))) (answers_to n (label_of (task_leaf Rewrite)))
-    (answers_to n (label_of (task_leaf Check))) (answers_to n (label_of drive_leaf)) (answers_to n (label_of audit_leaf))
+    (answers_to n (label_of (task_leaf Check))) (answers_to n (label_of (task_leaf Lint))) (answers_to n (label_of drive_leaf))
+    (answers_to n (label_of audit_leaf))
     (answers_to n (label_of cppc_leaf)) (answers_to n (label_of generate_leaf))
   where
-    search_by : Bool → Bool → Bool → Bool → Bool → Bool → Bool → Option Shape
-    search_by a b c d e f g = cond a (Some (task_leaf Show))
+    search_by : Bool → Bool → Bool → Bool → Bool → Bool → Bool → Bool → Option Shape
+    search_by a b c d e f g h = cond a (Some (task_leaf Show))
         (cond b (Some (task_leaf Rewrite))
-        (cond c (Some (task_leaf Check)) (cond d (Some drive_leaf) (cond e (Some audit_leaf)
-        (cond f (Some cppc_leaf) (cond g (Some generate_leaf) None))))))
+        (cond c (Some (task_leaf Check)) (cond d (Some (task_leaf Lint)) (cond e (Some drive_leaf) (cond f (Some audit_leaf)
+        (cond g (Some cppc_leaf) (cond h (Some generate_leaf) None)))))))
 
-    go : (a b c d e f g : Bool) → (search_by a b c d e f g ≡ None) ⊎ ((s : Shape) × IsLeaf s × (search_by a b c d e f g ≡ Some s))
-    go true b c d e f g = inr (task_leaf Show, inl (Show, refl), refl)
-    go false true c d e f g = inr (task_leaf Rewrite, inl (Rewrite, refl), refl)
-    go false false true d e f g = inr (task_leaf Check, inl (Check, refl), refl)
-    go false false false true e f g = inr (drive_leaf, inr (inl refl), refl)
-    go false false false false true f g = inr (audit_leaf, inr (inr (inl refl)), refl)
-    go false false false false false true g = inr (cppc_leaf, inr (inr (inr (inl refl))), refl)
-    go false false false false false false true = inr (generate_leaf, inr (inr (inr (inr refl))), refl)
-    go false false false false false false false = inl refl
+    go : (a b c d e f g h : Bool) → (search_by a b c d e f g h ≡ None) ⊎ ((s : Shape) × IsLeaf s × (search_by a b c d e f g h ≡ Some s))
+    go true b c d e f g h = inr (task_leaf Show, inl (Show, refl), refl)
+    go false true c d e f g h = inr (task_leaf Rewrite, inl (Rewrite, refl), refl)
+    go false false true d e f g h = inr (task_leaf Check, inl (Check, refl), refl)
+    go false false false true e f g h = inr (task_leaf Lint, inl (Lint, refl), refl)
+    go false false false false true f g h = inr (drive_leaf, inr (inl refl), refl)
+    go false false false false false true g h = inr (audit_leaf, inr (inr (inl refl)), refl)
+    go false false false false false false true h = inr (cppc_leaf, inr (inr (inr (inl refl))), refl)
+    go false false false false false false false true = inr (generate_leaf, inr (inr (inr (inr refl))), refl)
+    go false false false false false false false false = inl refl
 
 -- a subcommand is wanted
 wanted : (rows : List Row) (o : Option (Text × List Row)) → check_fault (built line_app).top rows (is_some o) ≡ [] → is_some o ≡ true

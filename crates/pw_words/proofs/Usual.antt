@@ -5,7 +5,7 @@ use Rattle.std.specs.Prelude.{reverse}
 use Rattle.std.specs.List.{filter}
 use Rattle.clap.specs.Walk.{Text}
 use Rattle.pw_words.specs.declared.command.Task.{Task}
-use Rattle.pw_words.specs.declared.command.Task.TheVariants.{Show, ShowAsJson, Rewrite, Check}
+use Rattle.pw_words.specs.declared.command.Task.TheVariants.{Show, ShowAsJson, Rewrite, Check, Lint}
 use Rattle.pw_words.specs.declared.command.Way.{Way}
 use Rattle.pw_words.specs.Words.{AreFiles, AskFor, Asked, IsCount, IsLine, are_bare, are_flags_of, flag_words, in_table_order, is_bare}
 use Rattle.pw_words.specs.Words.{is_dashed, task_flags, task_name, way_flags}
@@ -54,6 +54,7 @@ task_asks ShowAsJson rest bs flags files are =
     parted_asks (codes "show") rest (codes "--json" ∷ []) bs (on_blocks ShowAsJson bs) refl flags files refl (refl, are)
 task_asks Rewrite rest bs flags files are = parted_asks (codes "rewrite") rest [] bs (on_blocks Rewrite bs) refl flags files refl (refl, are)
 task_asks Check rest bs flags files are = parted_asks (codes "check") rest [] bs (on_blocks Check bs) refl flags files refl (refl, are)
+task_asks Lint rest bs flags files are = parted_asks (codes "lint") rest [] bs (on_blocks Lint bs) refl flags files refl (refl, are)
 
 pub usual_asks : (task : Task) (blocks : List Text) → AreFiles blocks
     → AskFor (task_name task ∷ task_flags task ++ blocks) (on_blocks task blocks)
@@ -62,6 +63,7 @@ usual_asks ShowAsJson blocks are =
     let parts = flag_moved [] blocks are.bare in task_asks ShowAsJson (codes "--json" ∷ blocks) blocks parts.0 parts.1 are
 usual_asks Rewrite blocks are = task_asks Rewrite blocks blocks (none_dashed blocks are.bare) (all_bare blocks are.bare) are
 usual_asks Check blocks are = task_asks Check blocks blocks (none_dashed blocks are.bare) (all_bare blocks are.bare) are
+usual_asks Lint blocks are = task_asks Lint blocks blocks (none_dashed blocks are.bare) (all_bare blocks are.bare) are
 
 pub flag_asks : (before after : List Text) → AreFiles (before ++ after)
     → AskFor (codes "show" ∷ before ++ codes "--json" ∷ after) (on_blocks ShowAsJson (before ++ after))

@@ -73,8 +73,10 @@ line_app = with_subcommand
     (with_subcommand
     (with_subcommand
     (with_subcommand
+    (with_subcommand
     (with_subcommand (with_subcommand bare_app show_app.top) (blocks_app (codes "rewrite")).top)
     (blocks_app (codes "check")).top)
+    (blocks_app (codes "lint")).top)
     drive_app.top)
     audit_app.top)
     cppc_app.top)

@@ -8,7 +8,7 @@ use Rattle.std.specs.declared.alloc.Global.{Global}
 use Rattle.clap.specs.Words.{Row, Text, all_of, first_of}
 use Rattle.pw_words.specs.Stated.{Enters, IsTaken, is_used}
 use Rattle.pw_words.specs.declared.command.Task.{Task}
-use Rattle.pw_words.specs.declared.command.Task.TheVariants.{Show, ShowAsJson, Rewrite, Check}
+use Rattle.pw_words.specs.declared.command.Task.TheVariants.{Show, ShowAsJson, Rewrite, Check, Lint}
 use Rattle.pw_words.specs.declared.command.Way.{Way}
 
 -- the bytes of each word
@@ -36,6 +36,7 @@ task_name Show = codes "show"
 task_name ShowAsJson = codes "show"
 task_name Rewrite = codes "rewrite"
 task_name Check = codes "check"
+task_name Lint = codes "lint"
 
 -- the flag that tells the task from others of its command
 abbrev pub task_flags : Task → List Text
@@ -75,7 +76,7 @@ pub record IsCount (word : Text) (count : ℕ) : Type 0 where
   pub some : 1 ≤ count
   pub few : count ≤ 32
 
--- The words are a line of the table: `show BLOCK..`, `show --json BLOCK..`, `rewrite BLOCK..`, `check BLOCK..`,
+-- The words are a line of the table: `show BLOCK..`, `show --json BLOCK..`, `rewrite BLOCK..`, `check BLOCK..`, `lint BLOCK..`,
 -- `drive [--serial] [--step] SCRIPT BLOCK..`, `audit [--step] SCRIPT HISTORY BLOCK..`,
 -- `cppc [--serial] SCRIPT BLOCK..`, `generate N`.
 abbrev pub IsLine : List Text → Asked → Type 0

@@ -136,6 +136,7 @@ pub(crate) fn line<'a>(alloc: Global) -> Result<Command<'a>, AllocError>
     let command = with(bare(alloc), show(alloc)?)?;
     let command = with(command, on_blocks(alloc, "rewrite")?)?;
     let command = with(command, on_blocks(alloc, "check")?)?;
+    let command = with(command, on_blocks(alloc, "lint")?)?;
     let command = with(command, drive(alloc)?)?;
     let command = with(command, audit(alloc)?)?;
     let command = with(command, cppc(alloc)?)?;

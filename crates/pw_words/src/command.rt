@@ -19,6 +19,8 @@ pub enum Task {
     Rewrite,
     /// `check BLOCK..`: the plan of the machine that they describe, with notes.
     Check,
+    /// `lint BLOCK..`: what is amiss with the tables of the machine.
+    Lint,
 }
 
 /// How a script is run.

@@ -79,6 +79,7 @@ fn task_in(name: &str, matches: &ArgMatches<'_>) -> Task
         }
         "rewrite" => Task::Rewrite,
         "check" => Task::Check,
+        "lint" => Task::Lint,
         _ => unreachable!(),
     }
 }

@@ -19,7 +19,7 @@ given words = if is_plain words then moved words else words
 
 -- a subcommand for the blocks in files
 abbrev pub IsOnBlocks : Text → Type 0
-IsOnBlocks name = (name ≡ codes "show") ⊎ ((name ≡ codes "rewrite") ⊎ (name ≡ codes "check"))
+IsOnBlocks name = (name ≡ codes "show") ⊎ ((name ≡ codes "rewrite") ⊎ ((name ≡ codes "check") ⊎ (name ≡ codes "lint")))
 
 -- the matches are those of a subcommand, and have its arguments
 pub record CanSay (name : Text) (rows : List Row) : Type 0 where

@@ -1,0 +1,7 @@
+pub mod Findings
+pub mod Idle
+pub mod Scales
+pub mod Domains
+pub mod Machine
+pub mod Words
+pub mod Laws

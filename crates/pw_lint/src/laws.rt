@@ -1,0 +1,53 @@
+//! What the definitions mean.
+
+ghost use Rattle.std.specs.Prelude.{◌≡◌, ◌↔◌, ℕ, [], List, Option, Contains};
+ghost use Rattle.std.proofs.Common.{◌⊎◌};
+ghost use Rattle.aml_data.specs.declared.path.FullPath.{FullPath as path_type};
+ghost use Rattle.acpi_values.specs.Idle.{rows_of};
+ghost use Rattle.acpi_values.specs.declared.idle.IdleTable.{IdleTable as table_type};
+ghost use Rattle.acpi_space.specs.Namespace.{Entry as entry_type};
+ghost use Rattle.acpi_build.specs.declared.note.Note.{Note as note_type};
+ghost use Rattle.pw_plan.specs.declared.domain.Domain.{Domain as domain_type};
+ghost use Rattle.pw_plan.specs.declared.domain.DomainKind.{DomainKind as kind_type};
+ghost use Rattle.pw_plan.specs.declared.parts.ContainerParts.{ContainerParts as container_type};
+ghost use Rattle.pw_plan.specs.declared.parts.CpuParts.{CpuParts as cpu_type};
+ghost use Rattle.pw_lint.specs.declared.finding.Finding.{Finding as finding_type};
+ghost use Rattle.pw_lint.specs.Domains.{domain_findings};
+ghost use Rattle.pw_lint.specs.Idle.{counted, idle_findings};
+ghost use Rattle.pw_lint.specs.Laws.{IsCounted, IsFalling, IsFound, IsFoundOfCpu, IsRepeated, IsRising};
+ghost use Rattle.pw_lint.specs.Laws.{IsStill, IsUnentered};
+ghost use Rattle.pw_lint.specs.Machine.{cpu_findings, findings};
+ghost use Rattle.pw_lint.specs.Scales.{rate_findings};
+
+/// What is found of a machine is what is found of its notes, its containers, its processors and its domains.
+pub fn findings_are_of_objects()
+    ensures machine { (entries : List entry_type) (containers : List container_type) (cpus : List cpu_type)
+        (domains : List domain_type) (noted : List note_type) (f : finding_type)
+        → Contains (findings entries containers cpus domains noted) f
+        ↔ IsFound entries containers cpus domains noted f }
+    ensures processor { (entries : List entry_type) (cpus : List cpu_type) (c : cpu_type) (f : finding_type)
+        → Contains (cpu_findings entries cpus c) f ↔ IsFoundOfCpu entries cpus c f }
+{}
+
+/// What is found of idle states: each that wakes sooner than the one before it, each C state with the null
+/// register, and another number of C states than the first processor with any has (ACPI 6.5, 8.4.1.1 and
+/// 8.4.3.3).
+pub fn findings_of_idle_states()
+    ensures states { (path : path_type) (t : table_type) (f : finding_type)
+        → Contains (idle_findings path t) f ↔ (IsUnentered path t f ⊎ IsFalling path (rows_of t) f) }
+    ensures count { (c : cpu_type) (first : Option cpu_type) (f : finding_type)
+        → Contains (counted c first) f ↔ IsCounted c first f }
+{}
+
+/// What is found of rates: each of 0, each that is faster than the one before it, each that is the same
+/// (ACPI 6.5, 8.4.5.2 and 8.4.4.2).
+pub fn findings_of_rates()
+    ensures { (kind : kind_type) (path : path_type) (rates : List ℕ) (f : finding_type)
+        → Contains (rate_findings kind path rates) f
+        ↔ (IsStill kind path rates f ⊎ (IsRising kind path rates f ⊎ IsRepeated kind path rates f)) }
+{}
+
+/// Something is found of a domain exactly where it is unfit (ACPI 6.5, 8.3).
+pub fn findings_of_domains()
+    ensures { (cpus : List cpu_type) (d : domain_type) → (domain_findings cpus d ≡ []) ↔ (d.unfit ≡ 0) }
+{}
