@@ -46,14 +46,14 @@ def examples(text):
 
 
 def promised():
-    """The fields of the records that say what is promised."""
-    record, found = None, set()
-    lines = [line for path in (TOP / "crates/pw_cli/specs").glob("*Promises.antt") for line in path.read_text().splitlines()]
-    for line in lines:
-        if begins := re.match(r"pub record (\w+)", line):
-            record = begins[1]
-        elif field := re.match(r"  pub (\w+) :", line):
-            found.add(f"{record}.{field[1]}")
+    """The fields of the records that say what is promised, and the cases."""
+    begun, found = None, set()
+    paths = [path for path in (TOP / "crates/pw_cli/specs").glob("*.antt") if path.stem not in ("Lib", "Runs")]
+    for line in [line for path in paths for line in path.read_text().splitlines()]:
+        if begins := re.match(r"(?:abbrev )?pub (?:record |data )?(\w+)", line):
+            begun = begins[1]
+        elif field := re.match(r"  (?:pub )?(\w+) :", line):
+            found.add(f"{begun}.{field[1]}")
     return found
 
 

@@ -1,31 +1,48 @@
 -- What a run by `cppc` promises follows from how it ends.
-use Rattle.std.proofs.Common.{◌≡◌, ◌+◌, ◌++◌, ◌∷◌, ◌⊎◌, ◌∙◌, ℕ, Bool, true, false, List, [], length, map, take, drop, Option, Some, None, refl, sym, ap, subst, arith, append_assoc}
+use Rattle.std.proofs.Common.{◌≡◌, ◌+◌, ◌++◌, ◌∷◌, ◌∙◌, ℕ, Bool, true, false, List, [], length, take, drop, Option, Some, None, refl, sym, ap, subst, arith, append_assoc, eq-eqb}
 use Rattle.std.proofs.lemmas.List.{take-append-drop}
 use Rattle.pw_base.specs.Seen.{Grew}
 use Rattle.pw_turns.specs.declared.close.Sealed.{Sealed}
-use Rattle.pw_model.proofs.Joining.{each_first}
+use Rattle.pw_model.proofs.Joining.{each_first, each_last}
 use Rattle.pw_books.specs.Asked.{own}
 use Rattle.pw_cppc.specs.Requests.{cpu_of}
 use Rattle.pw_cppc.specs.declared.numbers.CppcNumbers.{CppcNumbers}
 use Rattle.pw_cppc.specs.declared.entry.CppcEntry.{CppcEntry}
+use Rattle.pw_cppc.specs.declared.plan.CppcDomain.{CppcDomain}
 use Rattle.pw_cppc.specs.declared.plan.CppcPlan.{CppcPlan}
+use Rattle.pw_cppc.specs.declared.request.CppcRequest.{CppcRequest}
 use Rattle.pw_cppc.specs.declared.reply.CppcReply.{CppcReply}
 use Rattle.pw_cppc.specs.declared.reply.CppcReply.TheVariants.{Stands}
 use Rattle.pw_cppc.specs.Answers.{after, answer, if_accepted, refusal}
-use Rattle.pw_cppc.specs.History.{Faultless, after_entry, fault_at, history_ops, replay, replay_from, request_of, requests, stopped_at}
+use Rattle.pw_cppc.specs.History.{Faultless, after_entry, replay, replay_from, request_of, requests, stopped_at}
 use Rattle.pw_cppc.specs.Operations.{bound_ops, opening_ops, ops_of, standing_ops}
-use Rattle.pw_cppc.specs.States.{changed, opening, stands}
+use Rattle.pw_cppc.specs.Causes.{IsDue}
+use Rattle.pw_cppc.specs.Domains.{IsDomain, domains_of}
+use Rattle.pw_cppc.specs.Reasons.{IsReason}
+use Rattle.pw_cppc.specs.States.{AreNumbers, changed, opening, stands}
+use Rattle.pw_plan.proofs.Ordered.{each_weaker}
+use Rattle.std.specs.List.{AllByRecursion}
 use Rattle.pw_cppc.proofs.Alone.{stands_nearest, stands_together}
 use Rattle.pw_cppc.proofs.Controls.{any_stands, said_stands}
 use Rattle.pw_cppc.proofs.Gathering.{stands_allowed, stands_least, stands_satisfied}
-use Rattle.pw_cppc.proofs.Joining.{fault_none}
+use Rattle.pw_cppc.proofs.Asked.{each_is_set, set_is_there}
+use Rattle.pw_cppc.proofs.Joining.{fault_none, replay-append}
+use Rattle.pw_cppc.proofs.Listing.{all_are}
+use Rattle.pw_cppc.proofs.OneNumber.{answers, leaves}
+use Rattle.pw_cppc.proofs.Reasoning.{domain_reason}
+use Rattle.pw_cppc.proofs.Registers.{register_from, register_to}
+use Rattle.pw_cppc.specs.Parts.{entry_of, place_of}
+use Rattle.pw_cppc.proofs.Refused.{comes, is_due, may_ask}
+use Rattle.pw_cppc.proofs.Starting.{ask_at_start, maximum_at_start, minimum_at_start}
+use Rattle.pw_cppc.proofs.Starts.{all_start, start_there}
+use Rattle.pw_cppc.proofs.Staying.{replay_fits}
 use Rattle.pw_script.specs.HistoryText.{opened_lines}
 use Rattle.pw_cppc_drive.specs.declared.script.CppcLine.{CppcLine}
 use Rattle.pw_cppc_drive.specs.Driven.{OperatesFor}
 use Rattle.pw_cppc_drive.specs.HistoryText.{entry_lines, history_lines, history_text, lines_from, op_line}
 use Rattle.pw_cppc_drive.specs.Lawful.{TellSeats, telling}
 use Rattle.pw_cppc_drive.specs.Reading.{operations, requests_of}
-use Rattle.pw_words.specs.Words.{AskFor, Asked}
+use Rattle.pw_words.specs.Words.{AskFor}
 use Rattle.pw_words.specs.Words.Asked.{cppc}
 use Rattle.pw_load.specs.Seen.{Outputs, Seen}
 use Rattle.pw_runs.specs.CppcRuns.{AreGiven, IsSerialRun, PrintsRun}
@@ -35,7 +52,8 @@ use Rattle.pw_runs.specs.CppcWorkers.{IsRunBy}
 use Rattle.pw_runs.specs.CppcWorkers.Steers.{stopped as stopped_by, opened as opened_by, steered as steered_by}
 use Rattle.pw_cli.specs.Runs.{Ran, SteersBy}
 use Rattle.pw_cli.proofs.Promising.{never_stops, obeyed}
-use Rattle.pw_cli.specs.CppcPromises.{ControlsStand, IsPrinted, IsTurnedDown, KeepsCppc, PerformancesStand, ProcessorsAreSteered}
+use Rattle.pw_cli.specs.CppcPromises.{IsMet, KeepsCppc, OpensAtHighest, ProcessorsAreSteered}
+use Rattle.pw_cli.specs.CppcPromises.{IsMet as came}
 
 -- # Where processors stand after a history without a fault
 
@@ -59,17 +77,56 @@ beginning_steered P es faultless k =
     are_steered P (take k es)
     (each_first (λ (e : CppcEntry). e.fault ≡ 0) (take k es) (drop k es) (subst Faultless (sym (take-append-drop k es)) faultless))
 
-turned_down : (P : CppcPlan) (es : List CppcEntry) (e : CppcEntry) (why : CppcReply) → refusal P (replay P es) (request_of e) ≡ Some why
-    → IsTurnedDown P es e why
-unfolding answer after ops_of
-turned_down P es e why is =
-    let S = replay P es in
+-- # Plans
+
+opens_at_highest : (P : CppcPlan) → OpensAtHighest P
+opens_at_highest P =
+    record { asks = ask_at_start P; minima = minimum_at_start P; maxima = maximum_at_start P; only = all_start P; all = start_there P }
+
+with_reasons : (P : CppcPlan) → AllByRecursion (λ (d : CppcDomain). IsReason P.cpus d.members d.unfit) P.domains
+with_reasons P = subst (λ (ds : List CppcDomain). AllByRecursion (λ (d : CppcDomain). IsReason P.cpus d.members d.unfit) ds) (sym P.planned.domains_are)
+    (each_weaker (IsDomain P.cpus) (λ (d : CppcDomain). IsReason P.cpus d.members d.unfit) (domains_of P.cpus) (λ d is. domain_reason P.cpus d is) (all_are P.cpus))
+
+-- # Requests
+
+module _ (P : CppcPlan) (S : CppcNumbers) (q : CppcRequest) (why : CppcReply) (is : refusal P S q ≡ Some why) where
+  why_said : answer P S q ≡ why
+  unfolding answer
+  why_said = ap (λ x. if_accepted x (λ reply. reply) (Stands (stands P (changed S q) (cpu_of q)))) is
+
+  stays : after P S q ≡ S
+  unfolding after
+  stays = ap (λ x. if_accepted x (λ reply. S) (changed S q)) is
+
+  silent : ops_of P S q ≡ []
+  unfolding ops_of
+  silent = ap (λ x. if_accepted x (λ reply. []) (bound_ops P q ++ standing_ops P S (changed S q) (cpu_of q))) is
+
+is_met : (P : CppcPlan) (S : CppcNumbers) (q : CppcRequest) → AreNumbers P S → IsMet P S (after P S q) q (answer P S q) (ops_of P S q)
+is_met P S q fits = step (refusal P S q) refl
+  where
+    step : (x : Option CppcReply) → refusal P S q ≡ x → IsMet P S (after P S q) q (answer P S q) (ops_of P S q)
+    step None e = came.taken (record {
+      may = may_ask P S q e;
+      leaves = leaves P S q fits e;
+      answered = λ d lt member. answers P S q d e lt member;
+      only = each_is_set P S q fits;
+      all = λ o set. set_is_there P S q o fits set;
+    })
+    step (Some r) e = came.turned_down (subst (IsDue P S q) (sym (why_said P S q r e)) (is_due P S q r e)) (stays P S q r e) (silent P S q r e)
+
+met_each : (P : CppcPlan) (entries : List CppcEntry) → Faultless entries → (es later : List CppcEntry) (e : CppcEntry) → entries ≡ es ++ e ∷ later
+    → IsMet P (replay P es) (replay P (es ++ e ∷ [])) (request_of e) (answer P (replay P es) (request_of e)) (ops_of P (replay P es) (request_of e))
+met_each P entries faultless es later e is =
     let q = request_of e in
-    record {
-      answered = ap (λ x. if_accepted x (λ reply. reply) (Stands (stands P (changed S q) (cpu_of q)))) is;
-      stays = ap (λ x. if_accepted x (λ reply. S) (changed S q)) is;
-      silent = ap (λ x. if_accepted x (λ reply. []) (bound_ops P q ++ standing_ops P S (changed S q) (cpu_of q))) is;
-    }
+    let S = replay P es in
+    let held = (each_last (λ (f : CppcEntry). f.fault ≡ 0) es (e ∷ later) (subst Faultless is faultless)).0 in
+    let step : after_entry P S e ≡ after P S q = rw (eq-eqb e.fault 0 held) refl in
+    subst (λ (T : CppcNumbers). IsMet P S T q (answer P S q) (ops_of P S q)) (sym (replay-append P es (e ∷ []) ∙ step)) (is_met P S q (replay_fits P es))
+
+refused_each : (P : CppcPlan) (es : List CppcEntry) (e : CppcEntry) (why : CppcReply) → IsDue P (replay P es) (request_of e) why
+    → answer P (replay P es) (request_of e) ≡ why
+refused_each P es e why due = why_said P (replay P es) (request_of e) why (comes P (replay P es) (request_of e) why due)
 
 -- # The lines of a history
 
@@ -114,12 +171,16 @@ module _ (script : List ℕ) (names : List (List ℕ)) (before after : Seen) whe
     plan = P;
     lines = lines;
     given = given;
+    registers = λ c parts r. (register_to (entry_of parts.cpc (place_of c)) r, register_from (entry_of parts.cpc (place_of c)) r);
+    reasons = with_reasons P;
     entries = es;
     printed = grew;
     asked = asked;
     in_order = ordered;
     told = λ fs later e is. history_lines-append P fs (e ∷ later);
-    refused = λ fs e why is. turned_down P fs e why is;
+    met = met_each P es faultless;
+    refused = refused_each P;
+    opens = opens_at_highest P;
     stands = beginning_steered P es faultless;
     operated = operates.log;
     workers = seats;

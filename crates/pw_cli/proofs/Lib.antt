@@ -3,5 +3,11 @@ pub mod Obeying
 pub mod Complete
 pub mod Spared
 pub mod Working
+pub mod Serving
+pub mod Loads
+pub mod Machining
+pub mod Counting
 pub mod Promising
+pub mod BlockPromising
+pub mod StatusPromising
 pub mod CppcPromising

@@ -1,33 +1,36 @@
 -- What a drive promises follows from how it ends.
-use Rattle.std.proofs.Common.{◌≡◌, ◌+◌, ◌++◌, ◌∷◌, ◌⊎◌, ◌∙◌, ℕ, Bool, true, false, List, [], length, map, take, drop, Option, Some, None, inl, inr, refl, sym, ap, subst, arith}
+use Rattle.std.proofs.Common.{◌≡◌, ◌<◌, ◌≤◌, ◌^◌, ◌++◌, ◌∷◌, ◌⊎◌, ◌∙◌, ℕ, Bool, true, false, List, [], take, drop, Option, Some, None, inl, inr, refl, sym, subst, arith, eq-eqb}
 use Rattle.std.proofs.lemmas.List.{take-append-drop}
 use Rattle.acpi_values.specs.declared.dependency.Coord.TheVariants.{SwAll, HwAll}
-use Rattle.pw_base.specs.Seen.{Grew}
+use Rattle.std.specs.List.{AllByRecursion}
+use Rattle.pw_base.specs.Seen.{FilesSeen, Grew}
+use Rattle.pw_base.proofs.Facts.{weaker}
 use Rattle.pw_plan.specs.declared.plan.Plan.{Plan}
 use Rattle.pw_plan.specs.declared.request.Request.{Request}
 use Rattle.pw_model.specs.declared.entry.HistoryEntry.{HistoryEntry}
 use Rattle.pw_model.specs.declared.reply.Reply.{Reply}
 use Rattle.pw_model.specs.States.{vote_of}
 use Rattle.pw_model.specs.Domains.{may_enter}
-use Rattle.pw_model.specs.Refusals.{refusal}
-use Rattle.pw_model.specs.Answers.{accepted, after, answer, changed, if_accepted}
-use Rattle.pw_model.specs.Operations.{accepted_ops, opening_ops, ops_of}
-use Rattle.pw_model.specs.History.{Faultless, Legal, fault_at, history_ops, replay, request_of}
+use Rattle.pw_model.specs.declared.state.State.{State}
+use Rattle.pw_model.specs.Answers.{after, answer}
+use Rattle.pw_model.specs.Operations.{ops_of}
+use Rattle.pw_model.specs.History.{Faultless, IsEntry, Legal, StatesRequest, after_entry, replay, request_of}
 use Rattle.pw_model.proofs.Idleness.{state_allowed, state_greatest}
 use Rattle.pw_model.proofs.Gathering.{behind_own, entered_greatest, entered_may, fastest_own, stands_asked, stands_fastest, stands_within}
 use Rattle.pw_model.proofs.Greatest.{greatest-le}
 use Rattle.pw_model.proofs.AnyMember.{any_is_set}
 use Rattle.pw_model.proofs.Setting.{member_is_set}
-use Rattle.pw_model.proofs.Joining.{each_first, fault_none, legal-first}
-use Rattle.pw_notice.specs.Limits.{own, requests}
+use Rattle.pw_model.proofs.Joining.{each_first, each_last, fault_none, legal-first, replay-append}
+use Rattle.pw_model.proofs.Operating.{all_start}
+use Rattle.pw_model.proofs.Staying.{replay_fits, request_has}
+use Rattle.pw_notice.specs.Limits.{requests}
 use Rattle.pw_script.specs.declared.script.Line.{Line as line}
-use Rattle.pw_script.specs.Asking.{IsNarrowRequest}
 use Rattle.pw_script.specs.HistoryText.{history_text}
-use Rattle.pw_script.specs.Lawful.{IsRunOf, IsSerialRunOf, Lawful, LawfulSerial}
+use Rattle.pw_script.specs.Lawful.{HasLine, IsRunOf}
 use Rattle.pw_script.specs.Reading.{operations, requests_of}
-use Rattle.pw_script.specs.Telling.{unseated}
 use Rattle.pw_script.proofs.Beginnings.{history_lines-append}
 use Rattle.pw_script.proofs.Determined.{text-tells}
+use Rattle.pw_script.proofs.Lined.{entry_line}
 use Rattle.pw_script.proofs.Narrow.{lawful-formed, lawful-narrow}
 use Rattle.pw_script.proofs.Orders.{serial_lawful}
 use Rattle.pw_drive.specs.Driven.{OperatesFor, stopped_at}
@@ -42,31 +45,39 @@ use Rattle.pw_load.specs.Seen.{Outputs, Seen}
 use Rattle.pw_load.specs.Ends.{Does, Stops, Work}
 use Rattle.pw_load.specs.Ends.Does.{stopped as stops, printed as prints}
 use Rattle.pw_load.specs.Ends.Prints.{whole as all_printed, write_fault as part_printed, cut}
-use Rattle.pw_load.specs.Steps.{AreHeldBy}
 use Rattle.pw_load.specs.Ends.Stops.{refused, read_fault}
 use Rattle.pw_load.specs.Ends.Stops.{without_memory as no_memory}
-use Rattle.pw_runs.specs.Runs.{AreGiven, IsSerialRun, PrintsRun}
+use Rattle.pw_runs.specs.Runs.{AreGiven, ArePlanned, IsSerialRun, PrintsRun}
+use Rattle.pw_runs.specs.Scripts.{HoldsScript}
 use Rattle.pw_runs.specs.Runs.DrivesSerially.{stopped, drove}
 use Rattle.pw_runs.specs.Runs.PrintsRun.{whole, write_fault, failed, failed_write_fault, without_memory}
 use Rattle.pw_runs.specs.Workers.Drives.{stopped as work_stopped, opened as work_opened, drove as workers_drove}
 use Rattle.pw_runs.proofs.Paths.{planned_segments}
-use Rattle.pw_cli.specs.Runs.{DrivesBy, EndsBy, Obeys, OnlyDoes, Ran, work_of}
+use Rattle.pw_cli.specs.Runs.{DrivesBy, EndsBy, Obeys, Ran, work_of}
 use Rattle.pw_cli.specs.Runs.EndsBy.{misworded, commanded}
 use Rattle.pw_cli.specs.Runs.EndsBy.{without_memory as without_memory_of}
-use Rattle.pw_runs.specs.Reviews.{reviewing}
-use Rattle.pw_runs.specs.Trials.{Generates, IsMachine, IsSummaryOf, PrintsSummary}
+use Rattle.pw_runs.specs.Trials.{Generates, IsMachine, PrintsSummary}
 use Rattle.pw_runs.specs.Trials.Generates.{undone, opened}
 use Rattle.pw_runs.specs.Trials.Generates.{drove as tried}
 use Rattle.pw_runs.specs.Trials.PrintsSummary.{whole as all_summed, write_fault as part_summed, failed as never_summed, without_memory as unsummed}
 use Rattle.pw_runs.proofs.TrialOne.{trying_is_one}
 use Rattle.pw_generate.specs.Loads.{machine_load}
-use Rattle.aml_block.specs.declared.block.Block.{Block}
+use Rattle.pw_generate.specs.Machines.{machine_block}
+use Rattle.pw_generate.proofs.Adding.{adds_up}
+use Rattle.pw_generate.proofs.Whole.{machine_apart}
+use Rattle.pw_governor.specs.Choices.{IsLawful, Suits, choice}
+use Rattle.acpi_values.specs.declared.idle.IdleTable.{IdleTable}
 use Rattle.aml_block.proofs.OneReading.{same_blocks}
-use Rattle.pw_tasks.specs.Tasks.{IsTextOf, work_on}
 use Rattle.pw_tasks.proofs.One.{one_text_of}
-use Rattle.pw_cli.proofs.Obeying.{refusal_status}
-use Rattle.pw_cli.specs.Promises.{ContainersStand, DomainsStand, IsPrinted, IsRefusedWhole, KeepsAudit, KeepsDrive, KeepsGenerate, KeepsTask, MachineStands}
-use Rattle.pw_cli.specs.Promises.{ProcessorsStand, RegistersStand}
+use Rattle.pw_cli.proofs.Obeying.{refusal_status, within_of}
+use Rattle.pw_cli.specs.Machines.{IsMachineIn}
+use Rattle.pw_cli.specs.Served.{IsRefusedFor, IsServed}
+use Rattle.pw_cli.specs.Promises.{AreServed, KeepsAudit, KeepsDrive, KeepsGenerate, KeepsTask, MachineStands}
+use Rattle.pw_cli.proofs.Loads.{load_tables, tells_containers}
+use Rattle.pw_cli.specs.Promises.{SaysLines}
+use Rattle.pw_cli.proofs.Counting.{ops_few}
+use Rattle.pw_cli.proofs.Machining.{ObjectLaws, machine_of}
+use Rattle.pw_cli.proofs.Serving.{refused_so, served, why_said}
 
 -- # A machine after a history without a fault
 
@@ -99,19 +110,58 @@ beginning_stands P es legal faultless k =
     machine_stands P (take k es) (legal-first P (take k es) (drop k es) (subst (Legal P) whole legal))
     (each_first (λ (e : HistoryEntry). e.fault ≡ 0) (take k es) (drop k es) (subst Faultless whole faultless))
 
--- # A request that is refused
+-- # Requests
 
-refused_whole : (P : Plan) (es : List HistoryEntry) (e : HistoryEntry) (why : Reply) → refusal P (replay P es) (request_of e) ≡ Some why
-    → IsRefusedWhole P es e why
-unfolding answer after ops_of
-refused_whole P es e why is =
-    let S = replay P es in
+-- each is served in the state that those before it leave
+served_each : (P : Plan) (es : List HistoryEntry) → Legal P es → Faultless es → AreServed P es
+served_each P entries legal faultless es later e is =
     let q = request_of e in
-    record {
-      answered = ap (λ x. if_accepted x (λ reply. reply) (accepted P (changed P S q) q)) is;
-      stays = ap (λ x. if_accepted x (λ reply. S) (changed P S q)) is;
-      silent = ap (λ x. if_accepted x (λ reply. []) (accepted_ops P S (changed P S q) q)) is;
-    }
+    let S = replay P es in
+    let formed = subst (AllByRecursion (IsEntry P)) is legal.well_formed.entries in
+    let self = (each_last (IsEntry P) es (e ∷ later) formed).0 in
+    let held = (each_last (λ (f : HistoryEntry). f.fault ≡ 0) es (e ∷ later) (subst Faultless is faultless)).0 in
+    let states = weaker (IsEntry P) (StatesRequest P) (λ f h. h.states) es (each_first (IsEntry P) es (e ∷ later) formed) in
+    let step : after_entry P S e ≡ after P S q = rw (eq-eqb e.fault 0 held) refl in
+    subst (λ (T : State). IsServed P S T q (answer P S q) (ops_of P S q)) (sym (replay-append P es (e ∷ []) ∙ step))
+    (served P S q (replay_fits P es states) (request_has P e self.states))
+
+-- and is the request of a line
+has_line : (P : Plan) (asked : List Request) (entries : List HistoryEntry) → IsRunOf P asked entries → (es later : List HistoryEntry) (e : HistoryEntry)
+    → entries ≡ es ++ e ∷ later → HasLine P asked es e
+has_line P asked entries run es later e is =
+    let run = subst (IsRunOf P asked) is run in
+    let self = (each_last (IsEntry P) es (e ∷ later) run.legal.well_formed.entries).0 in
+    entry_line P asked es later e self.states.cpu run
+
+-- a reason that stands is the reply
+refused_each : (P : Plan) (es : List HistoryEntry) (e : HistoryEntry) (why : Reply) → IsRefusedFor P (replay P es) (request_of e) why
+    → answer P (replay P es) (request_of e) ≡ why
+refused_each P es e why is = why_said P (replay P es) (request_of e) why (refused_so P (replay P es) (request_of e) why is)
+
+-- # What is given
+
+machine_in : ObjectLaws → (files : FilesSeen) (names : List (List ℕ)) (P : Plan) → ArePlanned files names P → IsMachineIn files names P
+machine_in laws files names P planned = record {
+  blocks = planned.blocks;
+  held = planned.held;
+  machine = machine_of laws planned.blocks P planned.notes planned.distinct planned.made;
+}
+
+-- what the law of choices says
+pub record ChoiceLaws : Type 0 where
+  pub suits : (t : IdleTable) (tolerance residency : ℕ) → IsLawful t tolerance residency (choice t tolerance residency)
+  pub deepest : (t : IdleTable) (tolerance residency s : ℕ) → s < 2 ^ 32 → Suits t tolerance residency s → s ≤ choice t tolerance residency
+
+says_lines : ChoiceLaws → (files : FilesSeen) (script : List ℕ) (P : Plan) (step : Bool) (lines : List line) → HoldsScript (files.holds script) P step lines
+    → SaysLines (files.holds script) P step lines
+says_lines choices files script P step lines held = record {
+  bytes = held.bytes;
+  is = held.is;
+  good = held.reads.good;
+  lines_are = held.reads.lines_are;
+  suits = choices.suits;
+  deepest = choices.deepest;
+}
 
 -- # How it ends with status 0
 
@@ -132,7 +182,7 @@ never_stops asked before after status line halted zero =
     stops_not_0 (work_of asked before.files after.files) (refusal_status asked before.files after.files) status line halted zero
 
 -- it printed one of its texts, whole
-does_whole : (asked : Asked) (before after : Seen) (status : ℕ) (text line : List ℕ)
+pub does_whole : (asked : Asked) (before after : Seen) (status : ℕ) (text line : List ℕ)
     → Does (work_of asked before.files after.files) before.outputs after.outputs status text line → status ≡ 0
     → (work_of asked before.files after.files).text text
 does_whole asked before after status text line (stops halted) zero = absurd (never_stops asked before after status line halted zero)
@@ -153,7 +203,7 @@ whole_text before after (failed at) zero = absurd (omega (arith, zero))
 whole_text before after (failed_write_fault n at rose) zero = absurd (omega (arith, zero))
 whole_text before after without_memory zero = absurd (omega (arith, zero))
 
-module _ (step : Bool) (script : List ℕ) (names : List (List ℕ)) (before after : Seen) (tells : before.files.told ≡ true) where
+module _ (laws : ObjectLaws) (choices : ChoiceLaws) (step : Bool) (script : List ℕ) (names : List (List ℕ)) (before after : Seen) (tells : before.files.told ≡ true) where
   -- a run of the lines without a fault, that was printed whole
   kept : (serial : Bool) (P : Plan) (lines : List line) → AreGiven before.files step script names P lines → (es : List HistoryEntry)
       → IsRunOf P (requests_of lines) es → Faultless es → OperatesFor P (operations P lines) None es before.regs after.regs
@@ -161,8 +211,9 @@ module _ (step : Bool) (script : List ℕ) (names : List (List ℕ)) (before aft
       → Grew before.outputs.out after.outputs.out (history_text P None es) → KeepsDrive serial step script names before after
   kept serial P lines given es run faultless operates ordered seats grew = record {
     plan = P;
+    machine = machine_in laws before.files names P given.planned;
     lines = lines;
-    given = given;
+    scripted = λ tells. says_lines choices before.files script P step lines (given.scripted tells);
     entries = es;
     printed = grew;
     one = λ narrow other run' same.
@@ -171,10 +222,14 @@ module _ (step : Bool) (script : List ℕ) (names : List (List ℕ)) (before aft
         (lawful-narrow P (requests_of lines) narrow None other run') same).1;
     asked = run.whole faultless;
     in_order = ordered;
+    line_of = λ fs later e is. has_line P (requests_of lines) es run fs later e is;
     told = λ fs later e is. history_lines-append P None fs (e ∷ later);
-    refused = λ fs e why is. refused_whole P fs e why is;
+    served = served_each P es run.legal faultless;
+    refused = refused_each P;
     stands = beginning_stands P es run.legal faultless;
+    starts = all_start P;
     operated = operates.log;
+    few = let some = ops_few P lines es run faultless in let bound = given.few in omega (arith, some, bound);
     workers = seats;
   }
 
@@ -216,11 +271,11 @@ obeyed asked is (without_memory_of same unsealed) zero = absurd (omega (arith, z
 obeyed {words} {sealed} {before} {after} {status} {text} {said} asked is (commanded other named does) zero =
     subst (λ (a : Asked). Obeys a sealed before after status text said) (one_asked words other asked named is) does
 
-pub keeps_drive : (words : List (List ℕ)) (way : Way) (script : List ℕ) (names : List (List ℕ)) (sealed : Option Sealed) (before after : Seen)
+pub keeps_drive : ObjectLaws → ChoiceLaws → (words : List (List ℕ)) (way : Way) (script : List ℕ) (names : List (List ℕ)) (sealed : Option Sealed) (before after : Seen)
     → AskFor words (drive way script names) → before.files.told ≡ true → Ran words sealed before after 0
     → KeepsDrive way.serial way.step script names before after
-keeps_drive words way script names sealed before after asks tells ran =
-    drives way.step script names before after tells way.serial sealed 0 ran.text ran.line (obeyed (drive way script names) asks ran.way refl) refl ran.on_out
+keeps_drive laws choices words way script names sealed before after asks tells ran =
+    drives laws choices way.step script names before after tells way.serial sealed 0 ran.text ran.line (obeyed (drive way script names) asks ran.way refl) refl ran.on_out
 
 -- # Other commands
 
@@ -240,22 +295,24 @@ keeps_task words task names sealed before after asks tells ran =
       still = o.1;
     }
 
-pub keeps_audit : (words : List (List ℕ)) (step : Bool) (script history : List ℕ) (names : List (List ℕ)) (sealed : Option Sealed) (before after : Seen)
+pub keeps_audit : ObjectLaws → ChoiceLaws → (words : List (List ℕ)) (step : Bool) (script history : List ℕ) (names : List (List ℕ)) (sealed : Option Sealed) (before after : Seen)
     → AskFor words (audit step script history names) → Ran words sealed before after 0 → KeepsAudit step script history names before after
-keeps_audit words step script history names sealed before after asks ran =
+keeps_audit laws choices words step script history names sealed before after asks ran =
     let o = obeyed (audit step script history names) asks ran.way refl in
     let made = does_whole (audit step script history names) before after 0 ran.text ran.line o.0 refl in
     record {
       plan = made.plan;
+      machine = machine_in laws before.files names made.plan made.given.planned;
       lines = made.lines;
-      given = made.given;
+      scripted = λ tells. says_lines choices before.files script made.plan step made.lines (made.given.scripted tells);
+      few = made.given.few;
       entries = made.entries;
       held = made.held;
       printed = subst (Grew before.outputs.out after.outputs.out) made.says ran.on_out;
       still = o.1;
     }
 
-module _ (n : ℕ) (before after : Seen) where
+module _ (laws : ObjectLaws) (n : ℕ) (small : n ≤ 32) (before after : Seen) where
   -- the load was made, and its summary was printed whole
   summed : {P : Plan} {opening : Option ℕ} {es : List HistoryEntry} {text said : List ℕ} {status : ℕ} → IsMachine n P
       → Runs P (machine_load n).lines opening es before.regs after.regs
@@ -266,13 +323,18 @@ module _ (n : ℕ) (before after : Seen) where
       let faultless = fault_none es none in
       record {
         plan = P;
-        machine = machine;
+        machine = machine_of laws (machine_block n ∷ []) P machine.notes (machine_apart n small) machine.made;
+        tables = load_tables;
         entries = es;
         asked = run.lawful.whole faultless;
         text = _;
         summary = sums;
+        of_history = refl;
+        adds_up = adds_up P es faultless;
+        tells = tells_containers P es;
         one = λ other is. (trying_is_one n).texts other _ is sums;
         printed = grew;
+        served = served_each P es run.lawful.legal faultless;
         stands = beginning_stands P es run.lawful.legal faultless;
         operated = run.operates.log;
         workers = run.seats;
@@ -288,7 +350,7 @@ module _ (n : ℕ) (before after : Seen) where
   generates sealed status text said (opened machine few opens unsealed) zero grew = absurd (omega (arith, zero))
   generates sealed status text said (tried machine few run sums seals) zero grew = summed machine run sums zero grew
 
-pub keeps_generate : (words : List (List ℕ)) (n : ℕ) (sealed : Option Sealed) (before after : Seen) → AskFor words (generate n)
+pub keeps_generate : ObjectLaws → (words : List (List ℕ)) (n : ℕ) (sealed : Option Sealed) (before after : Seen) → AskFor words (generate n)
     → Ran words sealed before after 0 → KeepsGenerate n before after
-keeps_generate words n sealed before after asks ran =
-    generates n before after sealed 0 ran.text ran.line (obeyed (generate n) asks ran.way refl) refl ran.on_out
+keeps_generate laws words n sealed before after asks ran =
+    generates laws n (within_of words (generate n) asks) before after sealed 0 ran.text ran.line (obeyed (generate n) asks ran.way refl) refl ran.on_out

@@ -1,5 +1,5 @@
 -- Registers with room for all operations of a script never fail.
-use Rattle.std.proofs.Common.{◌≡◌, ◌≤◌, ℕ, Bool, true, false, List, Option, Some, None, inr, refl, ap, arith}
+use Rattle.std.proofs.Common.{◌≡◌, ◌≤◌, ℕ, Bool, true, false, List, Option, None, inr, refl, ap, arith}
 use Rattle.pw_plan.specs.declared.plan.Plan.{Plan}
 use Rattle.pw_model.specs.declared.entry.HistoryEntry.{HistoryEntry}
 use Rattle.pw_regs.specs.Seen.{RegistersSeen}
