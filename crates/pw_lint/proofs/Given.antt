@@ -1,9 +1,9 @@
 -- What stands at a place, and why objects make no plan.
 use Rattle.std.proofs.Common.{◌≡◌, ◌≢◌, ◌∙◌, List, [], Option, Some, None, Result, Ok, Err, IfOk, refl, ap}
-use Rattle.std.specs.Prelude.{Contains}
+use Rattle.std.specs.Prelude.{Bool, true, false, Contains, is_some}
 use Rattle.acpi_space.specs.declared.object.Placed.{Placed}
 use Rattle.acpi_space.specs.Distinct.{IsDistinct}
-use Rattle.acpi_space.specs.Lookup.{no_entry}
+use Rattle.acpi_space.specs.Lookup.{no_entry, number_at}
 use Rattle.acpi_space.specs.Namespace.{Entry, places_of}
 use Rattle.acpi_space.specs.Places.{Place}
 use Rattle.acpi_space.specs.Standing.{IsFound}
@@ -13,8 +13,9 @@ use Rattle.acpi_build.specs.declared.fault.BuildFault.{BuildFault}
 use Rattle.acpi_build.specs.declared.fault.BuildFault.TheVariants.{Object, Limit, Memory}
 use Rattle.acpi_build.specs.Building.{IsFault}
 use Rattle.acpi_build.specs.Planning.{parts_within}
-use Rattle.pw_lint.specs.Findings.{fault_findings}
-use Rattle.pw_lint.specs.Machine.{AreFindings, given_as, given_at, given_in}
+use Rattle.pw_lint.specs.Notes.{fault_findings}
+use Rattle.pw_lint.specs.Machine.{AreFindings}
+use Rattle.pw_lint.specs.Tables.{given_as, given_at, given_in}
 use Rattle.pw_lint.specs.Machine.AreFindings.{of_fault}
 
 pub none_given : (entries : List Entry) (place : Place) → (Contains (places_of entries) place → ⊥) → given_at entries place ≡ None
@@ -27,6 +28,15 @@ unfolding given_at
 some_given entries place p distinct found =
     ap (given_as entries) (numbered entries p.index place distinct found.0 (ap (λ (e : Entry). e.path) (found.1 no_entry)))
     ∙ ap (λ (e : Entry). given_in e.width e.object) (found.1 no_entry)
+
+-- whether anything stands there
+pub none_stands : (entries : List Entry) (place : Place) → (Contains (places_of entries) place → ⊥) → is_some (number_at entries place) ≡ false
+none_stands entries place none = ap is_some (unnumbered entries place none)
+
+pub some_stands : (entries : List Entry) (place : Place) (p : Placed) → IsDistinct (places_of entries) → IsFound entries place p
+    → is_some (number_at entries place) ≡ true
+some_stands entries place p distinct found =
+    ap is_some (numbered entries p.index place distinct found.0 (ap (λ (e : Entry). e.path) (found.1 no_entry)))
 
 -- a fault other than want of memory is found
 pub fault_found : (entries : List Entry) (fault : BuildFault) → IsFault fault (parts_within entries []) → fault ≢ Memory → AreFindings entries (fault_findings fault)

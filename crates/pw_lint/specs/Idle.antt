@@ -9,13 +9,13 @@ use Rattle.acpi_values.specs.declared.idle.IdleRow.{IdleRow}
 use Rattle.acpi_values.specs.declared.idle.IdleTable.{IdleTable}
 use Rattle.acpi_values.specs.declared.lpi.EntryMethod.{EntryMethod}
 use Rattle.acpi_values.specs.declared.lpi.EntryMethod.TheVariants.{Register, Integer}
-use Rattle.pw_plan.specs.declared.parts.ContainerParts.{ContainerParts}
 use Rattle.pw_plan.specs.declared.parts.CpuParts.{CpuParts}
 use Rattle.pw_plan.specs.Parts.{no_row}
-use Rattle.pw_lint.specs.declared.finding.Finding.{Finding}
-use Rattle.pw_lint.specs.declared.finding.FindingKind.TheVariants as kinds
-use Rattle.pw_lint.specs.declared.finding.OfIdle.TheVariants.{LatencyFalls, NullState, OtherCount}
-use Rattle.pw_lint.specs.Findings.{finding, of_each, when}
+use Rattle.pw_findings.specs.declared.finding.Finding.{Finding}
+use Rattle.pw_findings.specs.declared.finding.FindingKind.TheVariants as kinds
+use Rattle.pw_findings.specs.declared.finding.OfEntry.TheVariants.{IntegerState, NullState, OtherCount}
+use Rattle.pw_findings.specs.declared.finding.OfIdle.TheVariants.{LatencyFalls, ResidencyFalls}
+use Rattle.pw_findings.specs.Findings.{finding, of_each, when}
 
 -- # State by state
 
@@ -31,6 +31,14 @@ abbrev pub falling : FullPath → List IdleRow → ℕ → List Finding
 falling path rows k = when (latency_falls rows k)
     (finding path (kinds.Idle (LatencyFalls (k + 2) (row_in rows (k + 1)).latency (row_in rows k).latency)))
 
+-- it is worth its cost sooner (ACPI 6.5, 8.4.3.3); C states don't say when they are
+abbrev pub residency_falls : List IdleRow → ℕ → Bool
+residency_falls rows k = nat_lt (k + 1) (length rows) && nat_lt (row_in rows (k + 1)).residency (row_in rows k).residency
+
+abbrev pub shrinking : FullPath → List IdleRow → ℕ → List Finding
+shrinking path rows k = when (residency_falls rows k)
+    (finding path (kinds.Idle (ResidencyFalls (k + 2) (row_in rows (k + 1)).residency (row_in rows k).residency)))
+
 abbrev pub is_cst : IdleKind → Bool
 is_cst Lpi = false
 is_cst Cst = true
@@ -43,17 +51,14 @@ has_null (Integer n) = false
 
 -- a C state is entered by a register
 abbrev pub unentered : FullPath → IdleKind → List IdleRow → ℕ → List Finding
-unentered path kind rows k = when (is_cst kind && has_null (row_in rows k).entry) (finding path (kinds.Idle (NullState (k + 1))))
+unentered path kind rows k = when (is_cst kind && has_null (row_in rows k).entry) (finding path (kinds.Entry (NullState (k + 1))))
 
 abbrev pub state_findings : FullPath → IdleKind → List IdleRow → ℕ → List Finding
-state_findings path kind rows k = unentered path kind rows k ++ falling path rows k
+state_findings path kind rows k = unentered path kind rows k ++ (falling path rows k ++ shrinking path rows k)
 
 -- what is found of the states of a table, one after the other
 unfoldable pub idle_findings : FullPath → IdleTable → List Finding
 idle_findings path table = of_each (length (rows_of table)) (state_findings path table.kind (rows_of table))
-
-abbrev pub container_findings : ContainerParts → List Finding
-container_findings c = idle_findings c.path c.idle
 
 -- # Processor by processor
 
@@ -67,4 +72,16 @@ state_count c = length (rows_of c.idle)
 abbrev pub counted : CpuParts → Option CpuParts → List Finding
 counted c None = []
 counted c (Some first) = when (has_cst c && not (state_count c == state_count first))
-    (finding c.path (kinds.Idle (OtherCount (state_count c) first.path (state_count first))))
+    (finding c.path (kinds.Entry (OtherCount (state_count c) first.path (state_count first))))
+
+-- whether a state has an integer for its entry, which is added to the address of the register of a state below
+abbrev pub has_integer : EntryMethod → Bool
+has_integer (Register r) = false
+has_integer (Integer n) = true
+
+-- a processor's own state, which has none below
+abbrev pub summed : FullPath → List IdleRow → ℕ → List Finding
+summed path rows k = when (has_integer (row_in rows k).entry) (finding path (kinds.Entry (IntegerState (k + 1))))
+
+unfoldable pub integer_findings : FullPath → IdleTable → List Finding
+integer_findings path table = of_each (length (rows_of table)) (summed path (rows_of table))

@@ -1,7 +1,8 @@
-pub mod Findings
 pub mod Idle
-pub mod Scales
-pub mod Domains
+pub mod CStates
+pub mod Parents
+pub mod Cpcs
+pub mod Notes
+pub mod Tables
 pub mod Machine
-pub mod Words
 pub mod Laws

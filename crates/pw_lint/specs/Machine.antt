@@ -1,95 +1,108 @@
 -- What is found of a machine (ACPI 6.5, 8.4).
-use Rattle.std.specs.Prelude.{◌≡◌, ℕ, List, [], ◌∷◌, ◌++◌, codes, find, map, Result, Ok, Err, Option, Some, None}
+use Rattle.std.specs.Prelude.{◌≡◌, ◌&&◌, ◌||◌, ℕ, not, Bool, List, [], ◌++◌, codes, find, is_some, Err, Option, if◌then◌else◌}
 use Rattle.std.specs.List.{flat_map}
-use Rattle.aml_data.specs.declared.data.Data.{Data}
-use Rattle.aml_data.specs.declared.data.Width.{Width}
+use Rattle.acpi_values.specs.declared.idle.CState.{CState}
 use Rattle.aml_data.specs.declared.path.FullPath.{FullPath}
-use Rattle.acpi_fields.specs.Reading.{Read}
-use Rattle.acpi_values.specs.declared.performance.PState.{PState}
-use Rattle.acpi_values.specs.declared.performance.TState.{TState}
-use Rattle.acpi_perf.specs.Scales.{pss_of, tss_of}
-use Rattle.acpi_space.specs.Lookup.{entry_in, number_at}
 use Rattle.acpi_space.specs.Namespace.{Entry}
-use Rattle.acpi_space.specs.Places.{Place}
-use Rattle.acpi_space.specs.Things.{Thing}
-use Rattle.acpi_space.specs.Things.Thing.{data_object, device, processor, method, alias_of}
 use Rattle.acpi_build.specs.declared.fault.BuildFault.{BuildFault}
 use Rattle.acpi_build.specs.declared.note.Note.{Note}
 use Rattle.acpi_build.specs.Planning.{IsPlanFrom, parts_within}
-use Rattle.acpi_build.specs.Tables.{Given}
 use Rattle.pw_plan.specs.declared.domain.Domain.{Domain}
+use Rattle.pw_plan.specs.declared.domain.DomainKind.{DomainKind}
 use Rattle.pw_plan.specs.declared.domain.DomainKind.TheVariants.{Perf, Throttle}
 use Rattle.pw_plan.specs.declared.parts.ContainerParts.{ContainerParts}
 use Rattle.pw_plan.specs.declared.parts.CpuParts.{CpuParts}
 use Rattle.pw_plan.specs.declared.plan.Plan.{Plan}
-use Rattle.pw_lint.specs.declared.finding.Finding.{Finding}
-use Rattle.pw_lint.specs.Findings.{fault_findings, note_findings}
-use Rattle.pw_lint.specs.Idle.{container_findings, counted, has_cst, idle_findings}
-use Rattle.pw_lint.specs.Scales.{declares, of_scale, rate_findings}
-use Rattle.pw_lint.specs.Domains.{domain_findings}
+use Rattle.pw_findings.specs.declared.finding.Finding.{Finding}
+use Rattle.pw_findings.specs.declared.finding.FindingKind.TheVariants as kinds
+use Rattle.pw_findings.specs.declared.finding.OfLimit.TheVariants as limits
+use Rattle.pw_findings.specs.declared.finding.OfObject.TheVariants as objects
+use Rattle.pw_findings.specs.declared.finding.Unused.TheVariants.{NoStates}
+use Rattle.pw_lint.specs.Cpcs.{cpc_findings}
+use Rattle.pw_lint.specs.CStates.{cst_findings}
+use Rattle.pw_findings.specs.Domains.{domain_findings}
+use Rattle.pw_findings.specs.Findings.{finding, when}
+use Rattle.pw_lint.specs.Notes.{fault_findings, note_findings}
+use Rattle.pw_lint.specs.Idle.{counted, has_cst, idle_findings, integer_findings}
+use Rattle.pw_lint.specs.Parents.{around, parent_findings}
+use Rattle.pw_findings.specs.Scales.{declares, latency_findings, of_scale, rate_findings, shared, two_spaces}
+use Rattle.pw_lint.specs.Tables.{below, c_states, frequencies, p_states, percentages, registers, stands, t_states}
 
--- # How fast states are
+-- # Idle states
 
--- a data object, and the width of its integers; none of any other thing
-abbrev pub given_in : Width → Thing → Option Given
-given_in width (data_object d) = Some (record { object = d; width = width })
-given_in width device = None
-given_in width processor = None
-given_in width method = None
-given_in width (alias_of name) = None
+abbrev pub container_findings : List ContainerParts → ContainerParts → List Finding
+container_findings containers c = idle_findings c.path c.idle ++ parent_findings c.path (around containers c.parent) c.idle
 
-abbrev pub given_as : List Entry → Option ℕ → Option Given
-given_as entries None = None
-given_as entries (Some k) = given_in (entry_in entries k).width (entry_in entries k).object
+-- the C states that a processor idles in, none where it has others
+abbrev pub used_c_states : List Entry → CpuParts → List CState
+used_c_states entries c = if has_cst c then c_states entries c.path else []
 
--- the data object at a place
-unfoldable pub given_at : List Entry → Place → Option Given
-given_at entries place = given_as entries (number_at entries place)
+-- what is found of a processor's idle states, beside the first that has C states
+unfoldable pub cpu_idle_findings : List Entry → List ContainerParts → Option CpuParts → CpuParts → List Finding
+cpu_idle_findings entries containers first c =
+    idle_findings c.path c.idle
+    ++ (counted c first
+    ++ (cst_findings c.path (used_c_states entries c)
+    ++ (integer_findings c.path c.idle
+    ++ parent_findings c.path (around containers c.parent) c.idle)))
 
--- the states that are read of it, none where it means nothing
-abbrev pub states_read : {S : Type 0} → Read (List S) → List S
-states_read (Ok states) = states
-states_read (Err shape) = []
+-- # Performance and throttling states
 
-abbrev pub states_of : {S : Type 0} → (Width → Data → Read (List S)) → Option Given → List S
-states_of reads None = []
-states_of reads (Some given) = states_read (reads given.width given.object)
+-- an object that speaks of states, where there is no use for it
+abbrev pub stateless : List Entry → FullPath → DomainKind → Bool → List ℕ → List Finding
+stateless entries path kind used seg =
+    when (stands entries path seg && not used) (finding (below path seg) (kinds.Object (objects.Unused (NoStates kind))))
 
--- the frequencies of `_PSS` below a path, in MHz
-unfoldable pub frequencies : List Entry → FullPath → List ℕ
-frequencies entries path =
-    map (λ (s : PState). s.frequency) (states_of pss_of (given_at entries (path.segs ++ codes "_PSS" ∷ [])))
+-- `_PCT` without a `_PSS`, and `_PSD` without one or a `_CPC`
+unfoldable pub unused_perf : List Entry → FullPath → List Finding
+unused_perf entries path =
+    stateless entries path Perf (stands entries path (codes "_PSS")) (codes "_PCT")
+    ++ stateless entries path Perf (stands entries path (codes "_PSS") || stands entries path (codes "_CPC")) (codes "_PSD")
 
--- the percentages of `_TSS` below a path
-unfoldable pub percentages : List Entry → FullPath → List ℕ
-percentages entries path =
-    map (λ (s : TState). s.percent) (states_of tss_of (given_at entries (path.segs ++ codes "_TSS" ∷ [])))
+-- `_PTC` or `_TSD` without a `_TSS`
+unfoldable pub unused_throttle : List Entry → FullPath → List Finding
+unused_throttle entries path =
+    stateless entries path Throttle (stands entries path (codes "_TSS")) (codes "_PTC")
+    ++ stateless entries path Throttle (stands entries path (codes "_TSS")) (codes "_TSD")
+
+-- throttling states without a `_TPC`
+unfoldable pub unlimited : List Entry → CpuParts → List Finding
+unlimited entries c = when (is_some c.throttle && not (stands entries c.path (codes "_TPC")))
+    (finding c.path (kinds.Limit Throttle limits.Absent))
+
+-- of a processor's performance states, and of its throttling states, beside the first that declares a domain for its own
+unfoldable pub perf_findings : List Entry → Option CpuParts → CpuParts → List Finding
+perf_findings entries declaring c =
+    of_scale Perf c.path declaring c.perf
+    ++ (two_spaces c.path (registers entries c.path)
+    ++ (rate_findings Perf c.path (frequencies (p_states entries c.path))
+    ++ (latency_findings c.path (p_states entries c.path)
+    ++ unused_perf entries c.path)))
+
+unfoldable pub throttle_findings : List Entry → Option CpuParts → CpuParts → List Finding
+throttle_findings entries declaring c =
+    of_scale Throttle c.path declaring c.throttle
+    ++ (shared c
+    ++ (unlimited entries c
+    ++ (rate_findings Throttle c.path (percentages (t_states entries c.path))
+    ++ unused_throttle entries c.path)))
 
 -- # All of it
 
--- of a processor's performance states, and of its throttling states, beside the first that declares a domain for its own
-abbrev pub perf_findings : List Entry → Option CpuParts → CpuParts → List Finding
-perf_findings entries declaring c =
-    of_scale Perf c.path declaring c.perf ++ rate_findings Perf c.path (frequencies entries c.path)
-
-abbrev pub throttle_findings : List Entry → Option CpuParts → CpuParts → List Finding
-throttle_findings entries declaring c =
-    of_scale Throttle c.path declaring c.throttle ++ rate_findings Throttle c.path (percentages entries c.path)
-
--- what is found of a processor: its idle, its performance, its throttling states
-unfoldable pub cpu_findings : List Entry → List CpuParts → CpuParts → List Finding
-cpu_findings entries cpus c =
-    idle_findings c.path c.idle
-    ++ (counted c (find has_cst cpus)
+-- what is found of a processor: its idle, its performance, its throttling states, and continuous performance control
+unfoldable pub cpu_findings : List Entry → List ContainerParts → List CpuParts → CpuParts → List Finding
+cpu_findings entries containers cpus c =
+    cpu_idle_findings entries containers (find has_cst cpus) c
     ++ (perf_findings entries (find (declares Perf) cpus) c
-    ++ throttle_findings entries (find (declares Throttle) cpus) c))
+    ++ (throttle_findings entries (find (declares Throttle) cpus) c
+    ++ cpc_findings c.path c.cpc))
 
 -- What is found of a plan and its notes: by the notes, then of the containers, the processors and the domains.
 unfoldable pub findings : List Entry → List ContainerParts → List CpuParts → List Domain → List Note → List Finding
 findings entries containers cpus domains noted =
     flat_map note_findings noted
-    ++ (flat_map container_findings containers
-    ++ (flat_map (cpu_findings entries cpus) cpus
+    ++ (flat_map (container_findings containers) containers
+    ++ (flat_map (cpu_findings entries containers cpus) cpus
     ++ flat_map (domain_findings cpus) domains))
 
 -- These are the findings of objects: those of the plan that they tell of; or of why they make none.

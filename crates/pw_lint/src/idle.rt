@@ -1,13 +1,13 @@
 ghost use Rattle.std.specs.Prelude.{◌≡◌, ◌<◌, ◌++◌, find, length, option_copied, OnOk};
-ghost use Rattle.std.specs.List.{flat_map};
-ghost use Rattle.pw_lint.specs.Idle.{container_findings, counted, falling, has_cst, has_null};
-ghost use Rattle.pw_lint.specs.Idle.{idle_findings, is_cst, state_count, state_findings, unentered};
+ghost use Rattle.pw_lint.specs.Idle.{counted, falling, has_cst, has_integer, has_null, idle_findings};
+ghost use Rattle.pw_lint.specs.Idle.{integer_findings, is_cst, shrinking, state_count, state_findings};
+ghost use Rattle.pw_lint.specs.Idle.{summed, unentered};
 
-use crate::finding::{Finding, FindingKind, OfIdle, add};
 use acpi_values::{EntryMethod, IdleKind, IdleRow, IdleTable};
 use aml_data::{FullPath, copy_full_path};
 use pw_base::Memory;
-use pw_plan::{ContainerParts, CpuParts};
+use pw_findings::{Finding, FindingKind, OfEntry, OfIdle, add};
+use pw_plan::CpuParts;
 use std::alloc::Global;
 
 /// Whether states are C states.
@@ -44,8 +44,8 @@ fn find_unentered(
     ensures { OnOk result (found.new.items ≡ found.old.items ++ unentered path.now kind rows.now k) }
 {
     if is_cst(kind) && has_null(&rows[k].entry) {
-        let amiss = OfIdle::NullState { state: k + 1 };
-        return add(alloc, path, FindingKind::Idle(amiss), found);
+        let amiss = OfEntry::NullState { state: k + 1 };
+        return add(alloc, path, FindingKind::Entry(amiss), found);
     }
     Ok(())
 }
@@ -72,6 +72,28 @@ fn find_falling(
     Ok(())
 }
 
+/// Adds that the state behind row k is worth its cost sooner than that of row k.
+fn find_shrinking(
+    alloc: Global,
+    path: &FullPath,
+    rows: &[IdleRow],
+    k: usize,
+    found: &mut Vec<Finding>,
+) -> Result<(), Memory>
+    requires { k < length rows.now }
+    ensures { OnOk result (found.new.items ≡ found.old.items ++ shrinking path.now rows.now k) }
+{
+    if k + 1 < rows.len() && rows[k + 1].residency < rows[k].residency {
+        let amiss = OfIdle::ResidencyFalls {
+            state: k + 2,
+            residency: rows[k + 1].residency,
+            before: rows[k].residency,
+        };
+        return add(alloc, path, FindingKind::Idle(amiss), found);
+    }
+    Ok(())
+}
+
 /// Adds what is found of row k.
 fn find_in_state(
     alloc: Global,
@@ -85,12 +107,13 @@ fn find_in_state(
     ensures { OnOk result (found.new.items ≡ found.old.items ++ state_findings path.now kind rows.now k) }
 {
     find_unentered(alloc, path, kind, rows, k, found)?;
-    find_falling(alloc, path, rows, k, found)
+    find_falling(alloc, path, rows, k, found)?;
+    find_shrinking(alloc, path, rows, k, found)
 }
 
 /// Adds what is found of idle states.
 #[tactic(auto, unfolding(crate::specs::Idle::idle_findings))]
-pub(crate) fn find_in_idle(
+pub fn find_in_idle(
     alloc: Global,
     path: &FullPath,
     table: &IdleTable,
@@ -105,22 +128,8 @@ pub(crate) fn find_in_idle(
     Ok(())
 }
 
-/// Adds what is found of containers.
-pub(crate) fn find_in_containers(
-    alloc: Global,
-    containers: &[ContainerParts],
-    found: &mut Vec<Finding>,
-) -> Result<(), Memory>
-    ensures { OnOk result (found.new.items ≡ found.old.items ++ flat_map container_findings containers.now) }
-{
-    for container in containers {
-        find_in_idle(alloc, &container.path, &container.idle, found)?;
-    }
-    Ok(())
-}
-
 /// Whether a processor's idle states are C states.
-fn has_cst(cpu: &CpuParts) -> bool
+pub fn has_cst(cpu: &CpuParts) -> bool
     ensures { result ≡ has_cst cpu.now }
 {
     is_cst(cpu.idle.kind)
@@ -134,14 +143,14 @@ fn state_count(cpu: &CpuParts) -> usize
 }
 
 /// The first processor with C states.
-pub(crate) fn first_with_cst(cpus: &[CpuParts]) -> Option<&CpuParts>
+pub fn first_with_cst(cpus: &[CpuParts]) -> Option<&CpuParts>
     ensures { option_copied result ≡ find has_cst cpus.now }
 {
     cpus.iter().find(|cpu| has_cst(cpu))
 }
 
 /// Adds that a processor has another number of C states than the first that has any.
-pub(crate) fn find_counted(
+pub fn find_counted(
     alloc: Global,
     cpu: &CpuParts,
     first: Option<&CpuParts>,
@@ -157,10 +166,55 @@ pub(crate) fn find_counted(
     if !has_cst(cpu) || count == there {
         return Ok(());
     }
-    let amiss = OfIdle::OtherCount {
+    let amiss = OfEntry::OtherCount {
         count,
         first: copy_full_path(alloc, &first.path)?,
         there,
     };
-    add(alloc, &cpu.path, FindingKind::Idle(amiss), found)
+    add(alloc, &cpu.path, FindingKind::Entry(amiss), found)
+}
+
+/// Whether a state has an integer for its entry.
+fn has_integer(entry: &EntryMethod) -> bool
+    ensures { result ≡ has_integer entry.now }
+{
+    match entry {
+        EntryMethod::Register(_) => false,
+        EntryMethod::Integer(_) => true,
+    }
+}
+
+/// Adds that row k, of a processor, has an integer for its entry.
+fn find_summed(
+    alloc: Global,
+    path: &FullPath,
+    rows: &[IdleRow],
+    k: usize,
+    found: &mut Vec<Finding>,
+) -> Result<(), Memory>
+    requires { k < length rows.now }
+    ensures { OnOk result (found.new.items ≡ found.old.items ++ summed path.now rows.now k) }
+{
+    if has_integer(&rows[k].entry) {
+        let amiss = OfEntry::IntegerState { state: k + 1 };
+        return add(alloc, path, FindingKind::Entry(amiss), found);
+    }
+    Ok(())
+}
+
+/// Adds which of a processor's idle states have integers for their entries.
+#[tactic(auto, unfolding(crate::specs::Idle::integer_findings))]
+pub fn find_integers(
+    alloc: Global,
+    path: &FullPath,
+    table: &IdleTable,
+    found: &mut Vec<Finding>,
+) -> Result<(), Memory>
+    ensures { OnOk result (found.new.items ≡ found.old.items ++ integer_findings path.now table.now) }
+{
+    let rows = table.states();
+    for k in 0..rows.len() {
+        find_summed(alloc, path, rows, k, found)?;
+    }
+    Ok(())
 }

@@ -11,13 +11,13 @@ ghost use Rattle.pw_plan.specs.declared.domain.Domain.{Domain as domain_type};
 ghost use Rattle.pw_plan.specs.declared.domain.DomainKind.{DomainKind as kind_type};
 ghost use Rattle.pw_plan.specs.declared.parts.ContainerParts.{ContainerParts as container_type};
 ghost use Rattle.pw_plan.specs.declared.parts.CpuParts.{CpuParts as cpu_type};
-ghost use Rattle.pw_lint.specs.declared.finding.Finding.{Finding as finding_type};
-ghost use Rattle.pw_lint.specs.Domains.{domain_findings};
+ghost use Rattle.pw_findings.specs.declared.finding.Finding.{Finding as finding_type};
+ghost use Rattle.pw_findings.specs.Domains.{domain_findings, unfit_findings};
 ghost use Rattle.pw_lint.specs.Idle.{counted, idle_findings};
-ghost use Rattle.pw_lint.specs.Laws.{IsCounted, IsFalling, IsFound, IsFoundOfCpu, IsRepeated, IsRising};
-ghost use Rattle.pw_lint.specs.Laws.{IsStill, IsUnentered};
+ghost use Rattle.pw_lint.specs.Laws.{IsCounted, IsFalling, IsFound, IsFoundOfCpu, IsFoundOfDomain, IsRepeated};
+ghost use Rattle.pw_lint.specs.Laws.{IsRising, IsShrinking, IsStill, IsUnentered};
 ghost use Rattle.pw_lint.specs.Machine.{cpu_findings, findings};
-ghost use Rattle.pw_lint.specs.Scales.{rate_findings};
+ghost use Rattle.pw_findings.specs.Scales.{rate_findings};
 
 /// What is found of a machine is what is found of its notes, its containers, its processors and its domains.
 pub fn findings_are_of_objects()
@@ -25,29 +25,33 @@ pub fn findings_are_of_objects()
         (domains : List domain_type) (noted : List note_type) (f : finding_type)
         → Contains (findings entries containers cpus domains noted) f
         ↔ IsFound entries containers cpus domains noted f }
-    ensures processor { (entries : List entry_type) (cpus : List cpu_type) (c : cpu_type) (f : finding_type)
-        → Contains (cpu_findings entries cpus c) f ↔ IsFoundOfCpu entries cpus c f }
+    ensures processor { (entries : List entry_type) (containers : List container_type) (cpus : List cpu_type)
+        (c : cpu_type) (f : finding_type)
+        → Contains (cpu_findings entries containers cpus c) f ↔ IsFoundOfCpu entries containers cpus c f }
+    ensures domain { (cpus : List cpu_type) (d : domain_type) (f : finding_type)
+        → Contains (domain_findings cpus d) f ↔ IsFoundOfDomain cpus d f }
 {}
 
-/// What is found of idle states: each that wakes sooner than the one before it, each C state with the null
-/// register, and another number of C states than the first processor with any has (ACPI 6.5, 8.4.1.1 and
-/// 8.4.3.3).
+/// What is found of idle states: each that wakes sooner than the one before it or is worth its cost sooner,
+/// each C state with the null register, and another number of C states than the first processor with any has
+/// (ACPI 6.5, 8.4.1.1 and 8.4.3.3).
 pub fn findings_of_idle_states()
     ensures states { (path : path_type) (t : table_type) (f : finding_type)
-        → Contains (idle_findings path t) f ↔ (IsUnentered path t f ⊎ IsFalling path (rows_of t) f) }
+        → Contains (idle_findings path t) f
+        ↔ (IsUnentered path t f ⊎ (IsFalling path (rows_of t) f ⊎ IsShrinking path (rows_of t) f)) }
     ensures count { (c : cpu_type) (first : Option cpu_type) (f : finding_type)
         → Contains (counted c first) f ↔ IsCounted c first f }
 {}
 
-/// What is found of rates: each of 0, each that is faster than the one before it, each that is the same
-/// (ACPI 6.5, 8.4.5.2 and 8.4.4.2).
+/// What is found of rates: each of 0, each that is faster than the one before it, the first that is the same
+/// as an earlier one (ACPI 6.5, 8.4.5.2 and 8.4.4.2).
 pub fn findings_of_rates()
     ensures { (kind : kind_type) (path : path_type) (rates : List ℕ) (f : finding_type)
         → Contains (rate_findings kind path rates) f
-        ↔ (IsStill kind path rates f ⊎ (IsRising kind path rates f ⊎ IsRepeated kind path rates f)) }
+        ↔ ((IsStill kind path rates f ⊎ IsRising kind path rates f) ⊎ IsRepeated kind path rates f) }
 {}
 
-/// Something is found of a domain exactly where it is unfit (ACPI 6.5, 8.3).
+/// A reason is found of a domain exactly where it is unfit (ACPI 6.5, 8.3).
 pub fn findings_of_domains()
-    ensures { (cpus : List cpu_type) (d : domain_type) → (domain_findings cpus d ≡ []) ↔ (d.unfit ≡ 0) }
+    ensures { (cpus : List cpu_type) (d : domain_type) → (unfit_findings cpus d ≡ []) ↔ (d.unfit ≡ 0) }
 {}

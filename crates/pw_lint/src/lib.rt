@@ -1,24 +1,19 @@
-//! What `lint` finds amiss with a machine's tables, in words: what is wrong by the standard, and what is allowed and
-//! known to surprise.
+//! What `lint` finds amiss with a machine's tables: of the notes of its plan, of its containers, processors
+//! and domains, or why there is no plan.
 #![tactic(auto)]
 
-mod domains;
-mod finding;
+mod c_states;
+mod cpcs;
 mod idle;
 mod laws;
 mod linting;
 mod notes;
-mod printing;
+mod parents;
 mod processors;
-mod putting;
 mod rates;
-mod scales;
-mod telling;
-mod words;
+mod reading;
 
-pub use finding::{DomainId, Finding, FindingKind, OfDomain, OfIdle, OfObject, OfScale};
 pub use laws::{
     findings_are_of_objects, findings_of_domains, findings_of_idle_states, findings_of_rates,
 };
 pub use linting::find_all;
-pub use printing::print_findings;

@@ -2,14 +2,12 @@ ghost use Rattle.std.specs.Prelude.{◌≡◌, IfOk};
 ghost use Rattle.acpi_build.specs.Tables.{AreCountable};
 ghost use Rattle.pw_lint.specs.Machine.{findings, AreFindings};
 
-use crate::domains::find_in_domains;
-use crate::finding::Finding;
-use crate::idle::find_in_containers;
 use crate::notes::{find_in_fault, find_in_notes};
-use crate::processors::find_in_cpus;
+use crate::processors::{find_in_containers, find_in_cpus};
 use acpi_build::{Note, plan};
 use acpi_space::Space;
 use pw_base::Memory;
+use pw_findings::{Finding, find_in_domains};
 use pw_plan::Plan;
 use std::alloc::Global;
 
@@ -25,11 +23,12 @@ fn findings(
     ensures { IfOk result (λ r. r.items
         ≡ findings space.now plan.now.containers plan.now.cpus plan.now.domains notes.now) }
 {
+    let containers = plan.containers.as_slice();
     let cpus = plan.cpus.as_slice();
     let mut found = Vec::new(alloc);
     find_in_notes(alloc, notes, &mut found)?;
-    find_in_containers(alloc, plan.containers.as_slice(), &mut found)?;
-    find_in_cpus(alloc, space, cpus, &mut found)?;
+    find_in_containers(alloc, containers, &mut found)?;
+    find_in_cpus(alloc, space, containers, cpus, &mut found)?;
     find_in_domains(alloc, cpus, plan.domains.as_slice(), &mut found)?;
     Ok(found)
 }

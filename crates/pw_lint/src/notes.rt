@@ -1,24 +1,25 @@
 ghost use Rattle.std.specs.Prelude.{◌≡◌, ◌≢◌, ◌∷◌, ◌++◌, [], IfOk, OnOk};
 ghost use Rattle.std.specs.List.{flat_map};
-ghost use Rattle.pw_lint.specs.Findings.{fault_findings, finding, note_findings, noted_kind};
+ghost use Rattle.pw_findings.specs.Findings.{finding};
+ghost use Rattle.pw_lint.specs.Notes.{fault_findings, note_findings, noted_kind};
 ghost use Rattle.acpi_build.specs.declared.fault.BuildFault.TheVariants.{Memory as no_memory};
 
-use crate::finding::{Finding, FindingKind, OfObject, add};
 use acpi_build::{BuildFault, Note, NoteKind};
 use aml_data::FullPath;
 use pw_base::{List, Memory};
+use pw_findings::{Finding, FindingKind, OfObject, Unused, add};
 use std::alloc::Global;
 
 /// What a note says of its object.
-fn noted_kind(kind: NoteKind) -> Option<OfObject>
+fn noted_kind(kind: NoteKind) -> Option<Unused>
     ensures { result ≡ noted_kind kind }
 {
     match kind {
-        NoteKind::ByMethod => Some(OfObject::ByMethod),
-        NoteKind::ByAlias => Some(OfObject::ByAlias),
-        NoteKind::Empty => Some(OfObject::Empty),
-        NoteKind::Ignored => Some(OfObject::Unused),
-        NoteKind::NoSuchState => Some(OfObject::NoSuchState),
+        NoteKind::ByMethod => Some(Unused::Method),
+        NoteKind::ByAlias => Some(Unused::Alias),
+        NoteKind::Empty => Some(Unused::Empty),
+        NoteKind::Ignored => Some(Unused::BesideLpi),
+        NoteKind::NoSuchState => Some(Unused::NoSuchState),
         NoteKind::UnfitDomain { domain: _ } => None,
     }
 }
@@ -29,7 +30,10 @@ fn find_in_note(alloc: Global, note: &Note, found: &mut Vec<Finding>) -> Result<
 {
     match noted_kind(note.kind) {
         None => Ok(()),
-        Some(amiss) => add(alloc, &note.path, FindingKind::Object(amiss), found),
+        Some(why) => {
+            let amiss = OfObject::Unused(why);
+            add(alloc, &note.path, FindingKind::Object(amiss), found)
+        }
     }
 }
 

@@ -1,18 +1,170 @@
-ghost use Rattle.std.specs.Prelude.{◌≡◌, ◌++◌, option_copied, OnOk};
+//! What is found of containers and processors.
+
+ghost use Rattle.std.specs.Prelude.{◌≡◌, ◌++◌, option_copied, IfOk, OnOk};
 ghost use Rattle.std.specs.List.{flat_map};
 ghost use Rattle.acpi_build.specs.Tables.{AreCountable};
-ghost use Rattle.pw_lint.specs.Machine.{cpu_findings, perf_findings, throttle_findings};
+ghost use Rattle.pw_lint.specs.Machine.{container_findings, cpu_findings, cpu_idle_findings, perf_findings, stateless};
+ghost use Rattle.pw_lint.specs.Machine.{throttle_findings, unlimited, unused_perf, unused_throttle, used_c_states};
 
-use crate::finding::Finding;
-use crate::idle::{find_counted, find_in_idle, first_with_cst};
-use crate::rates::{find_in_rates, frequencies, percentages};
-use crate::scales::{find_in_scale, first_declaring};
+use crate::c_states::find_in_cst;
+use crate::cpcs::find_in_cpc;
+use crate::idle::{find_counted, find_in_idle, find_integers, first_with_cst, has_cst};
+use crate::parents::{around, find_beside_parent};
+use crate::rates::{find_hasty, find_in_rates};
+use crate::reading::{
+    c_states, frequencies, p_states, path_below, percentages, registers, stands, t_states,
+};
 use acpi_space::Space;
+use acpi_values::CState;
+use aml_data::{FullPath, Seg};
 use pw_base::Memory;
-use pw_plan::{CpuParts, DomainKind};
+use pw_findings::{
+    Finding, FindingKind, OfLimit, OfObject, Unused, add_when, find_in_scale, find_shared,
+    find_two_spaces, first_declaring,
+};
+use pw_plan::{ContainerParts, CpuParts, DomainKind};
 use std::alloc::Global;
 
+/// Adds what is found of a container.
+fn find_in_container(
+    alloc: Global,
+    containers: &[ContainerParts],
+    container: &ContainerParts,
+    found: &mut Vec<Finding>,
+) -> Result<(), Memory>
+    ensures { OnOk result (found.new.items ≡ found.old.items
+        ++ container_findings containers.now container.now) }
+{
+    let parent = around(containers, container.parent);
+    find_in_idle(alloc, &container.path, &container.idle, found)?;
+    find_beside_parent(alloc, &container.path, parent, &container.idle, found)
+}
+
+/// Adds what is found of containers.
+pub(crate) fn find_in_containers(
+    alloc: Global,
+    containers: &[ContainerParts],
+    found: &mut Vec<Finding>,
+) -> Result<(), Memory>
+    ensures { OnOk result (found.new.items ≡ found.old.items
+        ++ flat_map (container_findings containers.now) containers.now) }
+{
+    for container in containers {
+        find_in_container(alloc, containers, container, found)?;
+    }
+    Ok(())
+}
+
+/// The C states that a processor idles in, none where it has others.
+fn used_c_states(alloc: Global, space: &Space<'_>, cpu: &CpuParts) -> Result<Vec<CState>, Memory>
+    requires { AreCountable space.now }
+    ensures { IfOk result (λ r. r.items ≡ used_c_states space.now cpu.now) }
+{
+    if has_cst(cpu) {
+        return c_states(alloc, space, &cpu.path);
+    }
+    Ok(Vec::new(alloc))
+}
+
+/// Adds what is found of a processor's idle states, beside the first that has C states.
+#[tactic(auto, unfolding(crate::specs::Machine::cpu_idle_findings))]
+fn find_in_cpu_idle(
+    alloc: Global,
+    space: &Space<'_>,
+    containers: &[ContainerParts],
+    first: Option<&CpuParts>,
+    cpu: &CpuParts,
+    found: &mut Vec<Finding>,
+) -> Result<(), Memory>
+    requires { AreCountable space.now }
+    ensures { OnOk result (found.new.items ≡ found.old.items
+        ++ cpu_idle_findings space.now containers.now (option_copied first.entry) cpu.now) }
+{
+    let states = used_c_states(alloc, space, cpu)?;
+    let parent = around(containers, cpu.parent);
+    find_in_idle(alloc, &cpu.path, &cpu.idle, found)?;
+    find_counted(alloc, cpu, first, found)?;
+    find_in_cst(alloc, &cpu.path, &states, found)?;
+    find_integers(alloc, &cpu.path, &cpu.idle, found)?;
+    find_beside_parent(alloc, &cpu.path, parent, &cpu.idle, found)
+}
+
+/// Adds that an object speaks of states, where there is no use for it.
+fn find_stateless(
+    alloc: Global,
+    space: &Space<'_>,
+    path: &FullPath,
+    kind: DomainKind,
+    used: bool,
+    seg: Seg,
+    found: &mut Vec<Finding>,
+) -> Result<(), Memory>
+    ensures { OnOk result (found.new.items ≡ found.old.items ++ stateless space.now path.now kind used seg) }
+{
+    let unused = stands(alloc, space, path, seg)? && !used;
+    let table = path_below(alloc, path, seg)?;
+    let amiss = OfObject::Unused(Unused::NoStates(kind));
+    add_when(alloc, unused, &table, FindingKind::Object(amiss), found)
+}
+
+/// Adds that `_PCT` or `_PSD` stands without a `_PSS`, and `_PSD` without a `_CPC`.
+#[tactic(auto, unfolding(crate::specs::Machine::unused_perf))]
+fn find_unused_perf(
+    alloc: Global,
+    space: &Space<'_>,
+    path: &FullPath,
+    found: &mut Vec<Finding>,
+) -> Result<(), Memory>
+    ensures { OnOk result (found.new.items ≡ found.old.items ++ unused_perf space.now path.now) }
+{
+    let kind = DomainKind::Perf;
+    let pss = stands(alloc, space, path, Seg::of_segment(*b"_PSS"))?;
+    let cpc = stands(alloc, space, path, Seg::of_segment(*b"_CPC"))?;
+    let pct = Seg::of_segment(*b"_PCT");
+    let psd = Seg::of_segment(*b"_PSD");
+    find_stateless(alloc, space, path, kind, pss, pct, found)?;
+    find_stateless(alloc, space, path, kind, pss || cpc, psd, found)
+}
+
+/// Adds that `_PTC` or `_TSD` stands without a `_TSS`.
+#[tactic(auto, unfolding(crate::specs::Machine::unused_throttle))]
+fn find_unused_throttle(
+    alloc: Global,
+    space: &Space<'_>,
+    path: &FullPath,
+    found: &mut Vec<Finding>,
+) -> Result<(), Memory>
+    ensures { OnOk result (found.new.items ≡ found.old.items ++ unused_throttle space.now path.now) }
+{
+    let kind = DomainKind::Throttle;
+    let tss = stands(alloc, space, path, Seg::of_segment(*b"_TSS"))?;
+    let ptc = Seg::of_segment(*b"_PTC");
+    let tsd = Seg::of_segment(*b"_TSD");
+    find_stateless(alloc, space, path, kind, tss, ptc, found)?;
+    find_stateless(alloc, space, path, kind, tss, tsd, found)
+}
+
+/// Adds that throttling states have no `_TPC`.
+#[tactic(auto, unfolding(crate::specs::Machine::unlimited))]
+fn find_unlimited(
+    alloc: Global,
+    space: &Space<'_>,
+    cpu: &CpuParts,
+    found: &mut Vec<Finding>,
+) -> Result<(), Memory>
+    ensures { OnOk result (found.new.items ≡ found.old.items ++ unlimited space.now cpu.now) }
+{
+    let limited = stands(alloc, space, &cpu.path, Seg::of_segment(*b"_TPC"))?;
+    let absent = cpu.throttle.is_some() && !limited;
+    let kind = FindingKind::Limit {
+        kind: DomainKind::Throttle,
+        of: OfLimit::Absent,
+    };
+    add_when(alloc, absent, &cpu.path, kind, found)
+}
+
 /// Adds what is found of a processor's performance states.
+#[tactic(auto, unfolding(crate::specs::Machine::perf_findings))]
 fn find_in_perf(
     alloc: Global,
     space: &Space<'_>,
@@ -24,12 +176,19 @@ fn find_in_perf(
     ensures { OnOk result (found.new.items ≡ found.old.items
         ++ perf_findings space.now (option_copied declaring.entry) cpu.now) }
 {
-    find_in_scale(alloc, DomainKind::Perf, cpu, declaring, found)?;
-    let rates = frequencies(alloc, space, &cpu.path)?;
-    find_in_rates(alloc, DomainKind::Perf, &cpu.path, &rates, found)
+    let kind = DomainKind::Perf;
+    let pair = registers(alloc, space, &cpu.path)?;
+    let states = p_states(alloc, space, &cpu.path)?;
+    let rates = frequencies(alloc, &states)?;
+    find_in_scale(alloc, kind, cpu, declaring, found)?;
+    find_two_spaces(alloc, &cpu.path, pair, found)?;
+    find_in_rates(alloc, kind, &cpu.path, &rates, found)?;
+    find_hasty(alloc, &cpu.path, &states, found)?;
+    find_unused_perf(alloc, space, &cpu.path, found)
 }
 
 /// Adds what is found of a processor's throttling states.
+#[tactic(auto, unfolding(crate::specs::Machine::throttle_findings))]
 fn find_in_throttle(
     alloc: Global,
     space: &Space<'_>,
@@ -41,9 +200,14 @@ fn find_in_throttle(
     ensures { OnOk result (found.new.items ≡ found.old.items
         ++ throttle_findings space.now (option_copied declaring.entry) cpu.now) }
 {
-    find_in_scale(alloc, DomainKind::Throttle, cpu, declaring, found)?;
-    let rates = percentages(alloc, space, &cpu.path)?;
-    find_in_rates(alloc, DomainKind::Throttle, &cpu.path, &rates, found)
+    let kind = DomainKind::Throttle;
+    let states = t_states(alloc, space, &cpu.path)?;
+    let rates = percentages(alloc, &states)?;
+    find_in_scale(alloc, kind, cpu, declaring, found)?;
+    find_shared(alloc, cpu, found)?;
+    find_unlimited(alloc, space, cpu, found)?;
+    find_in_rates(alloc, kind, &cpu.path, &rates, found)?;
+    find_unused_throttle(alloc, space, &cpu.path, found)
 }
 
 /// Adds what is found of a processor.
@@ -51,44 +215,38 @@ fn find_in_throttle(
 fn find_in_cpu(
     alloc: Global,
     space: &Space<'_>,
+    containers: &[ContainerParts],
     cpus: &[CpuParts],
     cpu: &CpuParts,
     found: &mut Vec<Finding>,
 ) -> Result<(), Memory>
     requires { AreCountable space.now }
-    ensures { OnOk result (found.new.items ≡ found.old.items ++ cpu_findings space.now cpus.now cpu.now) }
+    ensures { OnOk result (found.new.items ≡ found.old.items
+        ++ cpu_findings space.now containers.now cpus.now cpu.now) }
 {
-    find_in_idle(alloc, &cpu.path, &cpu.idle, found)?;
-    find_counted(alloc, cpu, first_with_cst(cpus), found)?;
-    find_in_perf(
-        alloc,
-        space,
-        cpu,
-        first_declaring(DomainKind::Perf, cpus),
-        found,
-    )?;
-    find_in_throttle(
-        alloc,
-        space,
-        cpu,
-        first_declaring(DomainKind::Throttle, cpus),
-        found,
-    )
+    let perf = first_declaring(DomainKind::Perf, cpus);
+    let throttle = first_declaring(DomainKind::Throttle, cpus);
+    let first = first_with_cst(cpus);
+    find_in_cpu_idle(alloc, space, containers, first, cpu, found)?;
+    find_in_perf(alloc, space, cpu, perf, found)?;
+    find_in_throttle(alloc, space, cpu, throttle, found)?;
+    find_in_cpc(alloc, &cpu.path, &cpu.cpc, found)
 }
 
 /// Adds what is found of processors.
 pub(crate) fn find_in_cpus(
     alloc: Global,
     space: &Space<'_>,
+    containers: &[ContainerParts],
     cpus: &[CpuParts],
     found: &mut Vec<Finding>,
 ) -> Result<(), Memory>
     requires { AreCountable space.now }
     ensures { OnOk result (found.new.items ≡ found.old.items
-        ++ flat_map (cpu_findings space.now cpus.now) cpus.now) }
+        ++ flat_map (cpu_findings space.now containers.now cpus.now) cpus.now) }
 {
     for cpu in cpus {
-        find_in_cpu(alloc, space, cpus, cpu, found)?;
+        find_in_cpu(alloc, space, containers, cpus, cpu, found)?;
     }
     Ok(())
 }

@@ -12,11 +12,11 @@ use Rattle.pw_plan.specs.declared.plan.Plan.{Plan}
 use Rattle.acpi_build.proofs.Planned.{same_plan}
 use Rattle.pw_check.specs.CheckText.{check_text}
 use Rattle.pw_check.specs.Refusals.{refusal_line}
-use Rattle.pw_lint.specs.declared.finding.Finding.{Finding}
-use Rattle.pw_lint.specs.Findings.{fault_findings}
+use Rattle.pw_findings.specs.declared.finding.Finding.{Finding}
+use Rattle.pw_lint.specs.Notes.{fault_findings}
 use Rattle.pw_lint.specs.Machine.{AreFindings}
 use Rattle.pw_lint.specs.Machine.AreFindings.{of_plan, of_fault}
-use Rattle.pw_lint.specs.Words.{findings_text}
+use Rattle.pw_findings.specs.Words.{findings_text}
 use Rattle.aml_block.specs.Held.{name_at}
 use Rattle.aml_block.proofs.OneReading.{same_blocks, same_first_fault, blocks_not_fault}
 use Rattle.pw_words.specs.declared.command.Task.{Task}

@@ -12,9 +12,9 @@ use Rattle.pw_plan.specs.declared.plan.Plan.{Plan}
 use Rattle.pw_show.specs.Show.{show_text}
 use Rattle.pw_show.specs.Json.{json_text}
 use Rattle.pw_check.specs.CheckText.{check_text}
-use Rattle.pw_lint.specs.declared.finding.Finding.{Finding}
+use Rattle.pw_findings.specs.declared.finding.Finding.{Finding}
+use Rattle.pw_findings.specs.Words.{findings_text}
 use Rattle.pw_lint.specs.Machine.{AreFindings}
-use Rattle.pw_lint.specs.Words.{findings_text}
 use Rattle.pw_words.specs.declared.command.Task.{Task}
 use Rattle.pw_words.specs.declared.command.Task.TheVariants.{Show, ShowAsJson, Rewrite, Check, Lint}
 use Rattle.pw_load.specs.Ends.{Work}

@@ -1,5 +1,5 @@
 use Rattle.pw_lint.specs.Idle.{state_findings}
-use Rattle.pw_lint.proofs.Added.{added_number}
+use Rattle.pw_findings.proofs.Added.{added_number}
 use Rattle.pw_lint.proofs.idle.find_in_idle.Goals as goal
 
 pub loop-k-preserved : goal.loop-k-preserved

@@ -1,5 +1,5 @@
 use Rattle.std.proofs.Common.{◌≡◌, ◌++◌}
-use Rattle.pw_lint.specs.Findings.{of_each}
+use Rattle.pw_findings.specs.Findings.{of_each}
 use Rattle.pw_lint.specs.Idle.{state_findings}
 use Rattle.pw_lint.proofs.idle.find_in_idle.Given as goal
 

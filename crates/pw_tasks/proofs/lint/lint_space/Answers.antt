@@ -1,5 +1,5 @@
 use Rattle.std.proofs.Common.{inr, ap, codes}
-use Rattle.pw_lint.specs.Words.{findings_text}
+use Rattle.pw_findings.specs.Words.{findings_text}
 use Rattle.pw_load.specs.Ends.Stops.{without_memory}
 use Rattle.pw_load.specs.Ends.Does.{stopped}
 use Rattle.pw_load.proofs.Outcomes.{did_print, ended_saying}

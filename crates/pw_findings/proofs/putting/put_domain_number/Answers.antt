@@ -1,0 +1,4 @@
+use Rattle.pw_findings.proofs.putting.put_domain_number.Goals as goal
+
+pub returns-in-Some : goal.returns-in-Some
+returns-in-Some g c = rw c.in-Some.is (rw c.from.ensures at c.put_labelled.ensures)

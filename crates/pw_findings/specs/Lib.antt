@@ -1,0 +1,5 @@
+pub mod Words
+pub mod Findings
+pub mod Firsts
+pub mod Scales
+pub mod Domains

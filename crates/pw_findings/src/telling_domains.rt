@@ -1,0 +1,175 @@
+ghost use Rattle.std.specs.Prelude.{◌≡◌, is_ok};
+ghost use Rattle.pw_text.specs.Puts.{PutsText};
+ghost use Rattle.pw_findings.specs.declared.finding.OfDomain.TheVariants.{OtherType};
+ghost use Rattle.pw_findings.specs.declared.finding.OfMember.TheVariants.{OtherControl};
+ghost use Rattle.pw_findings.specs.Words.{behind, declared_words, member_words};
+
+use crate::finding::{DomainId, OfDomain, OfMember};
+use crate::putting::{Word, put_words};
+use acpi_values::Coord;
+use aml_data::FullPath;
+use pw_base::{Failed, Sink};
+use pw_text::Page;
+
+/// Puts that members declare two coordination types.
+fn put_other_type<K: Sink>(
+    page: &mut Page,
+    sink: &mut K,
+    id: DomainId,
+    coord: Coord,
+    other: &FullPath,
+    there: Coord,
+) -> Result<(), Failed>
+    ensures { PutsText K.Sink sink.old sink.new page.old page.new
+        (behind (declared_words id (OtherType coord other.now there))) (is_ok result) }
+{
+    let words = [
+        Word::Text(b"W-DOMAIN-TYPE declares"),
+        Word::Coord(coord),
+        Word::Text(b"for"),
+        Word::Domain(id),
+        Word::Text(b"and"),
+        Word::Path(other),
+        Word::Text(b"declares"),
+        Word::Coord(there),
+    ];
+    put_words(page, sink, &words)
+}
+
+/// Puts what is amiss with what is declared of a domain.
+pub(crate) fn put_declared<K: Sink>(
+    page: &mut Page,
+    sink: &mut K,
+    id: DomainId,
+    amiss: &OfDomain,
+) -> Result<(), Failed>
+    ensures { PutsText K.Sink sink.old sink.new page.old page.new
+        (behind (declared_words id amiss.now)) (is_ok result) }
+{
+    match amiss {
+        OfDomain::OtherType {
+            coord,
+            other,
+            there,
+        } => put_other_type(page, sink, id, *coord, other, *there),
+        OfDomain::OtherNumber {
+            processors,
+            other,
+            there,
+        } => put_words(
+            page,
+            sink,
+            &[
+                Word::Text(b"W-DOMAIN-NUMBER declares"),
+                Word::Number(*processors),
+                Word::Text(b"processors for"),
+                Word::Domain(id),
+                Word::Text(b"and"),
+                Word::Path(other),
+                Word::Text(b"declares"),
+                Word::Number(*there),
+            ],
+        ),
+        OfDomain::OtherSize {
+            processors,
+            members,
+        } => put_words(
+            page,
+            sink,
+            &[
+                Word::Text(b"W-DOMAIN-SIZE declares"),
+                Word::Number(*processors),
+                Word::Text(b"processors for"),
+                Word::Domain(id),
+                Word::Text(b"which has"),
+                Word::Count(*members),
+            ],
+        ),
+    }
+}
+
+/// Puts that a state of the first member and that of another have two control values.
+fn put_other_control<K: Sink>(
+    page: &mut Page,
+    sink: &mut K,
+    id: DomainId,
+    first: (usize, u32),
+    other: &FullPath,
+    there: u32,
+) -> Result<(), Failed>
+    ensures { PutsText K.Sink sink.old sink.new page.old page.new
+        (behind (member_words id (OtherControl first.0 first.1 other.now there))) (is_ok result) }
+{
+    let (state, value) = first;
+    let words = [
+        Word::Text(b"U-DOMAIN-CONTROL writes"),
+        Word::Number(value),
+        Word::Text(b"for state"),
+        Word::Count(state),
+        Word::Text(b"in"),
+        Word::Domain(id),
+        Word::Text(b"and"),
+        Word::Path(other),
+        Word::Text(b"writes"),
+        Word::Number(there),
+    ];
+    put_words(page, sink, &words)
+}
+
+/// Puts what is amiss with the states of a domain's members.
+pub(crate) fn put_member<K: Sink>(
+    page: &mut Page,
+    sink: &mut K,
+    id: DomainId,
+    amiss: &OfMember,
+) -> Result<(), Failed>
+    ensures { PutsText K.Sink sink.old sink.new page.old page.new
+        (behind (member_words id amiss.now)) (is_ok result) }
+{
+    match amiss {
+        OfMember::OtherLength {
+            count,
+            other,
+            there,
+        } => put_words(
+            page,
+            sink,
+            &[
+                Word::Text(b"W-DOMAIN-STATES has"),
+                Word::Count(*count),
+                Word::Text(b"states in"),
+                Word::Domain(id),
+                Word::Text(b"and"),
+                Word::Path(other),
+                Word::Text(b"has"),
+                Word::Count(*there),
+            ],
+        ),
+        OfMember::NoRegister { other } => put_words(
+            page,
+            sink,
+            &[
+                Word::Text(b"W-DOMAIN-REGISTER is in"),
+                Word::Domain(id),
+                Word::Text(b"without a control register at"),
+                Word::Path(other),
+            ],
+        ),
+        OfMember::OtherRegister { other } => put_words(
+            page,
+            sink,
+            &[
+                Word::Text(b"U-DOMAIN-APART is in"),
+                Word::Domain(id),
+                Word::Text(b"with another control register than"),
+                Word::Path(other),
+            ],
+        ),
+        OfMember::OtherControl {
+            state,
+            value,
+            other,
+            there,
+        } => put_other_control(page, sink, id, (*state, *value), other, *there),
+    }
+}

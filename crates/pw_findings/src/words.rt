@@ -1,0 +1,131 @@
+ghost use Rattle.std.specs.Prelude.{◌≡◌};
+ghost use Rattle.pw_findings.specs.Words.{bounded_words, control_word, coord_word, domain_word, limit_word};
+ghost use Rattle.pw_findings.specs.Words.{level_words, states_word, unit_word, unused_words, why_words};
+
+use crate::finding::Unused;
+use acpi_values::{Coord, Why};
+use pw_plan::DomainKind;
+
+/// What states are of.
+pub(crate) fn states_name(kind: DomainKind) -> &'static [u8]
+    ensures { result.now ≡ states_word kind }
+{
+    match kind {
+        DomainKind::Perf => b"performance",
+        DomainKind::Throttle => b"throttling",
+        DomainKind::Idle => b"idle",
+    }
+}
+
+/// What their rates are in, behind a space.
+pub(crate) fn unit_name(kind: DomainKind) -> &'static [u8]
+    ensures { result.now ≡ unit_word kind }
+{
+    match kind {
+        DomainKind::Perf => b" MHz",
+        DomainKind::Throttle => b" percent",
+        DomainKind::Idle => b" us",
+    }
+}
+
+/// The object of their control registers.
+pub(crate) fn control_name(kind: DomainKind) -> &'static [u8]
+    ensures { result.now ≡ control_word kind }
+{
+    match kind {
+        DomainKind::Perf => b"_PCT",
+        DomainKind::Throttle => b"_PTC",
+        DomainKind::Idle => b"_CST",
+    }
+}
+
+/// The object of their limit at the start.
+pub(crate) fn limit_name(kind: DomainKind) -> &'static [u8]
+    ensures { result.now ≡ limit_word kind }
+{
+    match kind {
+        DomainKind::Perf => b"_PPC",
+        DomainKind::Throttle => b"_TPC",
+        DomainKind::Idle => b"_CST",
+    }
+}
+
+/// The object that declares their domain.
+pub(crate) fn domain_name(kind: DomainKind) -> &'static [u8]
+    ensures { result.now ≡ domain_word kind }
+{
+    match kind {
+        DomainKind::Perf => b"_PSD",
+        DomainKind::Throttle => b"_TSD",
+        DomainKind::Idle => b"_CSD",
+    }
+}
+
+/// A coordination type.
+pub(crate) fn coord_name(coord: Coord) -> &'static [u8]
+    ensures { result.now ≡ coord_word coord }
+{
+    match coord {
+        Coord::SwAll => b"SW_ALL",
+        Coord::SwAny => b"SW_ANY",
+        Coord::HwAll => b"HW_ALL",
+    }
+}
+
+/// Why an object means nothing.
+pub(crate) fn why_name(why: Why) -> &'static [u8]
+    ensures { result.now ≡ why_words why }
+{
+    match why {
+        Why::Kind => b"is of the wrong kind",
+        Why::Count => b"has a wrong count",
+        Why::Revision => b"is no known revision",
+        Why::Range => b"is out of range",
+        Why::Register => b"is no register",
+    }
+}
+
+/// What the limit of this number bounds, and at how many.
+pub(crate) fn bounded_name(which: u8) -> &'static [u8]
+    ensures { result.now ≡ bounded_words which }
+{
+    match which {
+        1 => b"containers where this program takes 256",
+        2 => b"processors where this program takes 256",
+        3 => b"containers inside one another where this program takes 8",
+        4 => b"children of a container where this program takes 255",
+        _ => b"states in a table where this program takes 255",
+    }
+}
+
+/// A level of performance, by its place in `_CPC` behind the first two elements.
+pub(crate) fn level_name(place: usize) -> &'static [u8]
+    ensures { result.now ≡ level_words place }
+{
+    match place {
+        0 => b"highest performance",
+        1 => b"nominal performance",
+        2 => b"lowest nonlinear performance",
+        _ => b"lowest performance",
+    }
+}
+
+/// The code of why an object isn't used, and what it says.
+pub(crate) fn unused_name(why: Unused) -> &'static [u8]
+    ensures { result.now ≡ unused_words why }
+{
+    match why {
+        Unused::Method => b"U-METHOD is a method, which isn't run: it counts as absent",
+        Unused::Alias => b"U-ALIAS is an alias, which isn't followed: it counts as absent",
+        Unused::Empty => b"U-EMPTY has no states: it counts as absent",
+        Unused::BesideLpi => b"U-CST-UNUSED stands beside an _LPI: it isn't used",
+        Unused::NoSuchState => {
+            b"W-CSD-STATE has an entry about a C state that isn't there: it is dropped"
+        }
+        Unused::NoStates(kind) => match kind {
+            DomainKind::Perf => b"U-STATES-NONE stands without a _PSS: it isn't used",
+            DomainKind::Throttle => b"U-STATES-NONE stands without a _TSS: it isn't used",
+            DomainKind::Idle => b"U-STATES-NONE stands without a _CST: it isn't used",
+        },
+    }
+}

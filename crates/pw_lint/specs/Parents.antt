@@ -1,0 +1,48 @@
+-- What is found between idle states and those of the container around them (ACPI 6.5, 8.4.3.3).
+use Rattle.std.specs.Prelude.{ℕ, ◌+◌, ◌&&◌, ◌++◌, not, Bool, List, [], length, nat_le, nat_lt, slice_get, Option, Some, None}
+use Rattle.std.specs.List.{list_any}
+use Rattle.aml_data.specs.declared.path.FullPath.{FullPath}
+use Rattle.acpi_values.specs.Idle.{rows_of}
+use Rattle.acpi_values.specs.declared.idle.IdleRow.{IdleRow}
+use Rattle.acpi_values.specs.declared.idle.IdleTable.{IdleTable}
+use Rattle.pw_plan.specs.declared.parts.ContainerParts.{ContainerParts}
+use Rattle.pw_findings.specs.declared.finding.Finding.{Finding}
+use Rattle.pw_findings.specs.declared.finding.FindingKind.TheVariants as kinds
+use Rattle.pw_findings.specs.declared.finding.OfParent.TheVariants.{Past, Absent, Unreached}
+use Rattle.pw_findings.specs.Findings.{finding, of_each, when}
+use Rattle.pw_lint.specs.Idle.{row_in}
+
+-- the container of this number
+abbrev pub around : List ContainerParts → Option ℕ → Option ContainerParts
+around containers None = None
+around containers (Some n) = slice_get containers n
+
+abbrev pub count_in : ContainerParts → ℕ
+count_in c = length (rows_of c.idle)
+
+-- row k enables a state of a container, and there is none around
+abbrev pub nowhere : FullPath → List IdleRow → ℕ → List Finding
+nowhere path rows k = when (nat_lt 0 (row_in rows k).parent) (finding path (kinds.Parent (Absent (k + 1) (row_in rows k).parent)))
+
+-- row k enables a state that the container around doesn't have
+abbrev pub past : FullPath → ContainerParts → List IdleRow → ℕ → List Finding
+past path c rows k = when (nat_lt (count_in c) (row_in rows k).parent)
+    (finding path (kinds.Parent (Past (k + 1) (row_in rows k).parent c.path (count_in c))))
+
+abbrev pub past_findings : FullPath → Option ContainerParts → List IdleRow → List Finding
+past_findings path None rows = of_each (length rows) (nowhere path rows)
+past_findings path (Some c) rows = of_each (length rows) (past path c rows)
+
+-- whether a state may be entered, and enables state n of the container
+abbrev pub enables : ℕ → IdleRow → Bool
+enables n row = row.enabled && nat_le n row.parent
+
+-- the container has states, and none of these enables its deepest one: it never enters that
+abbrev pub unreached : FullPath → Option ContainerParts → List IdleRow → List Finding
+unreached path None rows = []
+unreached path (Some c) rows = when (nat_lt 0 (count_in c) && not (list_any (enables (count_in c)) rows))
+    (finding path (kinds.Parent (Unreached c.path (count_in c))))
+
+-- what is found of the idle states at a path, beside the container around them
+unfoldable pub parent_findings : FullPath → Option ContainerParts → IdleTable → List Finding
+parent_findings path parent table = past_findings path parent (rows_of table) ++ unreached path parent (rows_of table)
