@@ -3,7 +3,7 @@
 
 use crate::drive::{MOST_OPERATIONS, register, segs};
 use crate::machine;
-use crate::script::{self, Op, Register, lines_of, number, put_number, put_ops, put_path, write_name};
+use crate::script::{self, Op, Register, lines_of, number, path_of, put_number, put_ops, put_path, write_name};
 use crate::space::{Object, Space};
 use crate::tables::{Coord, Cpc, Dependency, Entry, Given, NULL, dependency};
 use std::collections::HashMap;
@@ -113,7 +113,7 @@ struct Request {
 
 /// The requests of a text that is a script.
 fn requests(plan: &Plan, names: &script::Machine, text: &[u8]) -> Vec<Request> {
-    let index: HashMap<Vec<u8>, u32> = (0..).zip(&names.cpus).map(|(cpu, of)| (of.segs.concat(), cpu)).collect();
+    let index: HashMap<Vec<u8>, u32> = (0..).zip(&names.cpus).map(|(cpu, of)| (of.name.clone(), cpu)).collect();
     let (mut name, mut found) = (Vec::new(), Vec::new());
     let mut bound: usize = plan.domains.iter().filter(|domain| domain.unfit == 0).map(|domain| 3 * domain.members.len()).sum();
     for line in lines_of(text) {
@@ -267,7 +267,7 @@ pub fn cppc(space: &Space, machine: &machine::Machine, text: &[u8], mut out: imp
     let plan = plan(space, machine);
     let cpu = |cpu: &machine::Cpu| {
         let segs = segs(space, cpu.place);
-        script::Cpu { segs, parent: None, rows: Vec::new(), idle_bound: 0, scales: [None, None] }
+        script::Cpu { name: segs.concat(), path: path_of(&segs), parent: None, rows: Vec::new(), idle_bound: 0, scales: [None, None] }
     };
     let names = script::Machine { containers: Vec::new(), cpus: machine.cpus.iter().map(cpu).collect(), domains: Vec::new() };
     let requests = requests(&plan, &names, text);

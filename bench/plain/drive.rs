@@ -7,7 +7,7 @@ use crate::machine;
 use crate::plan::{self, Sort};
 use crate::script::{
     Chain, Child, Container, Coord, Cpu, Domain, Entry, Kind, Line, Machine, Op, RUNNING, Register, Reply, Request, Row, Scale, Vote,
-    entered, follow, put_number, put_ops, put_path, put_reply, put_request, script, set_each, step,
+    entered, follow, path_of, put_number, put_ops, put_path, put_reply, put_request, script, set_each, step,
 };
 use crate::shared::Asked as Entered;
 use crate::space::Space;
@@ -121,7 +121,8 @@ fn planned(space: &Space, machine: machine::Machine, plan: plan::Plan, c_states:
             scale.map(|of| Scale { controls: of.controls, register: register(of.register.unwrap_or(tables::NULL)), limit: of.limit, domain })
         };
         let scales = [scale(Kind::Perf, of.perf), scale(Kind::Throttle, of.throttle)];
-        cpus.push(Cpu { segs: segs(space, of.place), parent: of.parent, rows: rows(of.idle), idle_bound, scales });
+        let segs = segs(space, of.place);
+        cpus.push(Cpu { name: segs.concat(), path: path_of(&segs), parent: of.parent, rows: rows(of.idle), idle_bound, scales });
     }
     Machine { containers, cpus, domains }
 }
@@ -255,8 +256,7 @@ impl<'a> Records<'a> {
             (before, vote) = self.nodes[number].set(self.machine, number, place, vote);
             rising &= vote.state > 0;
             if rising {
-                chain.states[chain.len] = vote.state;
-                chain.len += 1;
+                chain.push(vote.state);
             }
             if before.state == 0 && vote.state == 0 {
                 break;
@@ -274,7 +274,7 @@ impl<'a> Records<'a> {
         }
         let shared = self.c_states.of[cpu as usize].iter().map(|at| &self.c_states.shared[*at]);
         if let Some(unfit) = shared.filter(|shared| shared.unfit > 0).min_by_key(|shared| shared.number) {
-            return Reply::Unfit { domain: unfit.number, why: unfit.unfit };
+            return Reply::Unfit { domain: unfit.number as u32, why: unfit.unfit };
         }
         if state == 0 || state as usize > own.rows.len() {
             return Reply::NoState(own.rows.len() as u32);
@@ -336,7 +336,7 @@ impl<'a> Records<'a> {
         let scale = self.machine.scale_of(kind, cpu).ok_or(Reply::NoTable)?;
         match self.machine.domains[scale.domain].unfit {
             0 => Ok((scale, self.places.member[cpu as usize][kind as usize])),
-            why => Err(Reply::Unfit { domain: scale.domain, why }),
+            why => Err(Reply::Unfit { domain: scale.domain as u32, why }),
         }
     }
 
@@ -418,8 +418,8 @@ fn print(machine: &Machine, opened: usize, done: &[Entered], registers: &[Op], m
         out.write_all(b" ->")?;
         put_reply(&mut out, &entry.reply)?;
         out.write_all(b"\n")?;
-        put_ops(&mut out, machine, &registers[seen..entry.seen])?;
-        seen = entry.seen;
+        put_ops(&mut out, machine, &registers[seen..entry.seen as usize])?;
+        seen = entry.seen as usize;
     }
     out.flush()
 }
@@ -446,8 +446,9 @@ fn summarize(machine: &Machine, nodes: &[Node], levels: &[Levels], done: &[Enter
 
 /// What is asked of a machine, and what is printed of the run.
 pub enum Asked<'a> {
-    /// The history of a script, whose notifications each move a limit by one state or set it, on one thread or by workers.
-    Script { text: &'a [u8], steps: bool, serial: bool },
+    /// The history of a script, whose notifications each move a limit by one state or set it, on one thread or by workers. The text is
+    /// let go once it is read.
+    Script { text: Vec<u8>, steps: bool, serial: bool },
     /// What is to be said of a history of a script.
     History { script: &'a [u8], steps: bool, text: &'a [u8] },
     /// The summary of a load.
@@ -462,7 +463,7 @@ fn serial(machine: &Machine, mut records: Records, lines: &[Line], out: impl Wri
     let opened = registers.len();
     for line in lines {
         let reply = records.serve(line.request, &mut registers);
-        done.push(Entered { seat: 0, request: line.request, reply, seen: registers.len() });
+        done.push(Entered { seat: 0, request: line.request, reply, seen: registers.len() as u32 });
     }
     print(machine, opened, &done, &registers, out)
 }
@@ -493,14 +494,15 @@ pub fn drive(space: &Space, machine: machine::Machine, plan: plan::Plan, asked: 
     let c_states = c_states(&plan, machine.cpus.len());
     let has_c: Vec<bool> = machine.cpus.iter().map(|cpu| cpu.idle.kind == machine::Kind::Cst).collect();
     let machine = planned(space, machine, plan, &c_states);
-    let lines_of = |text, steps| {
+    let lines_of = |text: &[u8], steps| {
         let handler = if steps { step } else { follow };
         script(&machine, text, [handler, handler])
     };
     match asked {
         Asked::Load(lines) => by_workers(machine, &lines, true, out)?,
         Asked::Script { text, steps, serial: is_serial } => {
-            let lines = lines_of(text, steps);
+            let lines = lines_of(&text, steps);
+            drop(text);
             if is_serial || has_c.contains(&true) {
                 serial(&machine, Records::new(&machine, &c_states, has_c), &lines, out)?;
             } else {

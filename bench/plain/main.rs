@@ -70,7 +70,7 @@ fn drive(blocks: &[(Vec<u8>, Vec<Term>)], asked: Asked) -> io::Result<ExitCode> 
     let space = Space::of(blocks).expect("no place is given twice");
     let mut machine = machine::machine(&space).unwrap_or_else(|_| panic!("the objects make a machine"));
     let plan = plan::plan(&mut machine).unwrap_or_else(|_| panic!("the machine has a plan"));
-    let status = drive::drive(&space, machine, plan, asked, BufWriter::with_capacity(1 << 16, io::stdout()))?;
+    let status = drive::drive(&space, machine, plan, asked, BufWriter::with_capacity(1 << 16, script::output()))?;
     std::mem::forget(space);
     Ok(ExitCode::from(status))
 }
@@ -79,7 +79,7 @@ fn drive(blocks: &[(Vec<u8>, Vec<Term>)], asked: Asked) -> io::Result<ExitCode> 
 fn drive_script(script: &str, flags: &[String], blocks: &[(Vec<u8>, Vec<Term>)]) -> io::Result<ExitCode> {
     let text = std::fs::read(script)?;
     let has = |named: &str| flags.iter().any(|flag| flag == named);
-    drive(blocks, Asked::Script { text: &text, steps: has("--step"), serial: has("--serial") })
+    drive(blocks, Asked::Script { text, steps: has("--step"), serial: has("--serial") })
 }
 
 /// Steers the processors of the blocks by a script.
@@ -87,7 +87,7 @@ fn steer(script: &str, blocks: &[(Vec<u8>, Vec<Term>)]) -> io::Result<ExitCode> 
     let text = std::fs::read(script)?;
     let space = Space::of(blocks).expect("no place is given twice");
     let machine = machine::machine(&space).unwrap_or_else(|_| panic!("the objects make a machine"));
-    cppc::cppc(&space, &machine, &text, BufWriter::with_capacity(1 << 16, io::stdout()))?;
+    cppc::cppc(&space, &machine, &text, BufWriter::with_capacity(1 << 16, script::output()))?;
     std::mem::forget(space);
     Ok(ExitCode::SUCCESS)
 }

@@ -59,7 +59,9 @@ pub struct Scale {
 }
 
 pub struct Cpu {
-    pub segs: Vec<[u8; 4]>,
+    /// The segments of its path, and the path as it is printed.
+    pub name: Vec<u8>,
+    pub path: Vec<u8>,
     pub parent: Option<u32>,
     /// Its idle states, none where it has no table.
     pub rows: Vec<Row>,
@@ -97,6 +99,11 @@ pub enum Kind {
     Throttle,
 }
 
+/// A path of these segments as it is printed.
+pub fn path_of(segs: &[[u8; 4]]) -> Vec<u8> {
+    [b"\\", segs.join(&b'.').as_slice()].concat()
+}
+
 fn numbered(letter: u8, number: u32) -> [u8; 4] {
     let digit = |n: u32| b"0123456789ABCDEF"[n as usize % 16];
     [letter, digit(number / 256), digit(number / 16), digit(number)]
@@ -126,8 +133,10 @@ fn machine() -> Machine {
         rows: vec![row(100, 0, Entry::Integer(0x10)), row(500, 0, Entry::Integer(0x20))],
         children: members(cluster).into_iter().map(Child::Cpu).collect(),
     };
+    let segs = |number| [*b"_SB_", numbered(b'C', number / CLUSTER), numbered(b'P', number)];
     let cpu = |number| Cpu {
-        segs: vec![*b"_SB_", numbered(b'C', number / CLUSTER), numbered(b'P', number)],
+        name: segs(number).concat(),
+        path: path_of(&segs(number)),
         parent: Some(number / CLUSTER),
         rows: vec![row(10, 0, fixed(1)), row(50, 1, fixed(2)), row(200, 2, fixed(3))],
         idle_bound: 1,
@@ -320,7 +329,7 @@ impl<'a> Reader<'a> {
     fn new(machine: &'a Machine, handlers: [Handler; 2]) -> Reader<'a> {
         let mut index = HashMap::new();
         for (number, cpu) in machine.cpus.iter().enumerate() {
-            index.entry(cpu.segs.concat()).or_insert(number as u32);
+            index.entry(cpu.name.clone()).or_insert(number as u32);
         }
         let opened = |kind| (0..machine.cpus.len() as u32).map(|cpu| u32::from(machine.opening_limit(kind, cpu))).collect();
         Reader { machine, handlers, index, name: Vec::new(), limits: [opened(Kind::Perf), opened(Kind::Throttle)] }
@@ -386,11 +395,16 @@ pub fn lines_of(bytes: &[u8]) -> impl Iterator<Item = &[u8]> {
 }
 
 fn parse(machine: &Machine, bytes: &[u8], handlers: [Handler; 2]) -> Result<Vec<Line>, Fault> {
-    if bytes.len() > MOST_BYTES || lines_of(bytes).count() > MOST_LINES {
+    if bytes.len() > MOST_BYTES {
+        return Err(Fault::TooLong);
+    }
+    let feeds = bytes.iter().filter(|byte| **byte == b'\n').count();
+    let count = feeds + usize::from(bytes.last().is_some_and(|last| *last != b'\n'));
+    if count > MOST_LINES {
         return Err(Fault::TooLong);
     }
     let mut reader = Reader::new(machine, handlers);
-    let mut lines = Vec::new();
+    let mut lines = Vec::with_capacity(count);
     let mut bound = machine.opening_bound();
     for (number, text) in (1..).zip(lines_of(bytes)) {
         if let Some(request) = reader.request(text).map_err(|why| Fault::Line { number, why })? {
@@ -423,8 +437,19 @@ struct State {
 /// The state of a processor and those of its containers upwards, as far as they are above 0.
 #[derive(Clone, Copy)]
 pub struct Chain {
-    pub len: usize,
+    pub len: u8,
     pub states: [u8; 9],
+}
+
+impl Chain {
+    pub fn states(&self) -> &[u8] {
+        &self.states[..usize::from(self.len)]
+    }
+
+    pub fn push(&mut self, state: u8) {
+        self.states[usize::from(self.len)] = state;
+        self.len += 1;
+    }
 }
 
 #[derive(Clone, Copy)]
@@ -436,7 +461,7 @@ pub enum Reply {
     Disabled,
     AboveLimit(u8),
     NoTable,
-    Unfit { domain: usize, why: u8 },
+    Unfit { domain: u32, why: u8 },
     TooSlow(u32),
 }
 
@@ -495,8 +520,7 @@ impl State {
             if vote.state == 0 {
                 break;
             }
-            chain.states[chain.len] = vote.state;
-            chain.len += 1;
+            chain.push(vote.state);
             next = machine.containers[number as usize].parent;
         }
         chain
@@ -529,7 +553,7 @@ impl State {
         let domain = &machine.domains[scale.domain];
         match domain.unfit {
             0 => Ok((scale, domain)),
-            why => Err(Reply::Unfit { domain: scale.domain, why }),
+            why => Err(Reply::Unfit { domain: scale.domain as u32, why }),
         }
     }
 
@@ -589,7 +613,7 @@ pub fn entered(machine: &Machine, cpu: u32, chain: Chain) -> Register {
         Entry::Integer(address) => Register { space: 127, width: 0, offset: 0, access: 0, address },
     };
     let mut next = own.parent;
-    for state in &chain.states[1..chain.len] {
+    for state in &chain.states()[1..] {
         let Some(number) = next else { break };
         let container = &machine.containers[number as usize];
         match container.rows[*state as usize - 1].entry {
@@ -656,13 +680,7 @@ fn put_hex(out: &mut impl Write, mut number: u64) -> io::Result<()> {
 }
 
 pub fn put_path(out: &mut impl Write, machine: &Machine, cpu: u32) -> io::Result<()> {
-    let mut lead = b"\\";
-    for seg in &machine.cpus[cpu as usize].segs {
-        out.write_all(lead)?;
-        out.write_all(seg)?;
-        lead = b".";
-    }
-    Ok(())
+    out.write_all(&machine.cpus[cpu as usize].path)
 }
 
 fn put_word(out: &mut impl Write, word: &[u8], number: u32) -> io::Result<()> {
@@ -724,7 +742,7 @@ pub fn put_reply(out: &mut impl Write, reply: &Reply) -> io::Result<()> {
     match *reply {
         Reply::Entered(chain) => {
             out.write_all(b" entered")?;
-            for state in &chain.states[..chain.len] {
+            for state in chain.states() {
                 put_word(out, b" ", u32::from(*state))?;
             }
             Ok(())
@@ -736,7 +754,7 @@ pub fn put_reply(out: &mut impl Write, reply: &Reply) -> io::Result<()> {
         Reply::AboveLimit(limit) => put_word(out, b" refused above limit ", u32::from(limit)),
         Reply::NoTable => out.write_all(b" refused no table"),
         Reply::Unfit { domain, why } => {
-            put_word(out, b" refused unfit domain ", domain as u32)?;
+            put_word(out, b" refused unfit domain ", domain)?;
             put_word(out, b" why ", u32::from(why))
         }
         Reply::TooSlow(latency) => put_word(out, b" refused latency ", latency),
@@ -764,6 +782,11 @@ fn print_history(out: &mut impl Write, machine: &Machine, lines: &[Line]) -> io:
     out.flush()
 }
 
+/// The output, not by way of the standard library's, which looks for the ends of lines.
+pub fn output() -> File {
+    File::from(io::stdout().as_fd().try_clone_to_owned().expect("an output"))
+}
+
 /// The lines of a text that is a script.
 pub fn script(machine: &Machine, text: &[u8], handlers: [Handler; 2]) -> Vec<Line> {
     match parse(machine, text, handlers) {
@@ -785,8 +808,7 @@ pub fn rounds(work: &str, file: &str, rounds: u32) {
         println!("{} lines", last.len());
     } else {
         let lines = script(&machine, text.as_bytes(), [follow, step]);
-        // Not by way of the standard library's output, which looks for the ends of lines.
-        let out = File::from(io::stdout().as_fd().try_clone_to_owned().expect("an output"));
+        let out = output();
         for _ in 0..rounds {
             let mut page = BufWriter::with_capacity(1 << 16, &out);
             print_history(&mut page, &machine, &lines).expect("the output can be written");

@@ -34,7 +34,8 @@ fn cluster(number: u32) -> Container {
 
 fn clusters(count: u32) -> Machine {
     let cpu = |number| Cpu {
-        segs: Vec::new(),
+        name: Vec::new(),
+        path: Vec::new(),
         parent: Some(number / CLUSTER),
         rows: vec![row(10, 0, fixed(1)), row(50, 1, fixed(2)), row(200, 2, fixed(3))],
         idle_bound: 1,
@@ -46,7 +47,7 @@ fn clusters(count: u32) -> Machine {
 fn domains() -> Machine {
     let register = Register { space: 1, width: 8, offset: 0, access: 1, address: 0xB2 };
     let scale = |domain| Scale { controls: (0x10..0x14).collect(), register, limit: 0, domain: domain as usize };
-    let cpu = |number| Cpu { segs: Vec::new(), parent: None, rows: Vec::new(), idle_bound: 1, scales: [Some(scale(number)), None] };
+    let cpu = |number| Cpu { name: Vec::new(), path: Vec::new(), parent: None, rows: Vec::new(), idle_bound: 1, scales: [Some(scale(number)), None] };
     let domain = |number| Domain { kind: Kind::Perf, coord: Coord::SwAll, unfit: 0, members: vec![number] };
     Machine { containers: Vec::new(), cpus: (0..THREADS).map(cpu).collect(), domains: (0..THREADS).map(domain).collect() }
 }
@@ -107,12 +108,12 @@ pub struct Asked {
     pub seat: u32,
     pub request: Request,
     pub reply: Reply,
-    pub seen: usize,
+    pub seen: u32,
 }
 
 impl Kept for Asked {
     fn new(seat: u32, request: Request, reply: Reply, seen: usize) -> Asked {
-        Asked { seat, request, reply, seen }
+        Asked { seat, request, reply, seen: seen as u32 }
     }
 }
 
@@ -240,8 +241,7 @@ impl Plan {
     pub fn past(&self, climb: &mut Climb, number: u32, (before, after): (Vote, Vote)) {
         climb.rising &= after.state > 0;
         if climb.rising {
-            climb.chain.states[climb.chain.len] = after.state;
-            climb.chain.len += 1;
+            climb.chain.push(after.state);
         }
         climb.vote = after;
         climb.place = self.places.inner[number as usize];
@@ -263,7 +263,7 @@ impl Plan {
         let scale = self.machine.scale_of(kind, cpu).ok_or(Reply::NoTable)?;
         match self.machine.domains[scale.domain].unfit {
             0 => Ok((scale, self.places.member[cpu as usize][kind as usize])),
-            why => Err(Reply::Unfit { domain: scale.domain, why }),
+            why => Err(Reply::Unfit { domain: scale.domain as u32, why }),
         }
     }
 
