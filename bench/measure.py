@@ -1,22 +1,21 @@
 """Measures `show`, `show --json`, `rewrite` and `check` of blocks: time, peak memory, bytes read and written, and growth.
 
-usage: measure.py PROGRAM [PLAIN]
-Times are the least of several runs, as the program's own processor time and as wall time. PLAIN is a program that does
-the same in plain Rust: it is measured beside each, and is to write the same bytes. A second table is of blocks of
-scopes and devices, with the time of `iasl -d` beside `show` where iasl is installed; a third is of machines with the
-tables of processors.
+Times are the least of several runs, whose output is let go, by the clock and as the program's own processor time; runs of both
+programs alternate, and the plain one is to write the same bytes. A second table is of blocks of scopes and devices, with the time of
+`iasl -d` beside `show` where iasl is installed; a third is of machines with the tables of processors.
 """
 
+import hashlib
 import itertools
 import os
 import shutil
 import string
 import subprocess
-import sys
 import tempfile
 import time
 from pathlib import Path
 
+import ratios
 from machine import busy
 
 RUNS = 7
@@ -253,15 +252,6 @@ def words_of(program, command, path):
     return [program, *command.split(), path]
 
 
-def run(program, command, path):
-    """One run: wall seconds, processor seconds, and bytes written."""
-    before = busy()
-    start = time.perf_counter()
-    done = subprocess.run(words_of(program, command, path), stdout=subprocess.PIPE, check=True)
-    wall = time.perf_counter() - start
-    return wall, busy() - before, done.stdout
-
-
 def run_apart(words):
     """One run whose output is let go: wall seconds, and processor seconds."""
     before = busy()
@@ -270,10 +260,20 @@ def run_apart(words):
     return time.perf_counter() - start, busy() - before
 
 
+def least(programs, command, path, count):
+    """Of each program the least wall and the least processor milliseconds of so many runs, which alternate."""
+    runs = [[run_apart(words_of(program, command, path)) for program in programs] for _ in range(count)]
+    return [tuple(1e3 * min(of[i] for of in taken) for i in (0, 1)) for taken in zip(*runs)]
+
+
 def written_by(program, command, path):
-    """How many bytes a run writes."""
+    """How many bytes a run writes, and their sum by SHA-256."""
     with subprocess.Popen(words_of(program, command, path), stdout=subprocess.PIPE) as running:
-        return sum(len(piece) for piece in iter(lambda: running.stdout.read(1 << 20), b""))
+        size, digest = 0, hashlib.sha256()
+        for piece in iter(lambda: running.stdout.read(1 << 20), b""):
+            size += len(piece)
+            digest.update(piece)
+    return size, digest.digest()
 
 
 def disassembly(folder, path):
@@ -293,27 +293,26 @@ def peak_memory(program, command, path):
     return int(done.stderr)
 
 
-def beside(plain, command, path, written):
-    """What the plain program takes for the same: milliseconds and peak KiB."""
-    runs = [run(plain, command, path) for _ in range(RUNS)]
-    if any(r[2] != written for r in runs):
-        raise SystemExit(f"{plain} writes other bytes at {command}")
-    return min(r[0] for r in runs) * 1e3, peak_memory(plain, command, path)
-
-
-def plain_cells(plain, command, path, wall, written):
-    """The cells on the plain program: its milliseconds, how often that goes into ours, its memory a byte."""
-    if not plain:
-        return ["", "", ""]
-    took, space = beside(plain, command, str(path), written)
-    return [f"{took:.1f}", f"{wall / took:.2f}", f"{space * 1024 / path.stat().st_size:.1f}" if space else ""]
+def measured(programs, work, command, path, count):
+    """What a run writes, what each program takes for it, and the cells on the plain one: its milliseconds, how often they and its memory
+    go into ours. Stops where it writes other bytes."""
+    written = [written_by(program, command, path) for program in programs]
+    if any(other != written[0] for other in written):
+        raise SystemExit(f"{programs[1]} writes other bytes at {work}")
+    took = least(programs, command, path, count)
+    peaks = [peak_memory(program, command, path) for program in programs]
+    if len(programs) == 1:
+        return written[0][0], took[0], peaks[0], ["", "", ""]
+    time, space = took[0][1] / took[1][1], peaks[0] / peaks[1] if peaks[0] else None
+    ratios.add(work, time, space)
+    return written[0][0], took[0], peaks[0], [f"{took[1][1]:.1f}", f"{time:.2f}", f"{space:.2f}" if space else ""]
 
 
 def row_of(cells):
     return "| " + " | ".join(str(cell) for cell in cells) + " |"
 
 
-def objects(program, plain):
+def objects(programs):
     """The table of blocks of names of data objects."""
     cases = [("show", "42 bytes", block(b"\x08_PPC\x00"))]
     kinds = [
@@ -329,29 +328,26 @@ def objects(program, plain):
         for command in ("show", "show --json", "rewrite"):
             cases += [(command, f"{n} MiB of {what}", made(n << 20)) for n in (1, 2, 4)]
     heads = ["work", "block, bytes", "output, bytes", "time, ms", "processor, ms", "ns a byte", "peak memory, KiB", "memory a byte"]
-    heads += ["time against half", "plain Rust, ms", "against plain Rust", "plain Rust, memory a byte"]
+    heads += ["time against half", "plain Rust, ms", "against plain Rust", "memory against plain Rust"]
     print(row_of(heads))
     print("|---" * len(heads) + "|")
     before = None
     with tempfile.TemporaryDirectory() as folder:
+        path = Path(folder) / "block.aml"
         for command, name, content in cases:
-            path = Path(folder) / "block.aml"
             path.write_bytes(content)
-            runs = [run(program, command, str(path)) for _ in range(RUNS)]
-            wall = min(r[0] for r in runs) * 1e3
-            used = min(r[1] for r in runs) * 1e3
-            peak = peak_memory(program, command, str(path))
-            growth = f"{wall / before:.2f}" if before and "MiB" in name and not name.startswith("1 ") else ""
-            size = len(content)
+            work, size = f"{command}, {name}", len(content)
+            written, (wall, used), peak, beside = measured(programs, work, command, str(path), RUNS)
+            growth = f"{used / before:.2f}" if before and "MiB" in name and not name.startswith("1 ") else ""
             large = size > 1 << 16
-            a_byte = f"{wall * 1e6 / size:.0f}" if large else ""
+            a_byte = f"{used * 1e6 / size:.0f}" if large else ""
             memory = f"{peak * 1024 / size:.1f}" if large and peak else ""
-            row = [f"{command}, {name}", size, len(runs[0][2]), f"{wall:.1f}", f"{used:.1f}", a_byte, peak or "no GNU time", memory, growth]
-            print(row_of(row + plain_cells(plain, command, path, wall, runs[0][2])), flush=True)
-            before = wall
+            row = [work, size, written, f"{wall:.1f}", f"{used:.1f}", a_byte, peak or "no GNU time", memory, growth]
+            print(row_of(row + beside), flush=True)
+            before = used
 
 
-def scopes(program, plain):
+def scopes(programs):
     """The table of blocks of scopes and devices."""
     kinds = [
         ("devices of 64 names", tree, (1600, 3200, 6400)),
@@ -361,23 +357,23 @@ def scopes(program, plain):
         ("scopes searched for below 31 of 255 segments", searched, (20000,)),
         ("scopes searched for below 31 of 255 segments", searched, (340000, 680000)),
     ]
-    grown(program, plain, kinds, ("show", "rewrite"))
+    grown(programs, kinds, ("show", "rewrite"))
 
 
-def machines(program, plain):
+def machines(programs):
     """The table of machines with the tables of processors."""
     kinds = [
         ("processors of 500 states", processors, (64, 128, 248)),
         ("devices beside 248 processors", machine, (4000, 8000, 16000)),
     ]
-    grown(program, plain, kinds, ("check", "show --json"))
+    grown(programs, kinds, ("check", "show --json"))
 
 
-def grown(program, plain, kinds, commands):
-    """A table of blocks that grow. The output goes to the null device, but where the plain program is beside."""
+def grown(programs, kinds, commands):
+    """A table of blocks that grow. Where a run writes gigabytes it is measured alone, and twice."""
     heads = ["work", "block, bytes", "output, bytes", "time, ms", "processor, ms", "ns a byte in and out"]
     heads += ["peak memory, KiB", "memory a byte", "time against half", "iasl -d, ms"]
-    heads += ["plain Rust, ms", "against plain Rust", "plain Rust, memory a byte"]
+    heads += ["plain Rust, ms", "against plain Rust", "memory against plain Rust"]
     print(row_of(heads))
     print("|---" * len(heads) + "|")
     with tempfile.TemporaryDirectory() as folder:
@@ -387,31 +383,19 @@ def grown(program, plain, kinds, commands):
                 before = None
                 for count in counts:
                     path.write_bytes(made(count))
-                    size, output = path.stat().st_size, written_by(program, command, str(path))
-                    runs = [run_apart(words_of(program, command, str(path))) for _ in range(RUNS if output < 1 << 28 else 2)]
-                    wall, used = (min(r[i] for r in runs) * 1e3 for i in (0, 1))
-                    peak = peak_memory(program, command, str(path))
-                    row = [f"{command}, {count} {what}", size, output, f"{wall:.1f}", f"{used:.1f}", f"{wall * 1e6 / (size + output):.1f}"]
-                    row += [peak or "no GNU time", f"{peak * 1024 / size:.1f}" if peak else ""]
-                    row += [f"{wall / before:.2f}" if before else ""]
+                    work, size = f"{command}, {count} {what}", path.stat().st_size
+                    alone = command == "show" and made is chain
+                    written, (wall, used), peak, beside = measured(programs[:1] if alone else programs, work, command, str(path), 2 if alone else RUNS)
+                    row = [work, size, written, f"{wall:.1f}", f"{used:.1f}", f"{used * 1e6 / (size + written):.1f}"]
+                    row += [peak or "no GNU time", f"{peak * 1024 / size:.1f}" if peak else "", f"{used / before:.2f}" if before else ""]
                     told = disassembly(Path(folder), path) if command == "show" and made in (tree, performance) else None
-                    row += [f"{told:.0f}" if told else ""]
-                    if output < 1 << 28:
-                        seen = [run(program, command, str(path)) for _ in range(RUNS)]
-                        row += plain_cells(plain, command, path, min(r[0] for r in seen) * 1e3, seen[0][2])
-                    print(row_of(row), flush=True)
-                    before = wall
+                    print(row_of(row + [f"{told:.0f}" if told else ""] + beside), flush=True)
+                    before = used
 
 
-def main():
-    program = sys.argv[1]
-    plain = sys.argv[2] if len(sys.argv) > 2 else None
-    objects(program, plain)
+def main(programs):
+    objects(programs)
     print()
-    scopes(program, plain)
+    scopes(programs)
     print()
-    machines(program, plain)
-
-
-if __name__ == "__main__":
-    main()
+    machines(programs)

@@ -1,24 +1,20 @@
 """Measures `audit` on histories of growing length on machines of growing size, beside plain Rust.
 
-usage: measure_audit.py PROGRAM [PLAIN]
-Scripts and machines are those of measure_drive.py, the histories what PROGRAM prints of them by `drive --serial`. Times are the
-least of several runs, as the program's own processor time; runs of both programs alternate. PLAIN is a program that does the
-same in plain Rust: it is to say the same.
+Scripts and machines are those of measure_drive.py, the histories what the program prints of them by `drive --serial`. Times are the
+least of several runs, as the program's own processor time; runs of both programs alternate. The plain program is to say the same.
 """
 
 import itertools
 import os
 import subprocess
-import sys
 import tempfile
 from pathlib import Path
 
 from machine import processor
-from measure_drive import RUNS, SIZES, machine, milliseconds, peak, script
+from measure_drive import RUNS, SIZES, add_ratios, machine, milliseconds, peak, script
 
 
-def main():
-    programs = sys.argv[1:]
+def main(programs):
     print(f"{os.cpu_count()} processor cores, {processor() or 'of no known name'}; least of {RUNS} runs.")
     print()
     heads = ["idle states", "processors", "lines", "history, bytes", "processor, ms", "ns a byte", "peak memory, KiB"]
@@ -42,7 +38,4 @@ def main():
             cells += [f"{took[1]:.1f}", f"{took[0] / took[1]:.2f}"] if len(took) > 1 else ["", ""]
             cells += [peaks[1], f"{peaks[0] / peaks[1]:.2f}"] if len(took) > 1 and peaks[0] else ["", ""]
             print("| " + " | ".join(str(cell) for cell in cells) + " |", flush=True)
-
-
-if __name__ == "__main__":
-    main()
+            add_ratios(f"audit, {idle}, {count} lines on {processors} processors", took, peaks)

@@ -2,13 +2,11 @@
 
 Of each size there is a machine whose clusters of eight software coordinates, and one where hardware does.
 
-usage: measure_cppc.py PROGRAM [PLAIN]
 It measures as measure_drive.py does.
 """
 
 import itertools
 import random
-import sys
 import tempfile
 from pathlib import Path
 
@@ -45,8 +43,7 @@ def script(processors, count):
     return "".join(lines)
 
 
-def main():
-    programs = sys.argv[1:]
+def main(programs):
     begin("coordinated by")
     with tempfile.TemporaryDirectory() as folder:
         text, table = Path(folder) / "script", Path(folder) / "block"
@@ -55,7 +52,3 @@ def main():
             table.write_bytes(machine(processors, kind))
             text.write_text(script(processors, count), encoding="ascii")
             put_row(programs, words, by, processors, count, text.stat().st_size)
-
-
-if __name__ == "__main__":
-    main()

@@ -2,19 +2,18 @@
 
 Of each size there is a machine with low power idle states in every cluster, and one with C states in every second.
 
-usage: measure_drive.py PROGRAM [PLAIN]
-Times are the least of several runs, as the program's own processor time; runs of both programs alternate. PLAIN is a program
-that does the same in plain Rust: it is to print the same bytes. The output of measured runs goes to the null device.
+Times are the least of several runs, as the program's own processor time; runs of both programs alternate. The plain
+program is to print the same bytes. The output of measured runs goes to the null device.
 """
 
 import itertools
 import os
 import random
 import subprocess
-import sys
 import tempfile
 from pathlib import Path
 
+import ratios
 from machine import busy, processor
 from measure import SCOPE, block, clusters, holder
 from measure_scripts import FORMS
@@ -60,6 +59,12 @@ def peak(program, words):
     return int(done.stderr)
 
 
+def add_ratios(work, took, peaks):
+    """Takes in how a work compares, of the times and the peaks of both programs."""
+    if len(took) > 1:
+        ratios.add(work, took[0] / took[1], peaks[0] / peaks[1] if peaks[0] else None)
+
+
 def begin(first):
     """Prints the machine and the heads of a table, the first of which is given."""
     print(f"{os.cpu_count()} processor cores, {processor() or 'of no known name'}; least of {RUNS} runs.")
@@ -71,7 +76,7 @@ def begin(first):
 
 
 def put_row(programs, words, first, processors, count, size):
-    """Measures runs of so many lines, a text of this size, and prints their row."""
+    """Measures runs of so many lines, a text of this size, and prints their row, whose first cell is given."""
     outputs = [subprocess.run([program, *words], stdout=subprocess.PIPE, check=True).stdout for program in programs]
     if any(output != outputs[0] for output in outputs):
         raise SystemExit(f"{programs[1]} prints other bytes")
@@ -81,11 +86,11 @@ def put_row(programs, words, first, processors, count, size):
     cells += [peaks[0] or "no GNU time"]
     cells += [f"{took[1]:.1f}", f"{took[0] / took[1]:.2f}"] if len(took) > 1 else ["", ""]
     cells += [peaks[1], f"{peaks[0] / peaks[1]:.2f}"] if len(took) > 1 and peaks[0] else ["", ""]
+    add_ratios(f"{words[0]} {words[1]}, {first}, {count} lines on {processors} processors", took, peaks)
     print("| " + " | ".join(str(cell) for cell in cells) + " |", flush=True)
 
 
-def main():
-    programs = sys.argv[1:]
+def main(programs):
     begin("idle states")
     with tempfile.TemporaryDirectory() as folder:
         text, table = Path(folder) / "script", Path(folder) / "block"
@@ -94,7 +99,3 @@ def main():
             table.write_bytes(machine(processors, idle != "low power"))
             text.write_text(script(processors, count), encoding="ascii")
             put_row(programs, words, idle, processors, count, text.stat().st_size)
-
-
-if __name__ == "__main__":
-    main()

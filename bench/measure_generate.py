@@ -1,22 +1,19 @@
 """Measures `generate N`: a machine of N clusters of eight processors, and 64 N times N requests on it.
 
-usage: measure_generate.py PROGRAM [PLAIN]
-Times are the least of several runs, as the program's own processor time; runs of both programs alternate. PLAIN is a program
-that does the same in plain Rust: it is to print the same bytes.
+Times are the least of several runs, as the program's own processor time; runs of both programs alternate. The plain program is to
+print the same bytes.
 """
 
 import os
 import subprocess
-import sys
 
 from machine import processor
-from measure_drive import RUNS, milliseconds, peak
+from measure_drive import RUNS, add_ratios, milliseconds, peak
 
 SIZES = (8, 16, 32)
 
 
-def main():
-    programs = sys.argv[1:]
+def main(programs):
     print(f"{os.cpu_count()} processor cores, {processor() or 'of no known name'}; least of {RUNS} runs.")
     print()
     heads = ["N", "processors", "lines", "processor, ms", "ns a line", "time against half", "peak memory, KiB"]
@@ -37,8 +34,5 @@ def main():
         cells += [f"{took[1]:.1f}", f"{took[0] / took[1]:.2f}"] if len(took) > 1 else ["", ""]
         cells += [peaks[1], f"{peaks[0] / peaks[1]:.2f}"] if len(took) > 1 and peaks[0] else ["", ""]
         print("| " + " | ".join(str(cell) for cell in cells) + " |", flush=True)
+        add_ratios(f"generate {size}", took, peaks)
         half = took[0]
-
-
-if __name__ == "__main__":
-    main()

@@ -13,6 +13,7 @@ import sys
 import tempfile
 from pathlib import Path
 
+import ratios
 from machine import busy, processor
 
 RUNS = 9
@@ -95,7 +96,10 @@ def main():
                 cells += [f"{took[0]:.1f}", f"{took[0] * 1e6 / count:.0f}", f"{took[0] / before:.2f}" if before else ""]
                 cells += [f"{took[1]:.1f}", f"{took[0] / took[1]:.2f}"] if len(took) > 1 else ["", ""]
                 print("| " + " | ".join(str(cell) for cell in cells) + " |", flush=True)
+                if len(took) > 1:
+                    ratios.add(f"{work}, {count} lines", took[0] / took[1], None)
                 before = took[0]
+    ratios.show()
 
 
 if __name__ == "__main__":

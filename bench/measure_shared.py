@@ -13,6 +13,7 @@ import subprocess
 import sys
 import time
 
+import ratios
 from machine import busy, processor
 
 RUNS = 7
@@ -79,6 +80,9 @@ def main():
                 cells += [f"{own / one:.2f}", f"{own / min(one, each):.2f}"]
             cells += [f"{cost[0] / min(costs[1][0], costs[2][0]):.2f}" for cost in costs[3:]]
         print("| " + " | ".join(str(cell) for cell in cells) + " |", flush=True)
+        if len(costs) > 1:
+            ratios.add(f"{machine}, {threads} threads, against the better lock", costs[0][0] / min(costs[1][0], costs[2][0]), None)
+    ratios.show()
 
 
 main()

@@ -1,21 +1,19 @@
 """Measures `drive` with one worker a processor and `generate`, on one, two and four processors, beside plain Rust.
 
-usage: measure_workers.py PROGRAM [PLAIN]
 `drive` has 65,536 lines on 256 processors in clusters of eight with low power idle states, `generate` as many by itself. Of each
-program the least wall clock of several runs is told, with the processor time of that run; runs of both programs alternate. PLAIN
-is a program that does the same in plain Rust: of `generate` it is to print the same bytes, and of `drive` a history that PROGRAM
-audits as lawful. What workers cost beside the work is the processor time against that of `drive --serial`.
+program the least wall clock of several runs is told, with the processor time of that run; runs of both programs alternate. The
+plain program is to print of `generate` the same bytes, and of `drive` a history that the other audits as lawful. What workers cost
+beside the work is the processor time against that of `drive --serial`.
 """
 
 import os
 import subprocess
-import sys
 import tempfile
 import time
 from pathlib import Path
 
 from machine import busy, processor
-from measure_drive import machine, milliseconds, peak, script
+from measure_drive import add_ratios, machine, milliseconds, peak, script
 
 RUNS = 25
 PROCESSORS = (1, 2, 4)
@@ -54,8 +52,7 @@ def checked(programs, words):
             raise SystemExit(f"{program} prints what can't be")
 
 
-def main():
-    programs = sys.argv[1:]
+def main(programs):
     print(f"{os.cpu_count()} processor cores, {processor() or 'of no known name'}; least of {RUNS} runs.")
     print()
     heads = ["work", "processors of the machine", "wall clock, ms", "processor, ms", "peak memory, KiB", "plain Rust, ms", "its processor, ms"]
@@ -81,7 +78,4 @@ def main():
                     cells += [""] * 6
                 cells += [f"{took[0][1] / serial:.2f}" if name == "drive" else ""]
                 print("| " + " | ".join(str(cell) for cell in cells) + " |", flush=True)
-
-
-if __name__ == "__main__":
-    main()
+                add_ratios(f"{name}, by the clock on {count} processors", [wall for wall, _ in took], peaks)
