@@ -1,5 +1,5 @@
-//! Handles: structs of a caller in another language, each of which keeps a box of this library's, and the calls on
-//! them. Misuse that can be told is a status, and changes nothing.
+//! Handles: structs of a caller in another language, each of which keeps a box of this library's, and the
+//! calls on them. Misuse that can be told is a status, and changes nothing.
 #![tactic(auto)]
 
 mod handle;

@@ -18,7 +18,8 @@ pub struct Parts {
 }
 
 impl Parts {
-    pub fn new(alloc: Global) -> Parts {
+    /// Nothing given yet.
+    pub(crate) fn new(alloc: Global) -> Parts {
         Parts {
             segs: Vec::new(alloc),
             kind: IdleKind::Absent,
@@ -30,7 +31,7 @@ impl Parts {
     }
 
     /// Takes one part in.
-    pub fn put(&mut self, alloc: Global, part: &str) -> Option<()> {
+    pub(crate) fn put(&mut self, alloc: Global, part: &str) -> Option<()> {
         match word_at(part, 0).unwrap_or("") {
             "" => Some(()),
             "path" => put_segs(&mut self.segs, word_at(part, 1)?),
@@ -68,7 +69,7 @@ impl Parts {
     }
 
     /// Names a path of one segment, which is another for each number below 676, where no part named one.
-    pub fn name(&mut self, number: u32) -> Option<()> {
+    pub(crate) fn name(&mut self, number: u32) -> Option<()> {
         if !self.segs.is_empty() {
             return Some(());
         }

@@ -4,7 +4,7 @@ use crate::words::{number_at, u8_at, u32_at, word_at};
 use acpi_values::{CDependency, Coord, Dependency, EntryMethod, IdleRow, Register};
 
 /// An enabled state.
-pub fn row(latency: u32, entry: EntryMethod) -> IdleRow {
+pub(crate) fn row(latency: u32, entry: EntryMethod) -> IdleRow {
     IdleRow {
         enabled: true,
         latency,
@@ -16,7 +16,7 @@ pub fn row(latency: u32, entry: EntryMethod) -> IdleRow {
 
 /// `lpi on|off LATENCY RESIDENCY PARENT-STATE ENTRY`, where the entry is a number, or the five of a
 /// register.
-pub fn lpi_row(part: &str) -> Option<IdleRow> {
+pub(crate) fn lpi_row(part: &str) -> Option<IdleRow> {
     let entry = if word_at(part, 6).is_none() {
         EntryMethod::Integer(number_at(part, 5)?)
     } else {
@@ -40,7 +40,7 @@ fn is_on(word: &str) -> Option<bool> {
 }
 
 /// `c-state LATENCY` and the five of a register.
-pub fn c_row(part: &str) -> Option<IdleRow> {
+pub(crate) fn c_row(part: &str) -> Option<IdleRow> {
     let entry = EntryMethod::Register(register_at(part, 2)?);
     Some(row(u32_at(part, 1)?, entry))
 }
@@ -68,7 +68,7 @@ fn coord_at(part: &str, at: usize) -> Option<Coord> {
 }
 
 /// `csd DOMAIN COORDINATION PROCESSORS INDEX`.
-pub fn c_dependency(part: &str) -> Option<CDependency> {
+pub(crate) fn c_dependency(part: &str) -> Option<CDependency> {
     Some(CDependency {
         domain: u32_at(part, 1)?,
         coord: coord_at(part, 2)?,
@@ -78,7 +78,7 @@ pub fn c_dependency(part: &str) -> Option<CDependency> {
 }
 
 /// Of `perf` or `throttle` the register: `none`, or the address of one of 8 bits.
-pub fn control_of(part: &str) -> Option<Option<Register>> {
+pub(crate) fn control_of(part: &str) -> Option<Option<Register>> {
     if word_at(part, 3)? == "none" {
         return Some(None);
     }
@@ -92,7 +92,7 @@ pub fn control_of(part: &str) -> Option<Option<Register>> {
 }
 
 /// Of `perf` or `throttle` the domain: `DOMAIN COORDINATION PROCESSORS`, or nothing.
-pub fn dependency_of(part: &str) -> Option<Option<Dependency>> {
+pub(crate) fn dependency_of(part: &str) -> Option<Option<Dependency>> {
     if word_at(part, 4).is_none() {
         return Some(None);
     }

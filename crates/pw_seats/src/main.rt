@@ -1,8 +1,8 @@
 //! Worked calls on the coordinators that many callers share: of states (`data/calls.txt`), and of desired
 //! performance (`data/desk_calls.txt`). Both list cases: of each the containers and processors of a machine,
-//! how the coordinator is opened, and calls by its seats. What each call tells is printed, and at the end what
-//! the closed history has, and whether one caller alone would have been told the same there, or would have done
-//! the same operations.
+//! how the coordinator is opened, and calls by its seats. What each call tells is printed, and at the end
+//! what the closed history has, and whether one caller alone would have been told the same there, or would
+//! have done the same operations.
 #![tactic(auto)]
 
 mod ask;

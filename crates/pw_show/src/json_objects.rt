@@ -16,8 +16,8 @@ use pw_base::{Failed, Sink};
 use pw_text::{Page, PrintFault};
 use std::alloc::Global;
 
-/// Puts an object of the namespace as JSON, behind a comma unless it is the first: its kind, its full path, and its
-/// own value if it has one.
+/// Puts an object of the namespace as JSON, behind a comma unless it is the first: its kind, its full path,
+/// and its own value if it has one.
 pub fn put_json_object<K: Sink>(
     alloc: Global,
     page: &mut Page,
@@ -53,7 +53,8 @@ fn put_valued<K: Sink>(
     value: &Data,
 ) -> Result<(), PrintFault>
     ensures { PutsUnlessMemory K.Sink sink.old sink.new page.old page.new
-        (comma_before index ++ compact_text (with_value (told value.now).kind path.now (told value.now).value)) result }
+        (comma_before index
+        ++ compact_text (with_value (told value.now).kind path.now (told value.now).value)) result }
 {
     put_head(page, sink, index, kind_of(value), path, b",\"value\":")?;
     put_told(alloc, page, sink, value)?;

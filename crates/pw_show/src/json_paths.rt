@@ -10,8 +10,8 @@ use aml_data::{Path, Seg};
 use pw_base::{Failed, Sink};
 use pw_text::Page;
 
-/// Puts a place, counted from the root, as a string of JSON. The only character of a path that JSON escapes is
-/// the backslash of the root.
+/// Puts a place, counted from the root, as a string of JSON. The only character of a path that JSON escapes
+/// is the backslash of the root.
 pub fn put_json_place<K: Sink>(page: &mut Page, sink: &mut K, segs: &[Seg]) -> Result<(), Failed>
     ensures { PutsText K.Sink sink.old sink.new page.old page.new
         (compact_text (string (place_text segs.now))) (is_ok result) }

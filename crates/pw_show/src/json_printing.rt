@@ -14,8 +14,8 @@ use pw_base::{Room, Sink};
 use pw_text::{Page, PrintFault};
 use std::alloc::Global;
 
-/// Prints the objects of a space as one JSON text and a line feed, piece by piece. Memory is taken for a piece of a
-/// string at a time, so it may run out in the midst of the text.
+/// Prints the objects of a space as one JSON text and a line feed, piece by piece. Memory is taken for a
+/// piece of a string at a time, so it may run out in the midst of the text.
 pub fn print_json<K: Sink>(alloc: Global, space: &Space<'_>, out: &mut K) -> Result<(), PrintFault>
     ensures keeps { KeepsSink K.told K.faults out.old out.new }
     ensures whole { OnOk result (K.told out.old ≡ true →

@@ -13,8 +13,8 @@ use std::alloc::Global;
 /// So many bytes of a string are made a value at once.
 const PIECE: usize = 512;
 
-/// Puts the text whose characters have these codes, as a string of JSON. A value of `serde_json` is made of a piece of
-/// it at a time.
+/// Puts the text whose characters have these codes, as a string of JSON. A value of `serde_json` is made of
+/// a piece of it at a time.
 pub fn put_characters<K: Sink>(
     alloc: Global,
     page: &mut Page,

@@ -128,7 +128,8 @@ fn put_count<K: Sink>(page: &mut Page, sink: &mut K, count: u64) -> Result<(), F
     page.put(sink, b",\"elements\":[")
 }
 
-/// Puts the front of an object as JSON, behind a comma unless it is the first: its kind and the key of what comes.
+/// Puts the front of an object as JSON, behind a comma unless it is the first: its kind and the key of what
+/// comes.
 pub fn put_front<K: Sink>(
     page: &mut Page,
     sink: &mut K,
