@@ -265,7 +265,7 @@ struct yeq_op {
 struct yeq_seat_facts {
     uint32_t number; /* its number; no two seats of a coordinator have the same */
     uint32_t parts;  /* of the coordinator's 65,536 */
-    uint32_t seen;   /* how many entries of the history it has seen */
+    uint64_t seen;   /* how many entries of the history it has seen */
 };
 
 /* A request that was made, as the history keeps it. */
@@ -485,7 +485,7 @@ YEQ_AT(yeq_op, access, 27);
 YEQ_AT(yeq_op, length, 28);
 YEQ_AT(yeq_op, states, 29);
 
-YEQ_ASSERT(sizeof(struct yeq_seat_facts) == 12);
+YEQ_ASSERT(sizeof(struct yeq_seat_facts) == 16);
 YEQ_AT(yeq_seat_facts, number, 0);
 YEQ_AT(yeq_seat_facts, parts, 4);
 YEQ_AT(yeq_seat_facts, seen, 8);

@@ -79,6 +79,7 @@ fn run<R: Registers>(
     requires room { (q : request) → ops_bound plan.now q ≤ ops.old.capacity }
     requires empty { journal.old.entries ≡ [] }
     requires space { journal.old.capacity ≡ length lines.now }
+    ensures space { journal.new.capacity ≡ journal.old.capacity }
     ensures keeps { Keeps plan.now journal.new.entries records.new }
     ensures lawful { LawfulSerial plan.now (requests_of lines.now) result journal.new.entries }
     ensures seats { AllByRecursion (λ (e : entry). e.seat ≡ 0) journal.new.entries }

@@ -65,6 +65,7 @@ pub fn make_all<R: Registers>(
     requires space { journal.old.capacity ≡ length lines.now }
     requires room { (q : request) → ops_bound plan.now q ≤ ops.old.capacity }
     requires few { ops.old.capacity < 2 ^ 32 }
+    ensures space { journal.new.capacity ≡ journal.old.capacity }
     ensures keeps { Keeps plan.now journal.new.entries records.new }
     ensures ran { Ran plan.now lines.now journal.new.entries
         (registers_seen R.Registers journal.old.regs) (registers_seen R.Registers journal.new.regs) }

@@ -13,6 +13,8 @@ use Rattle.pw_machine.specs.Machine.{Given}
 use Rattle.pw_rule.specs.Rule.{given_of, promise_of}
 use Rattle.pw_turns.specs.declared.coordinator.Coordinator.{Coordinator}
 use Rattle.pw_turns.specs.declared.coordinator.Seat.{Seat as place}
+use Rattle.pw_turns.specs.declared.keeping.Keeps.{Ghosts as Keeps}
+use Rattle.pw_turns.specs.declared.keeping.Kept.{Kept}
 use Rattle.pw_turns.specs.declared.requests.Try.{Try}
 use Rattle.pw_turns.specs.declared.seats.SplitFault.TheVariants.{Many}
 use Rattle.pw_regs.specs.declared.registers.Registers.{Ghosts as Registers}
@@ -38,7 +40,11 @@ use Rattle.pw_embed.specs.declared.sharing.Sharing.{Sharing}
 
 -- # What is shared
 
-abbrev pub coordinator_of : Sharing → Coordinator NoRegisters
+-- it keeps the entries of its history
+abbrev pub keeps_all : Keeps Kept
+keeps_all = record { most = 65536 }
+
+abbrev pub coordinator_of : Sharing → Coordinator NoRegisters Kept keeps_all
 coordinator_of s = arc_value s.coordinator
 
 abbrev pub plan_of : Sharing → Plan

@@ -31,7 +31,7 @@ pub struct SeatFacts {
     /// Of the coordinator's 65,536.
     pub parts: u32,
     /// How many entries of the history it has seen.
-    pub seen: u32,
+    pub seen: u64,
 }
 
 impl Sharing {
@@ -101,7 +101,7 @@ impl Sharing {
             Some(ops) => (ops.list(), 0),
             None => {
                 if self.answered {
-                    (self.seat.operations(), u64::from(self.seat.seen()))
+                    (self.seat.operations(), self.seat.seen())
                 } else {
                     (&[], 0)
                 }

@@ -1,11 +1,13 @@
 ghost use Rattle.std.specs.Prelude.{◌≡◌, ◌↔◌, ◌≤◌, ◌<◌, ◌+◌, ◌^◌, ◌++◌, ◌∷◌, [], true, None};
-ghost use Rattle.std.specs.Prelude.{length, take, IfOk, IfErr, IfSome, OnOk, OnErr};
+ghost use Rattle.std.specs.Prelude.{length, take, vec_len, vec_capacity, IfOk, IfErr, IfSome, OnOk, OnErr};
 ghost use Rattle.pw_base.specs.Outside.{Rose};
 ghost use Rattle.pw_model.specs.History.{entry_of, Faultless};
 ghost use Rattle.pw_regs.specs.Registers.{KeepsRegisters};
 ghost use Rattle.pw_journal.specs.Entries.{fault_entry, fault_place};
+ghost use Rattle.pw_journal.specs.Journaled.{KeepsEntries};
 
 use crate::operating::operate_all;
+use crate::past::Past;
 use crate::recording::record_of;
 use acpi_values::Op;
 use pw_model::HistoryEntry;
@@ -16,33 +18,46 @@ use std::marker::Model;
 
 /// What was asked, entry by entry, and the registers that were operated for it. It takes its room
 /// when it is opened, and none later. Contracts see the entries, the capacity and the registers. No
-/// call reads an entry before `finish`.
+/// call reads an entry before `finish`, and only a journal whose capacity is a number of 32 bits keeps
+/// them for it: one that is opened by `endless` counts them.
 #[derive(Drop)]
 pub struct Journal<R> {
-    entries: Vec<HistoryEntry>,
-    capacity: u32,
+    past: Past<HistoryEntry>,
+    kept: Vec<HistoryEntry>,
+    count: u64,
+    capacity: u64,
     stopped: bool,
     regs: R,
 }
 
 impl<R> Model for Journal<R> {
     ghost use Rattle.std.specs.Prelude.{◌≡◌, ◌≤◌, ◌<◌, ◌^◌, length, None, Some, if◌then◌else◌};
-    ghost use Rattle.std.specs.Prelude.{vec_len, vec_capacity};
+    ghost use Rattle.std.specs.Prelude.{vec_capacity};
     ghost use Rattle.pw_journal.specs.Journaled.{Journaled};
     ghost use Rattle.pw_journal.specs.Entries.{fault_place};
 
     ghost Value = { Journaled R };
 
     ghost view = { λ j. record {
-      entries = j.entries.items;
+      entries = j.past.items;
       capacity = j.capacity;
       regs = j.regs;
     } };
 
-    ghost invariant = { λ j. (j.capacity < 2 ^ 32) × (vec_len j.entries ≤ j.capacity)
-        × (j.capacity ≤ vec_capacity j.entries)
-        × (fault_place j.entries.items
-        ≡ (if j.stopped then Some (length j.entries.items) else None)) };
+    ghost invariant = { λ j. (j.capacity < 2 ^ 64) × (j.count ≡ length j.past.items) × (j.count ≤ j.capacity)
+        × (j.capacity < 2 ^ 32 → (j.kept.items ≡ j.past.items) × (j.capacity ≤ vec_capacity j.kept))
+        × (fault_place j.past.items ≡ (if j.stopped then Some j.count else None)) };
+}
+
+/// Keeps an entry where the capacity is a number of 32 bits.
+fn keep(kept: &mut Vec<HistoryEntry>, capacity: u64, entry: HistoryEntry)
+    requires room { capacity < 2 ^ 32 → vec_len kept.old < vec_capacity kept.old }
+    ensures kept { capacity < 2 ^ 32 → kept.new.items ≡ kept.old.items ++ entry ∷ [] }
+    ensures room { capacity < 2 ^ 32 → vec_capacity kept.new ≡ vec_capacity kept.old }
+{
+    if capacity <= u64::from(u32::MAX) {
+        kept.push_reserved(entry);
+    }
 }
 
 impl<R> Journal<R> {
@@ -57,9 +72,11 @@ impl<R> Journal<R> {
         ensures given_back { IfErr result (λ back. back ≡ regs) }
     {
         match Vec::with_capacity(alloc, capacity as usize) {
-            Ok(entries) => Ok(Journal {
-                entries,
-                capacity,
+            Ok(kept) => Ok(Journal {
+                past: Past::new(),
+                kept,
+                count: 0,
+                capacity: u64::from(capacity),
                 stopped: false,
                 regs,
             }),
@@ -67,35 +84,54 @@ impl<R> Journal<R> {
         }
     }
 
+    /// An empty journal over these registers that counts its entries and keeps none, as many as 64 bits
+    /// count. It takes no memory.
+    pub fn endless(alloc: Global, regs: R) -> Journal<R>
+        ensures { result ≡ record {
+          entries = [];
+          capacity = 18446744073709551615;
+          regs = regs;
+        } }
+    {
+        Journal {
+            past: Past::new(),
+            kept: Vec::new(alloc),
+            count: 0,
+            capacity: u64::MAX,
+            stopped: false,
+            regs,
+        }
+    }
+
     /// How many entries there are.
-    pub fn len(&self) -> u32
+    pub fn len(&self) -> u64
         ensures { result ≡ length self.now.entries }
     {
-        self.entries.len() as u32
+        self.count
     }
 
     /// How many entries there may be.
-    pub fn capacity(&self) -> u32
+    pub fn capacity(&self) -> u64
         ensures { result ≡ self.now.capacity }
     {
         self.capacity
     }
 
     /// The place of the entry that is a fault, counted from 1. It is the last.
-    pub fn fault_at(&self) -> Option<u32>
+    pub fn fault_at(&self) -> Option<u64>
         ensures place { result ≡ fault_place self.now.entries }
         ensures none { result ≡ None ↔ Faultless self.now.entries }
         ensures last { IfSome result (λ place. place ≡ length self.now.entries) }
     {
-        if self.stopped { Some(self.len()) } else { None }
+        if self.stopped { Some(self.count) } else { None }
     }
 
-    /// The entries, in order, and the registers.
+    /// The entries, in order, where they were kept, and the registers.
     pub fn finish(self) -> (Vec<HistoryEntry>, R)
-        ensures entries { result.0.items ≡ self.entries }
+        ensures entries { KeepsEntries self → result.0.items ≡ self.entries }
         ensures regs { result.1 ≡ self.regs }
     {
-        (self.entries, self.regs)
+        (self.kept, self.regs)
     }
 
     /// Appends the entry of a request that ended with this fault, 0 for none.
@@ -106,7 +142,10 @@ impl<R> Journal<R> {
           entries = self.old.entries ++ record (entry_of seat request) { fault = fault } ∷ [];
         } }
     {
-        self.entries.push_reserved(record_of(seat, request, fault));
+        let entry = record_of(seat, request, fault);
+        self.past.push(&entry);
+        keep(&mut self.kept, self.capacity, entry);
+        self.count += 1;
         self.stopped = fault > 0;
     }
 }

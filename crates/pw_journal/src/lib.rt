@@ -4,6 +4,7 @@
 
 mod journal;
 mod operating;
+mod past;
 mod recording;
 
 pub use journal::Journal;

@@ -5,6 +5,6 @@ use std::snapshot::Snapshot;
 #[derive(Drop)]
 pub struct Setup<R> {
     pub plan: Plan,
-    pub capacity: u32,
+    pub capacity: u64,
     pub regs: Snapshot<R>,
 }

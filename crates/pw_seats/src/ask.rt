@@ -7,7 +7,7 @@ use crate::seats::Shared;
 use crate::text::{put_done, put_split_fault, put_try};
 use pw_base::OpenGate;
 use pw_plan::Request;
-use pw_turns::{Done, Seat, Try};
+use pw_turns::{Done, Keeps, Seat, Try};
 use std::alloc::Global;
 use std::sync::Wait;
 
@@ -22,10 +22,10 @@ fn hear(heard: &mut Vec<Heard>, seat: &Seat, reply: pw_model::Reply) -> Option<(
 }
 
 /// Tells what a request is told that doesn't wait.
-pub(crate) fn try_ask(
+pub(crate) fn try_ask<K: Keeps>(
     text: &mut String,
     heard: &mut Vec<Heard>,
-    shared: &Shared,
+    shared: &Shared<K>,
     seat: &mut Seat,
     request: Request,
 ) -> Option<()>
@@ -44,10 +44,10 @@ pub(crate) fn try_ask(
 }
 
 /// Makes a request that waits, and notes its reply.
-pub(crate) fn ask<W: Wait>(
+pub(crate) fn ask<W: Wait, K: Keeps>(
     rt: &W,
     heard: &mut Vec<Heard>,
-    shared: &Shared,
+    shared: &Shared<K>,
     seat: &mut Seat,
     request: Request,
 ) -> Option<Done>
@@ -66,11 +66,11 @@ pub(crate) fn ask<W: Wait>(
 }
 
 /// Tells what a request is told that waits.
-pub(crate) fn wait_ask<W: Wait>(
+pub(crate) fn wait_ask<W: Wait, K: Keeps>(
     rt: &W,
     text: &mut String,
     heard: &mut Vec<Heard>,
-    shared: &Shared,
+    shared: &Shared<K>,
     seat: &mut Seat,
     request: Request,
 ) -> Option<()>
@@ -83,10 +83,10 @@ pub(crate) fn wait_ask<W: Wait>(
 }
 
 /// Splits a part off and joins it back, so often. It ends earlier where no seat is made, and tells why.
-pub(crate) fn rounds(
+pub(crate) fn rounds<K: Keeps>(
     text: &mut String,
     alloc: Global,
-    shared: &Shared,
+    shared: &Shared<K>,
     mut seat: Seat,
     count: u32,
 ) -> (Seat, Option<()>)

@@ -9,7 +9,7 @@ use crate::text::{put_entries, put_open_fault};
 use pw_machines::{plan_of, u32_at};
 use pw_plan::Plan;
 use pw_regs::FailingRegisters;
-use pw_turns::{Closed, Coordinator, Seat};
+use pw_turns::{Closed, Coordinator, Counted, Keeps, Seat};
 use std::alloc::Global;
 use std::sync::Wait;
 use std::thread::Threads;
@@ -32,12 +32,12 @@ fn registers_of(alloc: Global, opening: &str) -> Option<FailingRegisters> {
 }
 
 /// What the calls of lines tell, each in a line.
-fn play_all<R: Threads + Wait + Sync>(
+fn play_all<R: Threads + Wait + Sync, K: Keeps + Sync>(
     rt: &R,
     text: &mut String,
     alloc: Global,
     heard: &mut Vec<Heard>,
-    shared: &Shared,
+    shared: &Shared<K>,
     seats: &mut Vec<Seat>,
     lines: &str,
 ) -> Option<()>
@@ -73,23 +73,64 @@ fn put_closed(
     put_entries(text, entries)
 }
 
+/// Makes the calls of the lines, and joins the seats.
+fn played<R: Threads + Wait + Sync, K: Keeps + Sync>(
+    rt: &R,
+    text: &mut String,
+    alloc: Global,
+    heard: &mut Vec<Heard>,
+    shared: &Shared<K>,
+    mut seats: Vec<Seat>,
+    lines: &str,
+) -> (Seat, Option<()>)
+    requires { AreSeats shared.now.table.shared.table_id seats.items 65536 }
+    ensures owns { Owns shared.now.table.shared.table_id result.0 }
+    ensures alone { parts_of result.0 ≡ 65536 }
+{
+    let told = play_all(rt, text, alloc, heard, shared, &mut seats, lines);
+    (gathered(shared, seats), told)
+}
+
 /// Makes the calls of the lines, and closes the coordinator.
-fn played<R: Threads + Wait + Sync>(
+fn played_to_close<R: Threads + Wait + Sync>(
     rt: &R,
     text: &mut String,
     alloc: Global,
     shared: Shared,
-    mut seats: Vec<Seat>,
+    seats: Vec<Seat>,
     lines: &str,
 ) -> Option<()>
     requires { AreSeats shared.table.shared.table_id seats.items 65536 }
 {
     let mut heard = Vec::new(alloc);
-    let told = play_all(rt, text, alloc, &mut heard, &shared, &mut seats, lines);
-    let seat = gathered(&shared, seats);
+    let (seat, told) = played(rt, text, alloc, &mut heard, &shared, seats, lines);
     let closed = shared.close(seat);
     told?;
     put_closed(text, alloc, &closed, heard.as_slice())
+}
+
+/// Makes the calls of the lines, and takes the registers of the coordinator without end.
+fn played_to_release<R: Threads + Wait + Sync>(
+    rt: &R,
+    text: &mut String,
+    alloc: Global,
+    shared: Shared<Counted>,
+    seats: Vec<Seat>,
+    lines: &str,
+) -> Option<()>
+    requires { AreSeats shared.table.shared.table_id seats.items 65536 }
+{
+    let mut heard = Vec::new(alloc);
+    let (seat, told) = played(rt, text, alloc, &mut heard, &shared, seats, lines);
+    let seen = seat.seen();
+    let regs = shared.release(seat);
+    told?;
+    write!(text, "\n  release -> {seen} entries seen").ok()?;
+    if seen > MOST_ENTRIES as u64 {
+        return Some(());
+    }
+    let ops = regs.log().len();
+    write!(text, ", {ops} operations").ok()
 }
 
 /// `open CAPACITY ROOM FAILS ..`, and lines of calls.
@@ -98,22 +139,43 @@ fn opened<R: Threads + Wait + Sync>(
     text: &mut String,
     alloc: Global,
     plan: Plan,
-    calls: &str,
+    opening: &str,
+    lines: &str,
 ) -> Option<()> {
-    let (opening, lines) = calls.split_once("\n").unwrap_or((calls, ""));
     let capacity = u32_at(opening, 0)?;
     if capacity > 65536 {
         return None;
     }
     let regs = registers_of(alloc, opening)?;
     let mut seats = Vec::with_capacity(alloc, MOST_SEATS).ok()?;
-    write!(text, "  open {opening} -> ").ok()?;
     match Coordinator::open(alloc, plan, regs, capacity) {
         Err(why) => put_open_fault(text, &why),
         Ok((shared, seat)) => {
             seats.push_reserved(seat);
             let told = text.push_str("opened").ok();
-            let rest = played(rt, text, alloc, shared, seats, lines);
+            let rest = played_to_close(rt, text, alloc, shared, seats, lines);
+            told.and(rest)
+        }
+    }
+}
+
+/// `open endless ROOM FAILS ..`, and lines of calls.
+fn opened_endless<R: Threads + Wait + Sync>(
+    rt: &R,
+    text: &mut String,
+    alloc: Global,
+    plan: Plan,
+    opening: &str,
+    lines: &str,
+) -> Option<()> {
+    let regs = registers_of(alloc, opening)?;
+    let mut seats = Vec::with_capacity(alloc, MOST_SEATS).ok()?;
+    match Coordinator::open_endless(alloc, plan, regs) {
+        Err(why) => put_open_fault(text, &why),
+        Ok((shared, seat)) => {
+            seats.push_reserved(seat);
+            let told = text.push_str("opened").ok();
+            let rest = played_to_release(rt, text, alloc, shared, seats, lines);
             told.and(rest)
         }
     }
@@ -124,6 +186,12 @@ pub(crate) fn told<R: Threads + Wait + Sync>(rt: &R, alloc: Global, lines: &str)
     let (machine, calls) = lines.split_once("\nopen ")?;
     let plan = plan_of(alloc, machine).ok()?;
     let mut text = String::new(alloc);
-    opened(rt, &mut text, alloc, plan, calls)?;
+    let (opening, lines) = calls.split_once("\n").unwrap_or((calls, ""));
+    write!(&mut text, "  open {opening} -> ").ok()?;
+    if opening.starts_with("endless ") {
+        opened_endless(rt, &mut text, alloc, plan, opening, lines)?;
+    } else {
+        opened(rt, &mut text, alloc, plan, opening, lines)?;
+    }
     Some(text)
 }

@@ -7,7 +7,7 @@ use crate::ask::ask;
 use crate::replay::Heard;
 use crate::seats::Shared;
 use pw_plan::Request;
-use pw_turns::{Done, Seat};
+use pw_turns::{Done, Keeps, Seat};
 use std::alloc::Global;
 use std::sync::Wait;
 use std::thread::{Threads, join};
@@ -38,10 +38,10 @@ fn request_at(cpu: u32, round: u32) -> Request {
 }
 
 /// Makes the requests of so many rounds for a processor.
-fn ask_alone<W: Wait>(
+fn ask_alone<W: Wait, K: Keeps>(
     rt: &W,
     alloc: Global,
-    shared: &Shared,
+    shared: &Shared<K>,
     mut seat: Seat,
     cpu: u32,
     rounds: u32,
@@ -64,7 +64,7 @@ fn ask_alone<W: Wait>(
 }
 
 /// The seats joined, and what both heard.
-fn joined(shared: &Shared, one: Crew, other: Crew) -> Crew
+fn joined<K: Keeps>(shared: &Shared<K>, one: Crew, other: Crew) -> Crew
     requires one { Owns shared.now.table.shared.table_id one.seat }
     requires other { Owns shared.now.table.shared.table_id other.seat }
     ensures owns { Owns shared.now.table.shared.table_id result.seat }
@@ -84,10 +84,10 @@ fn both(one: Option<Vec<Heard>>, other: Option<Vec<Heard>>) -> Option<Vec<Heard>
 
 /// Makes the requests of so many rounds for each of these processors, each in a thread of its own and
 /// by a seat of its own, and joins the seats.
-pub(crate) fn ask_in_threads<R: Threads + Wait + Sync>(
+pub(crate) fn ask_in_threads<R: Threads + Wait + Sync, K: Keeps + Sync>(
     rt: &R,
     alloc: Global,
-    shared: &Shared,
+    shared: &Shared<K>,
     mut seat: Seat,
     cpu: u32,
     members: u32,

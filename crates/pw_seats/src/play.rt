@@ -8,18 +8,18 @@ use crate::replay::Heard;
 use crate::seats::{Shared, put, taken};
 use crate::text::{put_seat, put_split_fault};
 use pw_machines::{request_of, u32_at, word_at};
-use pw_turns::Seat;
+use pw_turns::{Keeps, Seat};
 use std::alloc::Global;
 use std::sync::Wait;
 use std::thread::Threads;
 
 /// Has so many processors, from the first on, make their requests in threads.
-fn threads<R: Threads + Wait + Sync>(
+fn threads<R: Threads + Wait + Sync, K: Keeps + Sync>(
     rt: &R,
     text: &mut String,
     alloc: Global,
     heard: &mut Vec<Heard>,
-    shared: &Shared,
+    shared: &Shared<K>,
     seat: Seat,
     members: u32,
     rounds: u32,
@@ -42,12 +42,12 @@ fn put_heard(text: &mut String, heard: &mut Vec<Heard>, all: Option<Vec<Heard>>)
 
 /// What a line asks of one seat: `ask SEAT REQUEST`, `wait SEAT REQUEST`, `rounds SEAT COUNT` or
 /// `threads SEAT MEMBERS ROUNDS`.
-fn call<R: Threads + Wait + Sync>(
+fn call<R: Threads + Wait + Sync, K: Keeps + Sync>(
     rt: &R,
     text: &mut String,
     alloc: Global,
     heard: &mut Vec<Heard>,
-    shared: &Shared,
+    shared: &Shared<K>,
     mut seat: Seat,
     line: &str,
 ) -> (Seat, Option<()>)
@@ -89,10 +89,10 @@ fn request_behind(line: &str) -> Option<pw_plan::Request> {
     request_of(request)
 }
 
-fn ask_line(
+fn ask_line<K: Keeps>(
     text: &mut String,
     heard: &mut Vec<Heard>,
-    shared: &Shared,
+    shared: &Shared<K>,
     seat: &mut Seat,
     line: &str,
 ) -> Option<()>
@@ -106,11 +106,11 @@ fn ask_line(
     try_ask(text, heard, shared, seat, request_behind(line)?)
 }
 
-fn wait_line<W: Wait>(
+fn wait_line<W: Wait, K: Keeps>(
     rt: &W,
     text: &mut String,
     heard: &mut Vec<Heard>,
-    shared: &Shared,
+    shared: &Shared<K>,
     seat: &mut Seat,
     line: &str,
 ) -> Option<()>
@@ -122,10 +122,10 @@ fn wait_line<W: Wait>(
 }
 
 /// `split SEAT PARTS`.
-fn split(
+fn split<K: Keeps>(
     text: &mut String,
     alloc: Global,
-    shared: &Shared,
+    shared: &Shared<K>,
     seats: &mut Vec<Seat>,
     line: &str,
 ) -> Option<()>
@@ -158,7 +158,12 @@ fn split(
 }
 
 /// `join SEAT OTHER`.
-fn join(text: &mut String, shared: &Shared, seats: &mut Vec<Seat>, line: &str) -> Option<()>
+fn join<K: Keeps>(
+    text: &mut String,
+    shared: &Shared<K>,
+    seats: &mut Vec<Seat>,
+    line: &str,
+) -> Option<()>
     requires { AreSeats shared.now.table.shared.table_id seats.old.items 65536 }
     ensures { AreSeats shared.now.table.shared.table_id seats.new.items 65536 }
 {
@@ -175,12 +180,12 @@ fn join(text: &mut String, shared: &Shared, seats: &mut Vec<Seat>, line: &str) -
 }
 
 /// Makes the call of a line, and tells what it is told.
-pub(crate) fn play<R: Threads + Wait + Sync>(
+pub(crate) fn play<R: Threads + Wait + Sync, K: Keeps + Sync>(
     rt: &R,
     text: &mut String,
     alloc: Global,
     heard: &mut Vec<Heard>,
-    shared: &Shared,
+    shared: &Shared<K>,
     seats: &mut Vec<Seat>,
     line: &str,
 ) -> Option<()>

@@ -3,13 +3,17 @@ ghost use Rattle.pw_turns.specs.Owning.{Owns};
 ghost use Rattle.pw_seats.specs.Seats.{AreSeats, parts_in, parts_of};
 
 use pw_regs::FailingRegisters;
-use pw_turns::{Coordinator, Seat};
+use pw_turns::{Coordinator, Keeps, Kept, Seat};
 
 /// A coordinator of registers in memory.
-pub type Shared = Coordinator<FailingRegisters>;
+pub type Shared<K = Kept> = Coordinator<FailingRegisters, K>;
 
 /// Takes out the seat with this number, if it is among these.
-pub(crate) fn taken(_shared: &Shared, seats: &mut Vec<Seat>, number: u32) -> Option<Seat>
+pub(crate) fn taken<K: Keeps>(
+    _shared: &Shared<K>,
+    seats: &mut Vec<Seat>,
+    number: u32,
+) -> Option<Seat>
     requires all { All (Owns _shared.now.table.shared.table_id) seats.old.items }
     ensures all { All (Owns _shared.now.table.shared.table_id) seats.new.items }
     ensures seat { IfSome result (Owns _shared.now.table.shared.table_id) }
@@ -24,7 +28,7 @@ pub(crate) fn taken(_shared: &Shared, seats: &mut Vec<Seat>, number: u32) -> Opt
 }
 
 /// Puts a seat among the others.
-pub(crate) fn put(_shared: &Shared, seats: &mut Vec<Seat>, seat: Seat)
+pub(crate) fn put<K: Keeps>(_shared: &Shared<K>, seats: &mut Vec<Seat>, seat: Seat)
     requires all { All (Owns _shared.now.table.shared.table_id) seats.old.items }
     requires seat { Owns _shared.now.table.shared.table_id seat }
     requires room { vec_len seats.old < vec_capacity seats.old }
@@ -37,7 +41,7 @@ pub(crate) fn put(_shared: &Shared, seats: &mut Vec<Seat>, seat: Seat)
 }
 
 /// All seats joined into one.
-pub(crate) fn gathered(shared: &Shared, mut seats: Vec<Seat>) -> Seat
+pub(crate) fn gathered<K: Keeps>(shared: &Shared<K>, mut seats: Vec<Seat>) -> Seat
     requires { AreSeats shared.now.table.shared.table_id seats.items 65536 }
     ensures owns { Owns shared.now.table.shared.table_id result }
     ensures alone { parts_of result ≡ 65536 }

@@ -13,6 +13,7 @@ ghost use Rattle.pw_turns.specs.Went.{FreedOne, OneMore, TookOne};
 ghost use Rattle.pw_turns.specs.Steps.{IsOut, LedOut, MetRecord, TookOut, content_part};
 
 use crate::coordinator::{Coordinator, TableSeat};
+use crate::keeping::Keeps;
 use crate::plays::{Asked, Commit, LockJournal, LockRecord, UnlockJournal, UnlockRecord};
 use pw_journal::Journal;
 use pw_plan::Request;
@@ -20,7 +21,7 @@ use pw_regs::Registers;
 use pw_rule::{Boxed, Content};
 use std::marker::Brand;
 
-impl<R: Registers> Coordinator<R> {
+impl<R: Registers, K: Keeps> Coordinator<R, K> {
     /// The record of a turn, or the number of the seat that has it: then this one gives up, or goes on.
     pub(crate) fn lock_record<Q: Asked>(
         &self,

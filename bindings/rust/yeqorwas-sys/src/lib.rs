@@ -67,7 +67,7 @@ plain! {
         address: u64, value: u64, kind: u32, cpu: u32,
         space: u8, width: u8, offset: u8, access: u8, length: u8, states: [u8; 9]
     }
-    yeq_seat_facts { number: u32, parts: u32, seen: u32 }
+    yeq_seat_facts { number: u32, parts: u32, seen: u64 }
     yeq_entry { seat: u32, fault: u32, request: yeq_request }
     yeq_cppc_request { kind: u32, cpu: u32, value: u32 }
     yeq_cppc_reply { kind: u32, why: u32, value: u64, highest: u64 }
@@ -157,6 +157,6 @@ const _: () = {
     assert!(size_of::<yeq_machine>() == 16 && size_of::<yeq_seat>() == 16 && size_of::<yeq_cppc>() == 16);
     assert!(size_of::<yeq_fault>() == 32 && size_of::<yeq_counts>() == 24 && size_of::<yeq_cpu>() == 16);
     assert!(size_of::<yeq_request>() == 16 && size_of::<yeq_reply>() == 20 && size_of::<yeq_op>() == 40);
-    assert!(size_of::<yeq_seat_facts>() == 12 && size_of::<yeq_entry>() == 24);
+    assert!(size_of::<yeq_seat_facts>() == 16 && size_of::<yeq_entry>() == 24);
     assert!(size_of::<yeq_cppc_request>() == 12 && size_of::<yeq_cppc_reply>() == 24);
 };

@@ -5,8 +5,8 @@ use Rattle.pw_turns.specs.Owning.{Owns}
 use Rattle.pw_seats.specs.Seats.{parts_of}
 use Rattle.pw_seats.proofs.case.opened.Goals as goal
 
-pub played-rest-requires-after_bounds : goal.played-rest-requires-after_bounds
-played-rest-requires-after_bounds g c κs within =
+pub played_to_close-rest-requires-after_bounds : goal.played_to_close-rest-requires-after_bounds
+played_to_close-rest-requires-after_bounds g c κs within =
     let id = c.in-Ok.shared.table.shared.table_id in
     let seat = c.in-Ok.seat in
     let empty : c.in_ok-seats.seats.items ≡ [] = search rules in
