@@ -1,9 +1,9 @@
 -- Paths and strings as JSON has them, with its escapes.
-use Rattle.std.proofs.Common.{◌≡◌, ◌+◌, ◌-◌, ◌<◌, ◌≤◌, ℕ, suc, zero, true, false, IsTrue, List, [], ◌∷◌, ◌++◌, take, drop, get_or, length, refl, sym, ◌∙◌, ap, append_assoc, replicate, codes, encode_utf8, encode_utf8_all, arith, length-append}
+use Rattle.std.proofs.Common.{◌≡◌, ◌⊎◌, inl, inr, ◌+◌, ◌-◌, ◌<◌, ◌≤◌, ℕ, suc, zero, true, false, IsTrue, List, [], ◌∷◌, ◌++◌, take, drop, get_or, length, refl, sym, ◌∙◌, ap, append_assoc, replicate, codes, encode_utf8, encode_utf8_all, arith, length-append}
 use Rattle.std.proofs.lemmas.List.{append-nil, replicate-append-replicate}
 use Rattle.std.proofs.lemmas.Bool.Decides.{nat_tests}
 use Rattle.std.proofs.lemmas.Grind.{flat_map-append}
-use Rattle.std.proofs.lemmas.Str.{encodes-append}
+use Rattle.std.proofs.lemmas.Str.{encode_ascii, encodes-append}
 use Rattle.std.proofs.Math.Seq.{take-append_seam, take-suc}
 use Rattle.std.specs.List.{flat_map}
 use Rattle.json.specs.Print.{escape, escape_byte, quoted}
@@ -15,7 +15,7 @@ use Rattle.serde_json.specs.Written.{compact_text}
 use Rattle.pw_text.specs.Text.{path_prefix, segments_text}
 use Rattle.pw_text.proofs.Joined.{join-flat_map}
 use Rattle.pw_show.specs.Json.{characters}
-use Rattle.pw_show.specs.inner.Pieces.{character_text}
+use Rattle.pw_show.specs.inner.Pieces.{character_text, is_printable}
 
 -- # Segments
 
@@ -119,3 +119,17 @@ pub encodes-take-suc : (bytes : List ℕ) (i : ℕ) → i < length bytes
 encodes-take-suc bytes i h =
     ap encode_utf8_all (take-suc bytes i 0 h) ∙ encodes-append (take i bytes) (get_or bytes i 0 ∷ [])
     ∙ ap (λ l. encode_utf8_all (take i bytes) ++ l) (append-nil (encode_utf8 (get_or bytes i 0)))
+
+-- # Printable characters
+
+-- one stands as it is
+pub printable_stands : (code : ℕ) → is_printable code ≡ true → (code ≡ 34 → ⊥) → (code ≡ 92 → ⊥) → code ∷ [] ≡ character_text code
+printable_stands code h quote slash =
+    sym (ap escape (encode_ascii code (grind (arith, nat_tests))) ∙ append-nil (escape_byte code)
+    ∙ escape_byte_plain code quote slash (grind (arith, nat_tests)))
+
+-- or behind a backslash
+pub quote_behind : (code : ℕ) → (code ≡ 34) ⊎ (code ≡ 92) → 92 ∷ code ∷ [] ≡ character_text code
+unfolding escape_byte
+quote_behind code (inl h) = rw h (sym (ap escape (encode_ascii 34 (omega arith))))
+quote_behind code (inr h) = rw h (sym (ap escape (encode_ascii 92 (omega arith))))

@@ -1,5 +1,5 @@
 -- Parts of texts that are put at once.
-use Rattle.std.specs.Prelude.{ℕ, List, ◌∷◌, ◌++◌, codes, decimal, encode_utf8}
+use Rattle.std.specs.Prelude.{ℕ, Bool, ◌&&◌, List, ◌∷◌, ◌++◌, codes, decimal, encode_utf8, nat_le, nat_lt}
 use Rattle.json.specs.Print.{escape}
 use Rattle.serde_json.specs.Data.{string}
 use Rattle.serde_json.specs.Written.{compact_text}
@@ -15,6 +15,10 @@ spaced_byte byte = behind (codes " ") (byte_digits byte)
 -- the same as a number behind a comma
 abbrev pub comma_number : ℕ → List ℕ
 comma_number byte = 44 ∷ decimal byte
+
+-- a character of ASCII that isn't a control character
+abbrev pub is_printable : ℕ → Bool
+is_printable code = nat_le 32 code && nat_lt code 127
 
 -- what JSON has in a string for the character of a code
 abbrev pub character_text : ℕ → List ℕ

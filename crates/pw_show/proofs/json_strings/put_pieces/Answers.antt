@@ -17,7 +17,7 @@ loop-rest-preserved g c =
     let done = c.loop-rest.invariant.0 in
     let piece = c.split_at.result.0.now in (
       done ++ piece,
-      more_done c.args.bytes.now done c.loop-rest.rest.now piece c.split_at.result.1.now c.min-size.result c.loop-rest.invariant.1 c.split_at.ensures.front c.split_at.ensures.back,
+      more_done c.args.bytes.now done c.loop-rest.rest.now piece c.split_at.result.1.now c.first_piece-size.result c.loop-rest.invariant.1 c.split_at.ensures.front c.split_at.ensures.back,
       PutsText-as (flat_map character_text (done ++ piece)) (sym (flat_map-append character_text done piece))
           (PutsText-then c.loop-rest.invariant.2 (c.in_ok-put_piece.ensures.whole refl)),
     )
@@ -28,7 +28,7 @@ returns-in_err-put_piece g c =
     let done = c.loop-rest.invariant.0 in
     let piece = c.split_at.result.0.now in
     let others = c.split_at.result.1.now in
-    let all = more_done bytes done c.loop-rest.rest.now piece others c.min-size.result c.loop-rest.invariant.1 c.split_at.ensures.front c.split_at.ensures.back in
+    let all = more_done bytes done c.loop-rest.rest.now piece others c.first_piece-size.result c.loop-rest.invariant.1 c.split_at.ensures.front c.split_at.ensures.back in
     let fault = fault_is c.from_residual.result _ c.from_residual.ensures.1 in
     puts_as (flat_map character_text bytes) (of_parts character_text bytes (done ++ piece) others all) refl
     (puts_stop (flat_map character_text others) c.from_residual.ensures.0

@@ -2,7 +2,7 @@ use Rattle.std.proofs.Common.{◌∙◌}
 use Rattle.pw_text.proofs.Putting.{PutsText-as}
 use Rattle.pw_show.proofs.Escapes.{within_quotes}
 use Rattle.pw_show.proofs.Putting.{fault_is, puts_done, puts_failed, puts_nothing}
-use Rattle.pw_show.proofs.json_strings.put_piece.Goals as goal
+use Rattle.pw_show.proofs.json_strings.put_others.Goals as goal
 
 pub inside-requires : goal.inside-requires
 inside-requires g c = (within_quotes c.args.bytes.now c.as_slice.result.now (c.as_slice.ensures.value ∙ c.in_ok-text.ensures)).0
