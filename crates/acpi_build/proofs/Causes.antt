@@ -1,5 +1,5 @@
 -- A plan's tables and notes: what they are, and why they are given.
-use Rattle.std.proofs.Common.{◌≡◌, ◌⊎◌, ℕ, suc, ◌+◌, ◌<◌, Bool, true, false, List, [], ◌∷◌, ◌++◌, length, map, get_or, Option, Some, None, refl, sym, ap, subst, ◌∙◌, inl, inr, arith}
+use Rattle.std.proofs.Common.{◌≡◌, ◌⊎◌, ℕ, suc, ◌+◌, ◌<◌, Bool, true, false, List, [], ◌∷◌, ◌++◌, length, map, get_or, Option, Some, None, Result, Ok, refl, sym, ap, subst, ◌∙◌, inl, inr, arith}
 use Rattle.std.specs.Prelude.{All, nat_lt}
 use Rattle.std.specs.List.{AllZip}
 use Rattle.std.proofs.lemmas.Bool.Decides.{nat_tests}
@@ -14,41 +14,49 @@ use Rattle.pw_plan.specs.declared.plan.Plan.{Plan}
 use Rattle.pw_plan.specs.Groups.{domain_in, no_domain}
 use Rattle.pw_plan.specs.Limits.{limit_passed}
 use Rattle.acpi_build.specs.declared.note.Note.{Note}
-use Rattle.acpi_build.specs.Building.{◌>>=◌, done}
+use Rattle.acpi_build.specs.declared.fault.BuildFault.{BuildFault}
+use Rattle.acpi_build.specs.declared.fault.ObjectFault.{ObjectFault}
+use Rattle.acpi_build.specs.Building.{Made, built, noting}
 use Rattle.acpi_build.specs.Finding.{containers_of, processors_of}
-use Rattle.acpi_build.specs.Machine.{parts_of}
-use Rattle.acpi_build.specs.Planning.{parts_within, unfit_notes, within, IsPlanFrom}
+use Rattle.acpi_build.specs.Machine.{Parts, parts_of}
+use Rattle.acpi_build.specs.Planning.{first_fault, judged, parts_within, unfit_notes, unless, within, IsPlanFrom}
 use Rattle.acpi_build.specs.Causes.{Cause, by_method, by_alias, of_no_states, beside_lpi, of_no_such_state, of_unfit_domain, AreNotesOfCauses, IsCause, IsCaused, note_of}
 use Rattle.acpi_build.specs.Sources.{IsContainerOf, IsCpuOf}
 use Rattle.acpi_build.proofs.Ranks.{joins_numbered, none_numbered, Numbered, numbered_on, onward}
 use Rattle.acpi_build.proofs.Sourced.{AreParts, OfTables, parts_yields}
-use Rattle.acpi_build.proofs.Yielding.{Adds, Joins, Lists, Told, Yields, joins_nothing, lists_both, lists_none, lists_one, lists_same, yields_done, yields_then}
+use Rattle.acpi_build.proofs.Yielding.{Adds, Joins, Lists, Told, lists_both, lists_none, lists_one, lists_same}
 
 -- # Tables
-
-within_yields : (note : Cause → Note) (o : Option PlanFault) → Yields note (λ _. ⊥) (λ _. Unit {0}) (within o)
-within_yields note None old = yields_done note (λ _. ⊥) (λ _. Unit {0}) (tt {0}) (λ c s. s) tt old
-within_yields note (Some (limits.Limit which number)) old = tt
-within_yields note (Some limits.Memory) old = yields_done note (λ _. ⊥) (λ _. Unit {0}) (tt {0}) (λ c s. s) tt old
 
 -- the causes that tables give
 abbrev TableCause : List Entry → Plan → Cause → Type 0
 TableCause entries plan c = OfTables c × IsCause entries plan c
 
-told_yields : (entries : List Entry) (plan : Plan) → IsDistinct (places_of entries) → Yields (note_of entries plan) (TableCause entries plan) (AreParts entries) (parts_within entries)
-unfolding parts_within
-told_yields entries plan distinct =
-    let N = note_of entries plan in
-    let S = TableCause entries plan in
-    let P = AreParts entries in
-    yields_then N S (λ _. ⊥) S P P (parts_of entries) (λ parts. within (limit_passed parts.containers parts.cpus) >>= λ _. done parts)
-    (joins_nothing S) (parts_yields entries plan distinct) (λ parts a.
-    yields_then N (λ _. ⊥) (λ _. ⊥) (λ _. ⊥) (λ _. Unit {0}) P (within (limit_passed parts.containers parts.cpus)) (λ _. done parts)
-    (joins_nothing (λ _. ⊥)) (within_yields N (limit_passed parts.containers parts.cpus)) (λ _ _. yields_done N (λ _. ⊥) P parts (λ c s. s) a))
+-- where the parts are those of a plan, no object means nothing
+judged_told : (entries : List Entry) (P : Plan) (r : Made Parts) (parts : Parts) (read : List Note) → judged r ≡ Ok (parts, read)
+    → Told (note_of entries P) (TableCause entries P) (AreParts entries) (noting []) r → Adds (note_of entries P) (TableCause entries P) (AreParts entries) [] parts read
+judged_told entries P (built made remarks) parts read is told =
+    let none = no_fault remarks.faults (within (limit_passed made.containers made.cpus) (made, remarks.notes)) (parts, read) is in
+    let same = same_pair (within_same (limit_passed made.containers made.cpus) (made, remarks.notes) (parts, read) none.1) in
+    rw (← same.0, ← same.1) (told none.0)
+  where
+    no_fault : (fs : List ObjectFault) (r : Result (Parts × List Note) BuildFault) (x : Parts × List Note) → unless (first_fault fs) r ≡ Ok x → (fs ≡ []) × (r ≡ Ok x)
+    no_fault [] r x e = (refl, e)
+    no_fault (f ∷ fs) r x e = absurd (cc)
+
+    within_same : (o : Option PlanFault) (x y : Parts × List Note) → within o x ≡ Ok y → x ≡ y
+    within_same None x y e = cc
+    within_same (Some (limits.Limit which number)) x y e = absurd (cc)
+    within_same (Some limits.Memory) x y e = cc
+
+    same_pair : {x y : Parts × List Note} → x ≡ y → (x.0 ≡ y.0) × (x.1 ≡ y.1)
+    same_pair e = (ap (λ (p : Parts × List Note). p.0) e, ap (λ (p : Parts × List Note). p.1) e)
 
 plan_told : (entries : List Entry) (P : Plan) (notes : List Note) → IsDistinct (places_of entries) → (is : IsPlanFrom entries P notes)
     → Adds (note_of entries P) (TableCause entries P) (AreParts entries) [] (record { containers = P.containers; cpus = P.cpus }) is.read
-plan_told entries P notes distinct is = subst (Told (note_of entries P) (TableCause entries P) (AreParts entries) []) is.parts (told_yields entries P distinct [])
+unfolding parts_within
+plan_told entries P notes distinct is =
+    judged_told entries P (parts_of entries (noting [])) (record { containers = P.containers; cpus = P.cpus }) is.read is.parts (parts_yields entries P distinct (noting []))
 
 pub tables_of_containers : (entries : List Entry) (P : Plan) (notes : List Note) → IsDistinct (places_of entries) → IsPlanFrom entries P notes
     → AllZip (IsContainerOf entries) (containers_of entries) P.containers

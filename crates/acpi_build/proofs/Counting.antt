@@ -1,5 +1,6 @@
 -- A `_CSD` that is read has no more entries than 32 bits can count.
-use Rattle.std.proofs.Common.{◌≡◌, ℕ, ◌+◌, ◌<◌, ◌^◌, List, [], ◌∷◌, length, Result, Ok, Err, sym, ap, subst, arith}
+use Rattle.std.proofs.Common.{◌≡◌, ℕ, ◌+◌, ◌<◌, ◌^◌, List, [], ◌∷◌, length, Option, Some, None, Result, Ok, Err, IfOk, sym, ap, subst, arith}
+use Rattle.std.specs.Prelude.{IfSome}
 use Rattle.aml_data.specs.declared.data.Data.{Data, Data-F, out-Data}
 use Rattle.aml_data.specs.declared.data.Data.TheOpen as layer
 use Rattle.aml_data.specs.declared.data.Width.{Width}
@@ -11,7 +12,14 @@ use Rattle.acpi_fields.specs.Reading.{Gives, Read, elements_at, layer_elements, 
 use Rattle.acpi_fields.proofs.Inversion.{bound, err_ok, ok_same}
 use Rattle.acpi_idle.specs.CStates.{csd_of, csd_row}
 use Rattle.acpi_space.specs.Places.{Place}
+use Rattle.pw_base.specs.declared.failure.Memory.{Memory}
+use Rattle.acpi_values.specs.declared.fault.ReadFault.TheVariants.{Shape as misshapen, Memory as no_memory}
+use Rattle.acpi_build.specs.declared.said.Said.{Said}
+use Rattle.acpi_build.specs.Building.{Remarks, built, done}
 use Rattle.acpi_build.specs.inner.Answers.{IsTold}
+
+told_value : {A : Type 0} {x y : A} {before remarks : Remarks} → done (Some x) before ≡ built (Some y) remarks → x ≡ y
+told_value e = cc
 
 rows_count : {A : Type 0} (row : ℕ → Data → Read A) (k : ℕ) (objects : List Data) (xs : List A) → rows_from row k objects ≡ Ok xs → length xs ≡ length objects
 rows_count row k [] xs e = ap length (sym (ok_same [] xs e))
@@ -40,7 +48,13 @@ csd_few width object es few e =
     let rows = rows_count (csd_row width) 1 b.first es b.rest in
     omega (arith, elements, rows)
 
-pub told_few : {V : Type 0} (items : V → List CDependency) (path : Place) (width : Width) (object : Data) (r : Result V ReadFault) (v : V) → IsCountable object
-    → Gives items r (csd_of width object) → IsTold path r (Ok v) → length (items v) < 2 ^ 32
-told_few items path width object (Ok x) v few gives told = subst (λ y. length (items y) < 2 ^ 32) told (csd_few width object (items x) few gives)
-told_few items path width object (Err fault) v few gives told = absurd told
+pub told_few : {V : Type 0} (items : V → List CDependency) (path : Place) (width : Width) (object : Data) (r : Result V ReadFault) (told : Result (Option V) Memory) (old new : Said)
+    → IsCountable object → Gives items r (csd_of width object) → IsTold path r told old new → IfOk told (λ o. IfSome o (λ v. length (items v) < 2 ^ 32))
+told_few items path width object (Ok x) (Ok (Some v)) old new few gives told = subst (λ y. length (items y) < 2 ^ 32) (told_value told) (csd_few width object (items x) few gives)
+told_few items path width object (Ok x) (Ok None) old new few gives told = tt
+told_few items path width object (Ok x) (Err memory) old new few gives told = tt
+told_few items path width object (Err (misshapen place why)) (Ok (Some v)) old new few gives told = absurd (cc)
+told_few items path width object (Err (misshapen place why)) (Ok None) old new few gives told = tt
+told_few items path width object (Err (misshapen place why)) (Err memory) old new few gives told = tt
+told_few items path width object (Err no_memory) (Ok o) old new few gives told = absurd told
+told_few items path width object (Err no_memory) (Err memory) old new few gives told = tt

@@ -1,5 +1,5 @@
 -- The entries of `_CSD` that are kept, one after the other.
-use Rattle.std.proofs.Common.{◌≡◌, ℕ, ◌+◌, ◌<◌, ◌≤◌, List, [], ◌∷◌, ◌++◌, length, drop, get_or, Ok, Err, Bool, true, false, refl, sym, ap, ◌∙◌, inl, inr, arith}
+use Rattle.std.proofs.Common.{◌≡◌, ℕ, ◌+◌, ◌<◌, ◌≤◌, List, [], ◌∷◌, ◌++◌, length, drop, get_or, Err, Bool, true, false, refl, sym, ap, ◌∙◌, inl, inr, arith}
 use Rattle.std.specs.Prelude.{nat_lt, ◌==◌, ◌&&◌, ◌||◌, cond, not}
 use Rattle.std.specs.List.{list_any}
 use Rattle.std.specs.declared.cmp.Ordering.{Ordering}
@@ -10,11 +10,7 @@ use Rattle.std.specs.BTreeMap.{is_at}
 use Rattle.std.specs.BTreeSet.{BTreeSet, contains, Updates}
 use Rattle.std.proofs.lemmas.List.Folds.{list_any-append}
 use Rattle.acpi_values.specs.declared.fault.Why.TheVariants.{Range}
-use Rattle.acpi_fields.specs.Reading.{place}
-use Rattle.acpi_build.specs.declared.fault.BuildFault.{BuildFault}
-use Rattle.acpi_build.specs.declared.fault.BuildFault.TheVariants.{Object, Limit, Memory}
-use Rattle.acpi_build.specs.Building.{IsFault}
-use Rattle.acpi_build.specs.inner.Answers.{IsThis}
+use Rattle.acpi_fields.specs.Reading.{place, shape}
 use Rattle.std.proofs.lemmas.Bool.{cases_lt}
 use Rattle.std.proofs.lemmas.Bool.Decides.{nat_tests}
 use Rattle.std.proofs.lemmas.List.{get_or_append_left, length_push}
@@ -23,28 +19,47 @@ use Rattle.acpi_values.specs.declared.dependency.CDependency.{CDependency}
 use Rattle.acpi_space.specs.Places.{Place}
 use Rattle.pw_plan.specs.Parts.{entry_in, is_entry, no_entry}
 use Rattle.pw_plan.proofs.Lists.{any_false}
-use Rattle.acpi_build.specs.declared.note.Note.{Note}
 use Rattle.acpi_build.specs.declared.note.NoteKind.TheVariants.{NoSuchState}
-use Rattle.acpi_build.specs.Building.{noted}
+use Rattle.acpi_build.specs.Building.{Remarks, built, noted}
 use Rattle.acpi_build.specs.inner.Fitting.{FitEntries}
-use Rattle.acpi_build.specs.Machine.{kept_from}
+use Rattle.acpi_build.specs.Machine.{dropped, kept_from}
 use Rattle.acpi_build.proofs.Each.{rest_from}
 
 -- an entry is kept
-pub kept_more : (path : Place) (states k i : ℕ) (kept new entries : List CDependency) (e : CDependency) (notes : List Note) → new ≡ kept ++ e ∷ [] → i < length entries → e ≡ get_or entries i e
+pub kept_more : (states k i : ℕ) (kept new entries : List CDependency) (e : CDependency) → new ≡ kept ++ e ∷ [] → i < length entries → e ≡ get_or entries i e
     → e.index < states → list_any (is_entry e.domain e.index) kept ≡ false
-    → kept_from path states (k + 1) new (drop (i + 1) entries) notes ≡ kept_from path states k kept (drop i entries) notes
-kept_more path states k i kept new entries e notes more l is small other =
+    → kept_from states (k + 1) new (drop (i + 1) entries) ≡ kept_from states k kept (drop i entries)
+kept_more states k i kept new entries e more l is small other =
     let there : nat_lt e.index states ≡ true = grind (arith, nat_tests) in
     rw (rest_from entries i e l is, there, other, more) refl
 
 -- an entry is dropped
-pub kept_without : (path : Place) (states k i : ℕ) (kept entries : List CDependency) (e : CDependency) (notes new : List Note) → i < length entries → e ≡ get_or entries i e → states ≤ e.index
-    → noted path NoSuchState (tt {0}) notes ≡ Ok (tt {0}, new)
-    → kept_from path states (k + 1) kept (drop (i + 1) entries) new ≡ kept_from path states k kept (drop i entries) notes
-kept_without path states k i kept entries e notes new l is large made =
+pub kept_without : (states k i : ℕ) (kept entries : List CDependency) (e : CDependency) → i < length entries → e ≡ get_or entries i e → states ≤ e.index
+    → kept_from states (k + 1) kept (drop (i + 1) entries) ≡ kept_from states k kept (drop i entries)
+kept_without states k i kept entries e l is large =
+    let none : nat_lt e.index states ≡ false = grind (arith, nat_tests) in
+    rw (rest_from entries i e l is, none) refl
+
+-- an entry that repeats a pair means nothing
+pub refused_there : (states k i : ℕ) (kept entries : List CDependency) (e : CDependency) → i < length entries → e ≡ get_or entries i e
+    → e.index < states → list_any (is_entry e.domain e.index) kept ≡ true → kept_from states k kept (drop i entries) ≡ Err (shape (place k 3) Range)
+refused_there states k i kept entries e l is small there =
+    let t : nat_lt e.index states ≡ true = grind (arith, nat_tests) in
+    rw (rest_from entries i e l is, t, there) refl
+
+-- an entry that is dropped is noted
+pub dropped_more : (path : Place) (states i : ℕ) (entries : List CDependency) (e : CDependency) (old new : Remarks) → i < length entries → e ≡ get_or entries i e → states ≤ e.index
+    → noted path NoSuchState (tt {0}) old ≡ built (tt {0}) new → dropped path states (drop (i + 1) entries) new ≡ dropped path states (drop i entries) old
+dropped_more path states i entries e old new l is large made =
     let none : nat_lt e.index states ≡ false = grind (arith, nat_tests) in
     rw (rest_from entries i e l is, none, made) refl
+
+-- and no other is
+pub dropped_past : (path : Place) (states i : ℕ) (entries : List CDependency) (e : CDependency) (old : Remarks) → i < length entries → e ≡ get_or entries i e → e.index < states
+    → dropped path states (drop (i + 1) entries) old ≡ dropped path states (drop i entries) old
+dropped_past path states i entries e old l is small =
+    let there : nat_lt e.index states ≡ true = grind (arith, nat_tests) in
+    rw (rest_from entries i e l is, there) refl
 
 flipped : (a b : CDependency) → is_entry a.domain a.index b ≡ false → is_entry b.domain b.index a ≡ false
 flipped a b e = grind (arith, nat_tests)
@@ -104,16 +119,3 @@ is_fresh seen kept more e fresh _ each is = sym (each e.domain e.index) ∙ sym 
     twice : (b : Bool) → not (not b) ≡ b
     twice true = refl
     twice false = refl
-
--- an entry that repeats a pair is refused
-pub refused_there : (path : Place) (states k i : ℕ) (kept entries : List CDependency) (e : CDependency) (notes : List Note) (fault : BuildFault) → i < length entries → e ≡ get_or entries i e
-    → e.index < states → list_any (is_entry e.domain e.index) kept ≡ true → IsThis fault (Object (record { segs = path }) (place k 3) Range)
-    → IsFault fault (kept_from path states k kept (drop i entries) notes)
-refused_there path states k i kept entries e notes fault l is small there this = by fault this (let t : nat_lt e.index states ≡ true = grind (arith, nat_tests)
-    in rw (rest_from entries i e l is, t, there) refl)
-  where
-    by : (f : BuildFault) → IsThis f (Object (record { segs = path }) (place k 3) Range) → kept_from path states k kept (drop i entries) notes ≡ Err (Object (record { segs = path }) (place k 3) Range)
-        → IsFault f (kept_from path states k kept (drop i entries) notes)
-    by (Object p a w) this is = is ∙ ap Err this
-    by (Limit which number) this is = is ∙ ap Err this
-    by Memory this is = tt

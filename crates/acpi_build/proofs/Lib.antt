@@ -10,6 +10,7 @@ mod Who
 mod Innermost
 mod Labelled
 mod Rows
+mod Steady
 mod Yielding
 mod Ranks
 pub mod OneTable

@@ -8,6 +8,7 @@ use Rattle.acpi_build.specs.declared.names.Name.TheVariants as names
 use Rattle.acpi_build.specs.Building.{Build}
 use Rattle.acpi_build.specs.Building.{◌>>=◌, done}
 use Rattle.acpi_build.specs.Causes.{Cause, by_method, by_alias, of_no_states, beside_lpi, of_no_such_state, of_unfit_domain, IsCause, note_of}
+use Rattle.acpi_build.proofs.Steady.{Steady}
 use Rattle.acpi_build.proofs.Yielding.{Joins, Yields, yields_done, yields_same, yields_then}
 
 -- # Their order
@@ -153,9 +154,9 @@ joins_in entries plan k a b c l m = record {
 }
 
 pub makes_then : {A B : Type 0} (entries : List Entry) (plan : Plan) (k a b c : ℕ) (P : A → Type 0) (Q : B → Type 0) (m : Build A) (f : A → Build B) → a ≤ b → b ≤ c
-    → Makes entries plan k a b P m → ((x : A) → P x → Makes entries plan k b c Q (f x)) → Makes entries plan k a c Q (m >>= f)
-makes_then entries plan k a b c P Q m f l h first next =
-    yields_then (note_of entries plan) (In entries plan k a b) (In entries plan k b c) (In entries plan k a c) P Q m f (joins_in entries plan k a b c l h) first next
+    → ((x : A) → Steady (f x)) → Makes entries plan k a b P m → ((x : A) → P x → Makes entries plan k b c Q (f x)) → Makes entries plan k a c Q (m >>= f)
+makes_then entries plan k a b c P Q m f l h steady first next =
+    yields_then (note_of entries plan) (In entries plan k a b) (In entries plan k b c) (In entries plan k a c) P Q m f (joins_in entries plan k a b c l h) steady first next
 
 pub makes_done : {A : Type 0} (entries : List Entry) (plan : Plan) (k a : ℕ) (P : A → Type 0) (x : A) → P x → Makes entries plan k a a P (done x)
 makes_done entries plan k a P x p = yields_done (note_of entries plan) (In entries plan k a a) P x (λ c s. omega (arith, s.low, s.high)) p

@@ -1,5 +1,5 @@
 -- The tables of objects are those that stand at their names, and the causes of notes that are found there have their notes.
-use Rattle.std.proofs.Common.{◌≡◌, ◌⊎◌, ℕ, ◌+◌, ◌*◌, ◌<◌, Bool, true, false, List, [], ◌∷◌, length, Option, Some, None, Ok, Err, refl, sym, ap, subst, ◌∙◌, inl, inr, arith}
+use Rattle.std.proofs.Common.{◌≡◌, ◌⊎◌, ℕ, ◌+◌, ◌*◌, ◌<◌, Bool, true, false, List, [], length, Option, Some, None, Ok, Err, refl, sym, ap, subst, ◌∙◌, inl, inr, arith}
 use Rattle.std.specs.Prelude.{cond, ◌==◌}
 use Rattle.std.proofs.lemmas.Bool.Decides.{nat_tests}
 use Rattle.std.proofs.lemmas.List.{get_or_default}
@@ -42,6 +42,7 @@ use Rattle.acpi_build.specs.Causes.{Cause, by_method, by_alias, of_no_states, Ha
 use Rattle.acpi_build.proofs.OneTable.{given_there, one_table, stands}
 use Rattle.acpi_build.proofs.Parents.{none_some, number_told}
 use Rattle.acpi_build.proofs.Ranks.{first_there, In, Makes, makes_done, makes_then, makes_up_to, second_there, slot, third_free}
+use Rattle.acpi_build.proofs.Steady.{steady_meant, steady_unless_empty}
 use Rattle.acpi_build.proofs.Yielding.{yields_done, yields_noted, yields_refused}
 use Rattle.pw_base.proofs.Facts.{empty}
 
@@ -135,7 +136,7 @@ module _ (entries : List Entry) (plan : Plan) (distinct : IsDistinct (places_of 
   told_yields : {A : Type 0} (k a : ℕ) (Means : Width → Data → A → Type 0) (place : Place) (given : Given) (r : Read A)
       → ((x : A) → r ≡ Ok x → Means given.width given.object x) → GivenAt entries place given.object given.width → Makes entries plan k a a (IsTable Means entries place) (told place r)
   told_yields k a Means place given (Ok x) means there = makes_done entries plan k a (IsTable Means entries place) (Some x) (is_given given.object given.width x there (means x refl))
-  told_yields k a Means place given (Err shape) means there = yields_refused (note_of entries plan) (In entries plan k a a) (IsTable Means entries place) place shape.place shape.why
+  told_yields k a Means place given (Err shape) means there = yields_refused (note_of entries plan) (In entries plan k a a) (IsTable Means entries place) place shape.place shape.why None
 
   meant_yields : {A : Type 0} (k a : ℕ) (Means : Width → Data → A → Type 0) (reads : Width → Data → Read A) (place : Place)
       → ((width : Width) (d : Data) (x : A) → reads width d ≡ Ok x → Means width d x) → (o : Option Given) → Looked entries place o
@@ -148,6 +149,7 @@ module _ (entries : List Entry) (plan : Plan) (distinct : IsDistinct (places_of 
   table_yields k a Means reads name read at means =
       let place = place_below entries k name in
       makes_then entries plan k a (a + 1) (a + 1) (Looked entries place) (IsTable Means entries place) (looked_at entries place) (meant reads place) (omega arith) (omega arith)
+      (steady_meant reads place)
       (looked_yields k a name read at)
       (meant_yields k (a + 1) Means reads place means)
 
@@ -203,7 +205,7 @@ module _ (entries : List Entry) (plan : Plan) (distinct : IsDistinct (places_of 
   states_yields k a Means reads count name read at means back none some =
       let place = place_below entries k name in
       makes_then entries plan k a (a + 1) (a + 2) (IsTable Means entries place) (AreStates Means count entries place) (table reads entries k name) (unless_empty count place) (omega arith)
-      (omega arith)
+      (omega arith) (steady_unless_empty count place)
       (table_yields k a Means reads name read at means) (empty_yields k a Means reads count name read at back none some)
 
   pub lpi_yields : (k : ℕ) → IsReadOf entries k names.Lpi → Makes entries plan k 0 3 (AreLpi entries k) (lpi_at entries k)

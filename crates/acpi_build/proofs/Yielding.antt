@@ -1,6 +1,6 @@
--- What is made while notes are taken: the notes that are added are those of a set of causes, each once, and what is made
--- has a property.
-use Rattle.std.proofs.Common.{◌≡◌, ◌⊎◌, zero, suc, List, [], ◌∷◌, ◌++◌, map, get_or, Result, Ok, Err, append_assoc, refl, sym, ap, subst, ◌∙◌, inl, inr, arith}
+-- What is made while it is remarked what counts as absent. Where no object means nothing, the notes that are added are those of
+-- a set of causes, each once, and what is made has a property.
+use Rattle.std.proofs.Common.{◌≡◌, ◌⊎◌, zero, suc, List, [], ◌∷◌, ◌++◌, map, get_or, append_assoc, refl, sym, ap, subst, ◌∙◌, inl, inr, arith}
 use Rattle.std.specs.Prelude.{Contains}
 use Rattle.std.specs.List.{AllZip}
 use Rattle.std.proofs.lemmas.List.{append-nil, map-append}
@@ -9,12 +9,12 @@ use Rattle.acpi_values.specs.declared.fault.Place.{Place as place_in}
 use Rattle.acpi_values.specs.declared.fault.Why.{Why}
 use Rattle.acpi_space.specs.Distinct.{IsDistinct}
 use Rattle.acpi_space.specs.Places.{Place}
-use Rattle.acpi_build.specs.declared.fault.BuildFault.{BuildFault}
 use Rattle.acpi_build.specs.declared.note.Note.{Note}
 use Rattle.acpi_build.specs.declared.note.NoteKind.{NoteKind}
-use Rattle.acpi_build.specs.Building.{◌>>=◌, Build, after, done, each, note_at, noted, refused}
+use Rattle.acpi_build.specs.Building.{◌>>=◌, Build, Made, Remarks, after, built, done, each, fault_at, note_at, noted, refused}
 use Rattle.acpi_build.specs.Causes.{Cause}
 use Rattle.acpi_build.proofs.Parents.{pairs_append}
+use Rattle.acpi_build.proofs.Steady.{IsSteady, Steady, one_more, steady_each, steady_then}
 
 -- # Lists of causes
 
@@ -33,6 +33,9 @@ pub record Joins (S T U : Cause → Type 0) : Type 0 where
 
 pub joins_nothing : (S : Cause → Type 0) → Joins S (λ _. ⊥) S
 joins_nothing S = record { apart = λ c s t. t; split = λ c s. inl s; left = λ c s. s; right = λ c t. absurd t }
+
+pub joins_behind : (S : Cause → Type 0) → Joins (λ _. ⊥) S S
+joins_behind S = record { apart = λ c s t. s; split = λ c s. inr s; left = λ c s. absurd s; right = λ c t. t }
 
 pub lists_none : (S : Cause → Type 0) → ((c : Cause) → S c → ⊥) → Lists S []
 lists_none S none = record {
@@ -82,59 +85,66 @@ pub record Adds {A : Type 0} (note : Cause → Note) (S : Cause → Type 0) (P :
   pub lists : Lists S causes
   pub holds : P x
 
-abbrev pub Told : {A : Type 0} → (Cause → Note) → (Cause → Type 0) → (A → Type 0) → List Note → Result (A × List Note) BuildFault → Type 0
-Told note S P old (Ok made) = Adds note S P old made.0 made.1
-Told note S P old (Err fault) = Unit {0}
+-- behind these remarks, where no fault is among those that it leaves
+abbrev pub Told : {A : Type 0} → (Cause → Note) → (Cause → Type 0) → (A → Type 0) → Remarks → Made A → Type 0
+Told note S P before (built x remarks) = remarks.faults ≡ [] → Adds note S P before.notes x remarks.notes
 
--- after any notes
+-- behind any remarks
 abbrev pub Yields : {A : Type 0} → (Cause → Note) → (Cause → Type 0) → (A → Type 0) → Build A → Type 0
-Yields note S P m = (old : List Note) → Told note S P old (m old)
+Yields note S P m = (before : Remarks) → Told note S P before (m before)
 
 pub yields_done : {A : Type 0} (note : Cause → Note) (S : Cause → Type 0) (P : A → Type 0) (x : A) → ((c : Cause) → S c → ⊥) → P x → Yields note S P (done x)
-yields_done note S P x none p old = record { causes = []; grown = sym (append-nil old); lists = lists_none S none; holds = p }
+yields_done note S P x none p before _ = record { causes = []; grown = sym (append-nil before.notes); lists = lists_none S none; holds = p }
 
 pub yields_noted : {A : Type 0} (note : Cause → Note) (S : Cause → Type 0) (P : A → Type 0) (path : Place) (kind : NoteKind) (x : A) (c : Cause) → note c ≡ note_at path kind
     → S c → ((d : Cause) → S d → d ≡ c) → P x → Yields note S P (noted path kind x)
-yields_noted note S P path kind x c is s same p old = record {
+yields_noted note S P path kind x c is s same p before _ = record {
   causes = c ∷ [];
-  grown = ap (λ n. old ++ n ∷ []) (sym is);
+  grown = ap (λ n. before.notes ++ n ∷ []) (sym is);
   lists = lists_one S c s same;
   holds = p;
 }
 
-pub yields_refused : {A : Type 0} (note : Cause → Note) (S : Cause → Type 0) (P : A → Type 0) (path : Place) (place : place_in) (why : Why) → Yields note S P (refused path place why)
-yields_refused note S P path place why old = tt
+pub yields_refused : {A : Type 0} (note : Cause → Note) (S : Cause → Type 0) (P : A → Type 0) (path : Place) (place : place_in) (why : Why) (x : A)
+    → Yields note S P (refused path place why x)
+yields_refused note S P path place why x before none = absurd (one_more before.faults (fault_at path place why) none)
 
-joined : {A B : Type 0} (note : Cause → Note) (S T U : Cause → Type 0) (P : A → Type 0) (Q : B → Type 0) (old mid : List Note) (x : A) (r : Result (B × List Note) BuildFault)
-    → Joins S T U → Adds note S P old x mid → Told note T Q mid r → Told note U Q old r
-joined note S T U P Q old mid x (Ok made) joins first second = record {
+joined : {A B : Type 0} (note : Cause → Note) (S T U : Cause → Type 0) (P : A → Type 0) (Q : B → Type 0) (old mid new : List Note) (x : A) (y : B)
+    → Joins S T U → Adds note S P old x mid → Adds note T Q mid y new → Adds note U Q old y new
+joined note S T U P Q old mid new x y joins first second = record {
   causes = first.causes ++ second.causes;
   grown = second.grown ∙ ap (λ l. l ++ map note second.causes) first.grown ∙ append_assoc old (map note first.causes) (map note second.causes)
       ∙ ap (λ l. old ++ l) (sym (map-append note first.causes second.causes));
   lists = lists_both S T U first.causes second.causes joins first.lists second.lists;
   holds = second.holds;
 }
-joined note S T U P Q old mid x (Err fault) joins first second = tt
 
-then_told : {A B : Type 0} (note : Cause → Note) (S T U : Cause → Type 0) (P : A → Type 0) (Q : B → Type 0) (old : List Note) (r : Result (A × List Note) BuildFault) (f : A → Build B)
-    → Joins S T U → Told note S P old r → ((x : A) → P x → Yields note T Q (f x)) → Told note U Q old (after r f)
-then_told note S T U P Q old (Ok made) f joins first next = joined note S T U P Q old made.1 made.0 (f made.0 made.1) joins first (next made.0 first.holds made.1)
-then_told note S T U P Q old (Err fault) f joins first next = tt
+next_told : {A B : Type 0} (note : Cause → Note) (S T U : Cause → Type 0) (P : A → Type 0) (Q : B → Type 0) (before mid : Remarks) (x : A) (r : Made B)
+    → Joins S T U → IsSteady mid r → (mid.faults ≡ [] → Adds note S P before.notes x mid.notes) → (P x → Told note T Q mid r) → Told note U Q before r
+next_told note S T U P Q before mid x (built y remarks) joins steady first next = λ none.
+    let one = first (steady none) in
+    joined note S T U P Q before.notes mid.notes remarks.notes x y joins one (next one.holds none)
+
+then_told : {A B : Type 0} (note : Cause → Note) (S T U : Cause → Type 0) (P : A → Type 0) (Q : B → Type 0) (before : Remarks) (r : Made A) (f : A → Build B)
+    → Joins S T U → ((x : A) → Steady (f x)) → Told note S P before r → ((x : A) → P x → Yields note T Q (f x)) → Told note U Q before (after r f)
+then_told note S T U P Q before (built x mid) f joins steady first next =
+    next_told note S T U P Q before mid x (f x mid) joins (steady x mid) first (λ p. next x p mid)
 
 -- one thing and then the next
 pub yields_then : {A B : Type 0} (note : Cause → Note) (S T U : Cause → Type 0) (P : A → Type 0) (Q : B → Type 0) (m : Build A) (f : A → Build B)
-    → Joins S T U → Yields note S P m → ((x : A) → P x → Yields note T Q (f x)) → Yields note U Q (m >>= f)
-yields_then note S T U P Q m f joins first next old = then_told note S T U P Q old (m old) f joins (first old) next
+    → Joins S T U → ((x : A) → Steady (f x)) → Yields note S P m → ((x : A) → P x → Yields note T Q (f x)) → Yields note U Q (m >>= f)
+yields_then note S T U P Q m f joins steady first next before = then_told note S T U P Q before (m before) f joins steady (first before) next
 
-same_told : {A : Type 0} (note : Cause → Note) (S T : Cause → Type 0) (P Q : A → Type 0) (old : List Note) (r : Result (A × List Note) BuildFault)
-    → ((c : Cause) → S c → T c) → ((c : Cause) → T c → S c) → ((x : A) → P x → Q x) → Told note S P old r → Told note T Q old r
-same_told note S T P Q old (Ok made) to from p told = record { causes = told.causes; grown = told.grown; lists = lists_same S T told.causes to from told.lists; holds = p made.0 told.holds }
-same_told note S T P Q old (Err fault) to from p told = tt
+same_told : {A : Type 0} (note : Cause → Note) (S T : Cause → Type 0) (P Q : A → Type 0) (before : Remarks) (r : Made A)
+    → ((c : Cause) → S c → T c) → ((c : Cause) → T c → S c) → ((x : A) → P x → Q x) → Told note S P before r → Told note T Q before r
+same_told note S T P Q before (built x remarks) to from p told = λ none.
+    let adds = told none in
+    record { causes = adds.causes; grown = adds.grown; lists = lists_same S T adds.causes to from adds.lists; holds = p x adds.holds }
 
 -- the same set and a weaker property
 pub yields_same : {A : Type 0} (note : Cause → Note) (S T : Cause → Type 0) (P Q : A → Type 0) (m : Build A)
     → ((c : Cause) → S c → T c) → ((c : Cause) → T c → S c) → ((x : A) → P x → Q x) → Yields note S P m → Yields note T Q m
-yields_same note S T P Q m to from p told old = same_told note S T P Q old (m old) to from p (told old)
+yields_same note S T P Q m to from p told before = same_told note S T P Q before (m before) to from p (told before)
 
 -- # Of each in order
 
@@ -161,11 +171,15 @@ joins_each S x xs distinct one = record {
 }
 
 pub yields_each : {X A : Type 0} (note : Cause → Note) (S : X → Cause → Type 0) (P : X → A → Type 0) (f : X → Build A) (xs : List X) → IsDistinct xs
-    → ((y z : X) (c : Cause) → S y c → S z c → y ≡ z) → ((x : X) → Contains xs x → Yields note (S x) (P x) (f x)) → Yields note (Among S xs) (AllZip P xs) (each f xs)
-yields_each note S P f [] distinct one each_one = yields_done note (Among S []) (AllZip P []) [] (not_among S) tt
-yields_each note S P f (x ∷ xs) distinct one each_one =
+    → ((y z : X) (c : Cause) → S y c → S z c → y ≡ z) → ((x : X) → Steady (f x)) → ((x : X) → Contains xs x → Yields note (S x) (P x) (f x))
+    → Yields note (Among S xs) (AllZip P xs) (each f xs)
+yields_each note S P f [] distinct one steady each_one = yields_done note (Among S []) (AllZip P []) [] (not_among S) tt
+yields_each note S P f (x ∷ xs) distinct one steady each_one =
     let R = AllZip P (x ∷ xs) in
-    yields_then note (S x) (Among S xs) (Among S (x ∷ xs)) (P x) R (f x) (λ y. each f xs >>= λ ys. done (y ∷ ys)) (joins_each S x xs distinct one) (each_one x (0, omega arith, refl)) (λ y p.
+    yields_then note (S x) (Among S xs) (Among S (x ∷ xs)) (P x) R (f x) (λ y. each f xs >>= λ ys. done (y ∷ ys)) (joins_each S x xs distinct one)
+    (λ y. steady_then (each f xs) (λ ys. done (y ∷ ys)) (steady_each f xs steady) (λ ys before none. none))
+    (each_one x (0, omega arith, refl)) (λ y p.
     yields_then note (Among S xs) (λ _. ⊥) (Among S xs) (AllZip P xs) R (each f xs) (λ ys. done (y ∷ ys)) (joins_nothing (Among S xs))
-    (yields_each note S P f xs (λ i j d less l. distinct (suc i) (suc j) d (omega arith) (omega (arith, l))) one (λ z among. each_one z (later x xs z among))) (λ ys ps.
+    (λ ys before none. none)
+    (yields_each note S P f xs (λ i j d less l. distinct (suc i) (suc j) d (omega arith) (omega (arith, l))) one steady (λ z among. each_one z (later x xs z among))) (λ ys ps.
     yields_done note (λ _. ⊥) R (y ∷ ys) (λ c s. s) (p, ps)))

@@ -1,5 +1,5 @@
 -- The machine that objects tell of: its containers and processors with what they need for a plan.
-use Rattle.std.specs.Prelude.{◌==◌, ◌%◌, ◌+◌, ℕ, Bool, true, List, [], ◌∷◌, ◌++◌, length, map, Option, Some, None, unwrap_or, nat_lt, if◌then◌else◌}
+use Rattle.std.specs.Prelude.{◌==◌, ◌%◌, ◌+◌, ℕ, true, List, [], ◌∷◌, ◌++◌, length, map, Ok, Err, Option, Some, None, unwrap_or, nat_lt, if◌then◌else◌}
 use Rattle.std.specs.Option.{option_map}
 use Rattle.std.specs.List.{list_any}
 use Rattle.acpi_values.specs.declared.dependency.CDependency.{CDependency}
@@ -17,7 +17,7 @@ use Rattle.acpi_values.specs.declared.performance.PState.{PState}
 use Rattle.acpi_values.specs.declared.performance.TState.{TState}
 use Rattle.acpi_values.specs.declared.register.Register.{Register}
 use Rattle.acpi_values.specs.Null.{is_null}
-use Rattle.acpi_fields.specs.Reading.{place}
+use Rattle.acpi_fields.specs.Reading.{Read, place, shape}
 use Rattle.acpi_space.specs.Places.{Place}
 use Rattle.acpi_space.specs.Namespace.{Entry}
 use Rattle.acpi_space.specs.Lookup.{path_in}
@@ -28,9 +28,9 @@ use Rattle.pw_plan.specs.Parts.{is_entry}
 use Rattle.acpi_build.specs.declared.names.Name.{Name}
 use Rattle.acpi_build.specs.declared.names.Name.TheVariants as names
 use Rattle.acpi_build.specs.declared.note.NoteKind.TheVariants.{Ignored, NoSuchState}
-use Rattle.acpi_build.specs.Building.{◌>>=◌, Build, done, each, noted, refused}
+use Rattle.acpi_build.specs.Building.{◌>>=◌, Build, done, each, noted}
 use Rattle.acpi_build.specs.Finding.{containers_of, parent_of, place_below, processors_of}
-use Rattle.acpi_build.specs.Tables.{control_at, cpc_at, csd_at, cst_at, dependency_at, limit_at, lpi_at, pss_at, tss_at}
+use Rattle.acpi_build.specs.Tables.{control_at, cpc_at, csd_at, cst_at, dependency_at, limit_at, lpi_at, pss_at, told, tss_at}
 
 -- # Idle states
 
@@ -60,20 +60,33 @@ ignored path (Some lpi) None = done (tt {0})
 ignored path None cst = done (tt {0})
 
 -- The entries of `_CSD` from the one of place k on, behind those that are kept so far. An entry about a C state that
--- isn't there is dropped and noted; one that is kept and repeats a domain and a state is refused.
-abbrev pub kept_from : Place → ℕ → ℕ → List CDependency → List CDependency → Build (List CDependency)
-kept_from path count k kept [] = done kept
-kept_from path count k kept (e ∷ es) =
+-- isn't there is dropped; one that is kept and repeats a domain and a state means nothing.
+abbrev pub kept_from : ℕ → ℕ → List CDependency → List CDependency → Read (List CDependency)
+kept_from count k kept [] = Ok kept
+kept_from count k kept (e ∷ es) =
     if nat_lt e.index count
-    then (if list_any (is_entry e.domain e.index) kept then refused path (place k 3) Range
-    else kept_from path count (k + 1) (kept ++ e ∷ []) es)
-    else noted path NoSuchState (tt {0}) >>= λ _. kept_from path count (k + 1) kept es
+    then (if list_any (is_entry e.domain e.index) kept then Err (shape (place k 3) Range)
+    else kept_from count (k + 1) (kept ++ e ∷ []) es)
+    else kept_from count (k + 1) kept es
 
--- the entries of `_CSD` that are used: none beside an `_LPI`
+-- each that is dropped is noted
+abbrev pub dropped : Place → ℕ → List CDependency → Build (Unit {0})
+dropped path count [] = done (tt {0})
+dropped path count (e ∷ es) =
+    if nat_lt e.index count then dropped path count es
+    else noted path NoSuchState (tt {0}) >>= λ _. dropped path count es
+
+abbrev pub with_dropped : Place → ℕ → List CDependency → Option (List CDependency) → Build (List CDependency)
+with_dropped path count es None = done []
+with_dropped path count es (Some kept) = dropped path count es >>= λ _. done kept
+
+-- the entries of `_CSD` that are used: none beside an `_LPI`, or where one repeats another
 abbrev pub kept_of : Place → Option lpi_table → Option (List CState) → Option (List CDependency)
     → Build (List CDependency)
 kept_of path (Some lpi) cst csd = done []
-kept_of path None cst csd = kept_from path (length (unwrap_or cst [])) 1 [] (unwrap_or csd [])
+kept_of path None cst csd =
+    told path (kept_from (length (unwrap_or cst [])) 1 [] (unwrap_or csd []))
+    >>= with_dropped path (length (unwrap_or cst [])) (unwrap_or csd [])
 
 -- `_LPI`, `_CST` and `_CSD`: the idle states of processor k, and what it declares of their domains
 unfoldable pub idle_of : List Entry → ℕ → Build (IdleTable × List CDependency)

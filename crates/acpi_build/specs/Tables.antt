@@ -49,10 +49,10 @@ seen_at entries place (Some k) = seen place (entry_in entries k).width (entry_in
 unfoldable pub looked_at : List Entry → Place → Build (Option Given)
 looked_at entries place = seen_at entries place (number_at entries place)
 
--- what is read of it: its value, or the first place in it that means nothing
+-- what is read of it: its value; or it counts as absent, and the first place in it that means nothing is told
 abbrev pub told : {A : Type 0} → Place → Read A → Build (Option A)
 told path (Ok x) = done (Some x)
-told path (Err shape) = refused path shape.place shape.why
+told path (Err shape) = refused path shape.place shape.why None
 
 abbrev pub meant : {A : Type 0} → (Width → Data → Read A) → Place → Option Given → Build (Option A)
 meant reads path None = done None

@@ -4,7 +4,14 @@ ghost use Rattle.acpi_build.specs.declared.fault.BuildFault.TheVariants.{Memory 
 use acpi_values::{Place, Why};
 use aml_data::FullPath;
 use pw_base::Memory;
-use std::alloc::{AllocError, AllocFailed};
+
+/// The object at this path means nothing, at this place in it first.
+#[derive(Drop)]
+pub struct ObjectFault {
+    pub path: FullPath,
+    pub place: Place,
+    pub why: Why,
+}
 
 /// Why objects make no plan.
 #[derive(Drop)]
@@ -28,22 +35,6 @@ impl From<Memory> for BuildFault {
     ghost from_gives = { λ _ e. e ≡ no_memory };
 
     fn from(_e: Memory) -> BuildFault {
-        BuildFault::Memory
-    }
-}
-
-impl From<AllocError> for BuildFault {
-    ghost from_gives = { λ _ e. e ≡ no_memory };
-
-    fn from(_e: AllocError) -> BuildFault {
-        BuildFault::Memory
-    }
-}
-
-impl<T: Drop> From<AllocFailed<T>> for BuildFault {
-    ghost from_gives = { λ _ e. e ≡ no_memory };
-
-    fn from(_e: AllocFailed<T>) -> BuildFault {
         BuildFault::Memory
     }
 }

@@ -3,19 +3,20 @@
 ghost use Rattle.std.specs.Prelude.{◌≡◌, ◌<◌, ◌^◌, [], List, length, map, IfOk, IfSome, ℕ, false};
 ghost use Rattle.std.specs.List.{list_any};
 ghost use Rattle.std.specs.Option.{option_map};
+ghost use Rattle.acpi_fields.specs.Reading.{Gives};
 ghost use Rattle.acpi_build.specs.inner.Answers.{Builds};
 ghost use Rattle.acpi_build.specs.Finding.{place_below};
 ghost use Rattle.acpi_build.specs.Tables.{AreCountable};
-ghost use Rattle.acpi_build.specs.Machine.{idle_of, idle_table, kept_from, kept_of};
+ghost use Rattle.acpi_build.specs.Machine.{dropped, idle_of, idle_table, kept_from, kept_of};
 ghost use Rattle.acpi_build.specs.Machine.{lpi_row, cst_row};
 ghost use Rattle.acpi_build.specs.inner.Fitting.{FitsIdle, FitEntries};
 ghost use Rattle.acpi_build.specs.declared.names.Name.TheVariants.{Csd};
 ghost use Rattle.pw_plan.specs.Parts.{is_entry};
 
-use crate::fault::BuildFault;
 use crate::names::Name;
-use crate::note::{Note, NoteKind};
-use crate::tables::{find_csd, find_cst, find_lpi, note, refusal};
+use crate::note::NoteKind;
+use crate::said::Said;
+use crate::tables::{find_csd, find_cst, find_lpi, note, tell};
 use acpi_space::Space;
 use acpi_values::{
     CDependency, CState, EntryMethod, IdleKind, IdleRow, IdleTable, Lpi, LpiState, Place,
@@ -104,19 +105,14 @@ pub(crate) fn idle_states(
     }
 }
 
-/// The entries of `_CSD` about C states that are there. The others are noted.
+/// The entries of `_CSD` about C states that are there, unless one of them repeats another.
 fn kept(
     alloc: Global,
-    space: &Space,
-    index: usize,
     states: usize,
     entries: &[CDependency],
-    notes: &mut Vec<Note>,
-) -> Result<Vec<CDependency>, BuildFault>
-    requires within { index < length space.now }
-    requires count { length entries.now < 2 ^ 32 }
-    ensures value { Builds (λ v. v.items) result notes.old.items notes.new.items
-        (kept_from (place_below space.now index Csd) states 1 [] entries.now) }
+) -> Result<Vec<CDependency>, ReadFault>
+    requires { length entries.now < 2 ^ 32 }
+    ensures value { Gives (λ v. v.items) result (kept_from states 1 [] entries.now) }
     ensures fit { IfOk result (λ v. FitEntries states v.items) }
 {
     let mut kept = Vec::new(alloc);
@@ -127,21 +123,39 @@ fn kept(
         if (entry.index as usize) < states {
             let fresh = seen.insert((entry.domain, entry.index))?;
             if !fresh {
-                let fault = ReadFault::Shape {
+                return Err(ReadFault::Shape {
                     place: Place { outer, inner: 3 },
                     why: Why::Range,
-                };
-                return Err(refusal(alloc, space, index, Name::Csd, fault));
+                });
             }
             kept.push(*entry)?;
-        } else {
-            note(alloc, space, index, Name::Csd, NoteKind::NoSuchState, notes)?;
         }
     }
     Ok(kept)
 }
 
-/// The entries of `_CSD` that are used: none beside an `_LPI`.
+/// Notes each entry of `_CSD` about a C state that isn't there.
+fn note_dropped(
+    alloc: Global,
+    space: &Space,
+    index: usize,
+    states: usize,
+    entries: &[CDependency],
+    said: &mut Said,
+) -> Result<(), Memory>
+    requires { index < length space.now }
+    ensures { Builds (λ _. tt {0}) result said.old said.new
+        (dropped (place_below space.now index Csd) states entries.now) }
+{
+    for entry in entries {
+        if (entry.index as usize) >= states {
+            note(alloc, space, index, Name::Csd, NoteKind::NoSuchState, said)?;
+        }
+    }
+    Ok(())
+}
+
+/// The entries of `_CSD` that are used: none beside an `_LPI`, or where one repeats another.
 fn used(
     alloc: Global,
     space: &Space,
@@ -149,11 +163,11 @@ fn used(
     lpi: &Option<Lpi>,
     cst: &Option<Vec<CState>>,
     csd: &Option<Vec<CDependency>>,
-    notes: &mut Vec<Note>,
-) -> Result<Vec<CDependency>, BuildFault>
+    said: &mut Said,
+) -> Result<Vec<CDependency>, Memory>
     requires within { index < length space.now }
     requires count { IfSome csd.now (λ v. length v.items < 2 ^ 32) }
-    ensures value { Builds (λ v. v.items) result notes.old.items notes.new.items
+    ensures value { Builds (λ v. v.items) result said.old said.new
         (kept_of (place_below space.now index Csd) lpi.now (option_map (λ v. v.items) cst.now)
         (option_map (λ v. v.items) csd.now)) }
     ensures fit { IfOk result
@@ -165,10 +179,16 @@ fn used(
     let Some(entries) = csd else {
         return Ok(Vec::new(alloc));
     };
-    match cst {
-        Some(states) => kept(alloc, space, index, states.len(), entries.as_slice(), notes),
-        None => kept(alloc, space, index, 0, entries.as_slice(), notes),
-    }
+    let states = match cst {
+        Some(states) => states.len(),
+        None => 0,
+    };
+    let read = kept(alloc, states, entries.as_slice());
+    let Some(kept) = tell(alloc, space, index, Name::Csd, read, said)? else {
+        return Ok(Vec::new(alloc));
+    };
+    note_dropped(alloc, space, index, states, entries.as_slice(), said)?;
+    Ok(kept)
 }
 
 /// The idle states of a processor, and what it declares of their domains.
@@ -177,20 +197,20 @@ pub(crate) fn read_idle(
     alloc: Global,
     space: &Space,
     index: usize,
-    notes: &mut Vec<Note>,
-) -> Result<(IdleTable, List<CDependency>), BuildFault>
+    said: &mut Said,
+) -> Result<(IdleTable, List<CDependency>), Memory>
     requires within { index < length space.now }
     requires countable { AreCountable space.now }
-    ensures value { Builds (λ r. r) result notes.old.items notes.new.items (idle_of space.now index) }
+    ensures value { Builds (λ r. r) result said.old said.new (idle_of space.now index) }
     ensures fit { IfOk result (λ r. FitsIdle r.0 r.1) }
 {
-    let lpi = find_lpi(alloc, space, index, notes)?;
-    let cst = find_cst(alloc, space, index, notes)?;
+    let lpi = find_lpi(alloc, space, index, said)?;
+    let cst = find_cst(alloc, space, index, said)?;
     if lpi.is_some() && cst.is_some() {
-        note(alloc, space, index, Name::Cst, NoteKind::Ignored, notes)?;
+        note(alloc, space, index, Name::Cst, NoteKind::Ignored, said)?;
     }
-    let csd = find_csd(alloc, space, index, notes)?;
-    let kept = used(alloc, space, index, &lpi, &cst, &csd, notes)?;
+    let csd = find_csd(alloc, space, index, said)?;
+    let kept = used(alloc, space, index, &lpi, &cst, &csd, said)?;
     let idle = idle_states(alloc, &lpi, &cst)?;
     let csd = List::from_vec(kept);
     Ok((idle, csd))

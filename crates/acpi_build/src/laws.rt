@@ -1,6 +1,6 @@
 //! What the definitions mean.
 
-ghost use Rattle.std.specs.Prelude.{◌≡◌, ◌≢◌, ◌↔◌, ◌<◌, ◌≤◌, ℕ, List, Option, Some, None};
+ghost use Rattle.std.specs.Prelude.{◌≡◌, ◌≢◌, ◌↔◌, ◌<◌, ◌≤◌, ◌∷◌, [], ℕ, List, Option, Some, None, Err};
 ghost use Rattle.std.specs.Prelude.{length, slice_index, Contains};
 ghost use Rattle.std.specs.List.{All, AllPairs, AllZip};
 ghost use Rattle.aml_block.specs.declared.block.Block.{Block as block_type};
@@ -14,13 +14,17 @@ ghost use Rattle.acpi_values.specs.Null.{null_register};
 ghost use Rattle.acpi_space.specs.Distinct.{IsDistinct};
 ghost use Rattle.acpi_space.specs.Namespace.{Entry as entry_type, entries_in, places_of};
 ghost use Rattle.pw_plan.specs.declared.plan.Plan.{Plan as plan_type};
+ghost use Rattle.acpi_build.specs.declared.fault.BuildFault.TheVariants as faults;
+ghost use Rattle.acpi_build.specs.declared.fault.ObjectFault.{ObjectFault as fault_type};
 ghost use Rattle.acpi_build.specs.declared.note.Note.{Note as note_type};
+ghost use Rattle.acpi_build.specs.declared.survey.Outcome.TheVariants.{Planned, PastLimit};
+ghost use Rattle.acpi_build.specs.declared.survey.Survey.{Survey as survey_type};
 ghost use Rattle.acpi_build.specs.Finding.{containers_of, parent_of, processors_of};
 ghost use Rattle.acpi_build.specs.Tables.{AreCountable};
 ghost use Rattle.acpi_build.specs.Causes.{AreNotesOfCauses, IsCaused};
 ghost use Rattle.acpi_build.specs.Machine.{idle_table, register_in};
 ghost use Rattle.acpi_build.specs.Rows.{HasRows};
-ghost use Rattle.acpi_build.specs.Planning.{AreSame, IsPlanFrom};
+ghost use Rattle.acpi_build.specs.Planning.{parts_within, AreSame, AreSameOutcomes, IsPlanFrom, IsSurvey};
 ghost use Rattle.acpi_build.specs.Meaning.{IsAround, IsContainer, IsOuter, IsParent, IsProcessor};
 ghost use Rattle.acpi_build.specs.Sources.{IsContainerOf, IsCpuOf};
 
@@ -86,6 +90,25 @@ pub fn notes_have_causes()
 pub fn one_plan()
     ensures { (entries : List entry_type) (P Q : plan_type) (first second : List note_type)
         → IsPlanFrom entries P first → IsPlanFrom entries Q second → AreSame P Q × (first ≡ second) }
+{}
+
+/// A survey tells what `plan` answers: the first object that means nothing, or else the plan with its notes,
+/// or the limit that is passed.
+pub fn surveys_tell_plans()
+    ensures object { (entries : List entry_type) (S : survey_type) (f : fault_type) (fs : List fault_type)
+        → IsSurvey entries S → S.faults ≡ f ∷ fs
+        → parts_within entries [] ≡ Err (faults.Object f.path f.place f.why) }
+    ensures limit { (entries : List entry_type) (S : survey_type) (which number : ℕ)
+        → IsSurvey entries S → S.faults ≡ [] → S.outcome ≡ PastLimit which number
+        → parts_within entries [] ≡ Err (faults.Limit which number) }
+    ensures plan { (entries : List entry_type) (S : survey_type) (P : plan_type)
+        → IsSurvey entries S → S.faults ≡ [] → S.outcome ≡ Planned P → IsPlanFrom entries P S.notes }
+{}
+
+/// Objects have at most one survey.
+pub fn one_survey()
+    ensures { (entries : List entry_type) (S T : survey_type) → IsSurvey entries S → IsSurvey entries T
+        → (S.faults ≡ T.faults) × (AreSameOutcomes S.outcome T.outcome × (S.notes ≡ T.notes)) }
 {}
 
 /// What blocks place is countable where the blocks can be written, so where bytes spell them: `plan`

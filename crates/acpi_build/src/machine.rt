@@ -11,13 +11,13 @@ ghost use Rattle.acpi_build.specs.Machine.{container_parts, cpu_parts, parts_of}
 ghost use Rattle.pw_plan.specs.Parts.{PartsFit};
 ghost use Rattle.acpi_build.specs.inner.Fitting.{AreContainers, AreCpus, AreParents, FitsAlone};
 
-use crate::fault::BuildFault;
 use crate::finding::{containers, parents, processors};
 use crate::idle::{idle_states, read_idle};
-use crate::note::Note;
+use crate::said::Said;
 use crate::scales::{read_perf, read_throttle};
 use crate::tables::{find_cpc, find_lpi};
 use acpi_space::Space;
+use pw_base::Memory;
 use pw_plan::{ContainerParts, CpuParts};
 use std::alloc::Global;
 
@@ -28,15 +28,15 @@ fn read_container(
     space: &Space,
     index: usize,
     parent: Option<u32>,
-    notes: &mut Vec<Note>,
-) -> Result<ContainerParts, BuildFault>
+    said: &mut Said,
+) -> Result<ContainerParts, Memory>
     requires within { index < length space.now }
     requires countable { AreCountable space.now }
     requires parent { parent ≡ parent_of space.now index }
-    ensures value { Builds (λ c. c) result notes.old.items notes.new.items (container_parts space.now index) }
+    ensures value { Builds (λ c. c) result said.old said.new (container_parts space.now index) }
     ensures parent { IfOk result (λ c. c.parent ≡ parent) }
 {
-    let lpi = find_lpi(alloc, space, index, notes)?;
+    let lpi = find_lpi(alloc, space, index, said)?;
     let path = space.path(alloc, index)?;
     let idle = idle_states(alloc, &lpi, &None)?;
     Ok(ContainerParts { path, parent, idle })
@@ -49,20 +49,20 @@ fn read_cpu(
     space: &Space,
     index: usize,
     parent: Option<u32>,
-    notes: &mut Vec<Note>,
-) -> Result<CpuParts, BuildFault>
+    said: &mut Said,
+) -> Result<CpuParts, Memory>
     requires within { index < length space.now }
     requires countable { AreCountable space.now }
     requires parent { parent ≡ parent_of space.now index }
-    ensures value { Builds (λ c. c) result notes.old.items notes.new.items (cpu_parts space.now index) }
+    ensures value { Builds (λ c. c) result said.old said.new (cpu_parts space.now index) }
     ensures path { IfOk result (λ c. c.path ≡ record { segs = path_in space.now index }) }
     ensures parent { IfOk result (λ c. c.parent ≡ parent) }
     ensures fit { IfOk result FitsAlone }
 {
-    let (idle, csd) = read_idle(alloc, space, index, notes)?;
-    let perf = read_perf(alloc, space, index, notes)?;
-    let throttle = read_throttle(alloc, space, index, notes)?;
-    let cpc = find_cpc(alloc, space, index, notes)?;
+    let (idle, csd) = read_idle(alloc, space, index, said)?;
+    let perf = read_perf(alloc, space, index, said)?;
+    let throttle = read_throttle(alloc, space, index, said)?;
+    let cpc = find_cpc(alloc, space, index, said)?;
     let path = space.path(alloc, index)?;
     Ok(CpuParts {
         path,
@@ -81,18 +81,18 @@ fn read_containers(
     space: &Space,
     order: &[usize],
     parents: &[Option<u32>],
-    notes: &mut Vec<Note>,
-) -> Result<Vec<ContainerParts>, BuildFault>
+    said: &mut Said,
+) -> Result<Vec<ContainerParts>, Memory>
     requires countable { AreCountable space.now }
     requires within { All (λ k. k < length space.now) order.now }
     requires parents { AreParents space.now parents.now }
-    ensures value { Builds (λ v. v.items) result notes.old.items notes.new.items
+    ensures value { Builds (λ v. v.items) result said.old said.new
         (each (container_parts space.now) order.now) }
     ensures parts { IfOk result (λ v. AreContainers space.now order.now v.items) }
 {
     let mut containers = Vec::new(alloc);
     for index in order {
-        let container = read_container(alloc, space, *index, parents[*index], notes)?;
+        let container = read_container(alloc, space, *index, parents[*index], said)?;
         containers.push(container)?;
     }
     Ok(containers)
@@ -104,18 +104,18 @@ fn read_cpus(
     space: &Space,
     order: &[usize],
     parents: &[Option<u32>],
-    notes: &mut Vec<Note>,
-) -> Result<Vec<CpuParts>, BuildFault>
+    said: &mut Said,
+) -> Result<Vec<CpuParts>, Memory>
     requires countable { AreCountable space.now }
     requires within { All (λ k. k < length space.now) order.now }
     requires parents { AreParents space.now parents.now }
-    ensures value { Builds (λ v. v.items) result notes.old.items notes.new.items
+    ensures value { Builds (λ v. v.items) result said.old said.new
         (each (cpu_parts space.now) order.now) }
     ensures parts { IfOk result (λ v. AreCpus space.now order.now v.items) }
 {
     let mut cpus = Vec::new(alloc);
     for index in order {
-        let cpu = read_cpu(alloc, space, *index, parents[*index], notes)?;
+        let cpu = read_cpu(alloc, space, *index, parents[*index], said)?;
         cpus.push(cpu)?;
     }
     Ok(cpus)
@@ -126,11 +126,11 @@ fn read_cpus(
 pub(crate) fn read_parts(
     alloc: Global,
     space: &Space,
-    notes: &mut Vec<Note>,
-) -> Result<(Vec<ContainerParts>, Vec<CpuParts>), BuildFault>
+    said: &mut Said,
+) -> Result<(Vec<ContainerParts>, Vec<CpuParts>), Memory>
     requires countable { AreCountable space.now }
     ensures value { Builds (λ r. record { containers = r.0.items; cpus = r.1.items })
-        result notes.old.items notes.new.items (parts_of space.now) }
+        result said.old said.new (parts_of space.now) }
     ensures fit { IfOk result (λ r. PartsFit r.0.items r.1.items) }
 {
     let _objects = space.placed();
@@ -140,7 +140,7 @@ pub(crate) fn read_parts(
     let parents = around.as_slice();
     let declared = processors(alloc, space)?;
     let numbers = declared.as_slice();
-    let containers = read_containers(alloc, space, order, parents, notes)?;
-    let cpus = read_cpus(alloc, space, numbers, parents, notes)?;
+    let containers = read_containers(alloc, space, order, parents, said)?;
+    let cpus = read_cpus(alloc, space, numbers, parents, said)?;
     Ok((containers, cpus))
 }

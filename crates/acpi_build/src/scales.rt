@@ -10,9 +10,8 @@ ghost use Rattle.acpi_build.specs.Tables.{AreCountable};
 ghost use Rattle.acpi_build.specs.Machine.{perf_of, register_in};
 ghost use Rattle.acpi_build.specs.Machine.{scale_of, throttle_of};
 
-use crate::fault::BuildFault;
 use crate::names::Name;
-use crate::note::Note;
+use crate::said::Said;
 use crate::tables::{find_control, find_dependency, find_limit, find_pss, find_tss};
 use acpi_space::Space;
 use acpi_values::{ControlPair, PState, Register, TState};
@@ -44,18 +43,18 @@ fn scale(
     index: usize,
     names: (Name, Name, Name),
     controls: Option<List<u32>>,
-    notes: &mut Vec<Note>,
-) -> Result<Option<Scale>, BuildFault>
+    said: &mut Said,
+) -> Result<Option<Scale>, Memory>
     requires within { index < length space.now }
     requires countable { AreCountable space.now }
-    ensures value { Builds (λ o. o) result notes.old.items notes.new.items
+    ensures value { Builds (λ o. o) result said.old said.new
         (scale_of space.now index names.0 names.1 names.2 controls) }
     ensures fit { IfSome controls (λ l. 0 < length l) → IfOk result (λ o. has_states o ≡ true) }
 {
     let (control, limit, domain) = names;
-    let pair = find_control(alloc, space, index, control, notes)?;
-    let first = find_limit(alloc, space, index, limit, notes)?;
-    let dependency = find_dependency(alloc, space, index, domain, notes)?;
+    let pair = find_control(alloc, space, index, control, said)?;
+    let first = find_limit(alloc, space, index, limit, said)?;
+    let dependency = find_dependency(alloc, space, index, domain, said)?;
     match controls {
         None => Ok(None),
         Some(controls) => Ok(Some(Scale {
@@ -93,14 +92,14 @@ pub(crate) fn read_perf(
     alloc: Global,
     space: &Space,
     index: usize,
-    notes: &mut Vec<Note>,
-) -> Result<Option<Scale>, BuildFault>
+    said: &mut Said,
+) -> Result<Option<Scale>, Memory>
     requires within { index < length space.now }
     requires countable { AreCountable space.now }
-    ensures value { Builds (λ o. o) result notes.old.items notes.new.items (perf_of space.now index) }
+    ensures value { Builds (λ o. o) result said.old said.new (perf_of space.now index) }
     ensures fit { IfOk result (λ o. has_states o ≡ true) }
 {
-    let controls = match find_pss(alloc, space, index, notes)? {
+    let controls = match find_pss(alloc, space, index, said)? {
         Some(states) => Some(perf_controls(alloc, states.as_slice())?),
         None => None,
     };
@@ -110,7 +109,7 @@ pub(crate) fn read_perf(
         index,
         (Name::Pct, Name::Ppc, Name::Psd),
         controls,
-        notes,
+        said,
     )
 }
 
@@ -120,14 +119,14 @@ pub(crate) fn read_throttle(
     alloc: Global,
     space: &Space,
     index: usize,
-    notes: &mut Vec<Note>,
-) -> Result<Option<Scale>, BuildFault>
+    said: &mut Said,
+) -> Result<Option<Scale>, Memory>
     requires within { index < length space.now }
     requires countable { AreCountable space.now }
-    ensures value { Builds (λ o. o) result notes.old.items notes.new.items (throttle_of space.now index) }
+    ensures value { Builds (λ o. o) result said.old said.new (throttle_of space.now index) }
     ensures fit { IfOk result (λ o. has_states o ≡ true) }
 {
-    let controls = match find_tss(alloc, space, index, notes)? {
+    let controls = match find_tss(alloc, space, index, said)? {
         Some(states) => Some(throttle_controls(alloc, states.as_slice())?),
         None => None,
     };
@@ -137,6 +136,6 @@ pub(crate) fn read_throttle(
         index,
         (Name::Ptc, Name::Tpc, Name::Tsd),
         controls,
-        notes,
+        said,
     )
 }

@@ -3,24 +3,25 @@
 ghost use Rattle.std.specs.Prelude.{◌≡◌, ◌<◌, ◌^◌, ◌++◌, ◌∷◌, [], List, length, IfOk, IfSome, Result, Ok, Err};
 ghost use Rattle.std.specs.Option.{option_map};
 ghost use Rattle.aml_data.specs.Countable.{IsCountable};
-ghost use Rattle.acpi_build.specs.Building.{noted};
-ghost use Rattle.acpi_build.specs.inner.Answers.{Builds, IsTold, IsRefusal};
+ghost use Rattle.acpi_build.specs.Building.{noted, refused};
+ghost use Rattle.acpi_build.specs.inner.Answers.{Builds, IsTold};
 ghost use Rattle.acpi_build.specs.Finding.{place_below};
 ghost use Rattle.acpi_build.specs.Tables.{AreCountable, looked_at};
 ghost use Rattle.acpi_build.specs.Tables.{lpi_at, cst_at, csd_at};
 ghost use Rattle.acpi_build.specs.Tables.{pss_at, tss_at, cpc_at};
 ghost use Rattle.acpi_build.specs.Tables.{control_at, limit_at, dependency_at};
 
-use crate::fault::BuildFault;
+use crate::fault::ObjectFault;
 use crate::finding::object_below;
 use crate::names::Name;
 use crate::note::{Note, NoteKind};
+use crate::said::Said;
 use acpi_cpc::read_cpc;
 use acpi_idle::{read_csd, read_cst, read_lpi};
 use acpi_perf::{read_control, read_dependency, read_limit, read_pss, read_tss};
 use acpi_space::{Object, Space};
 use acpi_values::{
-    CDependency, CState, ControlPair, Cpc, Dependency, Lpi, PState, ReadFault, TState,
+    CDependency, CState, ControlPair, Cpc, Dependency, Lpi, PState, ReadFault, Shape, TState,
 };
 use aml_data::{Data, FullPath, Width};
 use pw_base::{List, Memory};
@@ -58,51 +59,55 @@ pub(crate) fn note(
     index: usize,
     name: Name,
     kind: NoteKind,
-    notes: &mut Vec<Note>,
-) -> Result<(), BuildFault>
+    said: &mut Said,
+) -> Result<(), Memory>
     requires { index < length space.now }
-    ensures { Builds (λ _. tt {0}) result notes.old.items notes.new.items
+    ensures { Builds (λ _. tt {0}) result said.old said.new
         (noted (place_below space.now index name) kind (tt {0})) }
 {
     let path = path_below(alloc, space, index, name)?;
-    notes.push(Note { path, kind })?;
+    said.notes.push(Note { path, kind })?;
     Ok(())
 }
 
-/// What is said of the object at a name, where it means nothing.
-pub(crate) fn refusal(
+/// Says that the object at a name means nothing.
+fn refuse(
     alloc: Global,
     space: &Space,
     index: usize,
     name: Name,
-    fault: ReadFault,
-) -> BuildFault
+    shape: Shape,
+    said: &mut Said,
+) -> Result<(), Memory>
     requires { index < length space.now }
-    ensures { IsRefusal (place_below space.now index name) fault result }
+    ensures { Builds (λ _. tt {0}) result said.old said.new
+        (refused (place_below space.now index name) shape.place shape.why (tt {0})) }
 {
-    match fault {
-        ReadFault::Memory => BuildFault::Memory,
-        ReadFault::Shape { place, why } => match path_below(alloc, space, index, name) {
-            Ok(path) => BuildFault::Object { path, place, why },
-            Err(memory) => BuildFault::from(memory),
-        },
-    }
+    let Shape { place, why } = shape;
+    let path = path_below(alloc, space, index, name)?;
+    said.faults.push(ObjectFault { path, place, why })?;
+    Ok(())
 }
 
-/// What was read of the object at a name.
+/// What was read of the object at a name. Where it means nothing, that is said.
 pub(crate) fn tell<T>(
     alloc: Global,
     space: &Space,
     index: usize,
     name: Name,
     read: Result<T, ReadFault>,
-) -> Result<T, BuildFault>
+    said: &mut Said,
+) -> Result<Option<T>, Memory>
     requires { index < length space.now }
-    ensures { IsTold (place_below space.now index name) read result }
+    ensures { IsTold (place_below space.now index name) read result said.old said.new }
 {
     match read {
-        Ok(value) => Ok(value),
-        Err(fault) => Err(refusal(alloc, space, index, name, fault)),
+        Ok(value) => Ok(Some(value)),
+        Err(ReadFault::Shape { place, why }) => {
+            refuse(alloc, space, index, name, Shape { place, why }, said)?;
+            Ok(None)
+        }
+        Err(ReadFault::Memory) => Err(Memory),
     }
 }
 
@@ -113,12 +118,12 @@ pub(crate) fn look<'a>(
     space: &Space<'a>,
     index: usize,
     name: Name,
-    notes: &mut Vec<Note>,
-) -> Result<Option<Found<'a>>, BuildFault>
+    said: &mut Said,
+) -> Result<Option<Found<'a>>, Memory>
     requires within { index < length space.now }
     requires countable { AreCountable space.now }
     ensures value { Builds (λ o. option_map (λ f. record { object = f.data.now; width = f.width }) o)
-        result notes.old.items notes.new.items (looked_at space.now (place_below space.now index name)) }
+        result said.old said.new (looked_at space.now (place_below space.now index name)) }
     ensures countable { IfOk result (λ o. IfSome o (λ f. IsCountable f.data.now)) }
 {
     let Some(placed) = object_below(space, index, name) else {
@@ -131,11 +136,11 @@ pub(crate) fn look<'a>(
         })),
         Object::Device | Object::Processor => Ok(None),
         Object::Method => {
-            note(alloc, space, index, name, NoteKind::ByMethod, notes)?;
+            note(alloc, space, index, name, NoteKind::ByMethod, said)?;
             Ok(None)
         }
         Object::Alias(_) => {
-            note(alloc, space, index, name, NoteKind::ByAlias, notes)?;
+            note(alloc, space, index, name, NoteKind::ByAlias, said)?;
             Ok(None)
         }
     }
@@ -147,24 +152,28 @@ pub(crate) fn find_lpi(
     alloc: Global,
     space: &Space,
     index: usize,
-    notes: &mut Vec<Note>,
-) -> Result<Option<Lpi>, BuildFault>
+    said: &mut Said,
+) -> Result<Option<Lpi>, Memory>
     requires within { index < length space.now }
     requires countable { AreCountable space.now }
-    ensures { Builds (λ o. o) result notes.old.items notes.new.items (lpi_at space.now index) }
+    ensures { Builds (λ o. o) result said.old said.new (lpi_at space.now index) }
 {
-    let Some(found) = look(alloc, space, index, Name::Lpi, notes)? else {
+    let Some(found) = look(alloc, space, index, Name::Lpi, said)? else {
         return Ok(None);
     };
-    let lpi = tell(
+    let Some(lpi) = tell(
         alloc,
         space,
         index,
         Name::Lpi,
         read_lpi(alloc, found.data, found.width),
-    )?;
+        said,
+    )?
+    else {
+        return Ok(None);
+    };
     if lpi.states.as_slice().is_empty() {
-        note(alloc, space, index, Name::Lpi, NoteKind::Empty, notes)?;
+        note(alloc, space, index, Name::Lpi, NoteKind::Empty, said)?;
         return Ok(None);
     }
     Ok(Some(lpi))
@@ -176,25 +185,29 @@ pub(crate) fn find_cst(
     alloc: Global,
     space: &Space,
     index: usize,
-    notes: &mut Vec<Note>,
-) -> Result<Option<Vec<CState>>, BuildFault>
+    said: &mut Said,
+) -> Result<Option<Vec<CState>>, Memory>
     requires within { index < length space.now }
     requires countable { AreCountable space.now }
-    ensures { Builds (λ o. option_map (λ v. v.items) o) result notes.old.items notes.new.items
+    ensures { Builds (λ o. option_map (λ v. v.items) o) result said.old said.new
         (cst_at space.now index) }
 {
-    let Some(found) = look(alloc, space, index, Name::Cst, notes)? else {
+    let Some(found) = look(alloc, space, index, Name::Cst, said)? else {
         return Ok(None);
     };
-    let states = tell(
+    let Some(states) = tell(
         alloc,
         space,
         index,
         Name::Cst,
         read_cst(alloc, found.data, found.width),
-    )?;
+        said,
+    )?
+    else {
+        return Ok(None);
+    };
     if states.is_empty() {
-        note(alloc, space, index, Name::Cst, NoteKind::Empty, notes)?;
+        note(alloc, space, index, Name::Cst, NoteKind::Empty, said)?;
         return Ok(None);
     }
     Ok(Some(states))
@@ -206,25 +219,25 @@ pub(crate) fn find_csd(
     alloc: Global,
     space: &Space,
     index: usize,
-    notes: &mut Vec<Note>,
-) -> Result<Option<Vec<CDependency>>, BuildFault>
+    said: &mut Said,
+) -> Result<Option<Vec<CDependency>>, Memory>
     requires within { index < length space.now }
     requires countable { AreCountable space.now }
-    ensures value { Builds (λ o. option_map (λ v. v.items) o) result notes.old.items notes.new.items
+    ensures value { Builds (λ o. option_map (λ v. v.items) o) result said.old said.new
         (csd_at space.now index) }
     ensures count { IfOk result (λ o. IfSome o (λ v. length v.items < 2 ^ 32)) }
 {
-    let Some(found) = look(alloc, space, index, Name::Csd, notes)? else {
+    let Some(found) = look(alloc, space, index, Name::Csd, said)? else {
         return Ok(None);
     };
-    let entries = tell(
+    tell(
         alloc,
         space,
         index,
         Name::Csd,
         read_csd(alloc, found.data, found.width),
-    )?;
-    Ok(Some(entries))
+        said,
+    )
 }
 
 /// `_PSS`.
@@ -233,26 +246,30 @@ pub(crate) fn find_pss(
     alloc: Global,
     space: &Space,
     index: usize,
-    notes: &mut Vec<Note>,
-) -> Result<Option<Vec<PState>>, BuildFault>
+    said: &mut Said,
+) -> Result<Option<Vec<PState>>, Memory>
     requires within { index < length space.now }
     requires countable { AreCountable space.now }
-    ensures value { Builds (λ o. option_map (λ v. v.items) o) result notes.old.items notes.new.items
+    ensures value { Builds (λ o. option_map (λ v. v.items) o) result said.old said.new
         (pss_at space.now index) }
     ensures some { IfOk result (λ o. IfSome o (λ v. 0 < length v.items)) }
 {
-    let Some(found) = look(alloc, space, index, Name::Pss, notes)? else {
+    let Some(found) = look(alloc, space, index, Name::Pss, said)? else {
         return Ok(None);
     };
-    let states = tell(
+    let Some(states) = tell(
         alloc,
         space,
         index,
         Name::Pss,
         read_pss(alloc, found.data, found.width),
-    )?;
+        said,
+    )?
+    else {
+        return Ok(None);
+    };
     if states.is_empty() {
-        note(alloc, space, index, Name::Pss, NoteKind::Empty, notes)?;
+        note(alloc, space, index, Name::Pss, NoteKind::Empty, said)?;
         return Ok(None);
     }
     Ok(Some(states))
@@ -264,26 +281,30 @@ pub(crate) fn find_tss(
     alloc: Global,
     space: &Space,
     index: usize,
-    notes: &mut Vec<Note>,
-) -> Result<Option<Vec<TState>>, BuildFault>
+    said: &mut Said,
+) -> Result<Option<Vec<TState>>, Memory>
     requires within { index < length space.now }
     requires countable { AreCountable space.now }
-    ensures value { Builds (λ o. option_map (λ v. v.items) o) result notes.old.items notes.new.items
+    ensures value { Builds (λ o. option_map (λ v. v.items) o) result said.old said.new
         (tss_at space.now index) }
     ensures some { IfOk result (λ o. IfSome o (λ v. 0 < length v.items)) }
 {
-    let Some(found) = look(alloc, space, index, Name::Tss, notes)? else {
+    let Some(found) = look(alloc, space, index, Name::Tss, said)? else {
         return Ok(None);
     };
-    let states = tell(
+    let Some(states) = tell(
         alloc,
         space,
         index,
         Name::Tss,
         read_tss(alloc, found.data, found.width),
-    )?;
+        said,
+    )?
+    else {
+        return Ok(None);
+    };
     if states.is_empty() {
-        note(alloc, space, index, Name::Tss, NoteKind::Empty, notes)?;
+        note(alloc, space, index, Name::Tss, NoteKind::Empty, said)?;
         return Ok(None);
     }
     Ok(Some(states))
@@ -296,18 +317,21 @@ pub(crate) fn find_control(
     space: &Space,
     index: usize,
     name: Name,
-    notes: &mut Vec<Note>,
-) -> Result<Option<ControlPair>, BuildFault>
+    said: &mut Said,
+) -> Result<Option<ControlPair>, Memory>
     requires within { index < length space.now }
     requires countable { AreCountable space.now }
-    ensures { Builds (λ o. o) result notes.old.items notes.new.items (control_at space.now index name) }
+    ensures { Builds (λ o. o) result said.old said.new (control_at space.now index name) }
 {
-    let Some(found) = look(alloc, space, index, name, notes)? else {
+    let Some(found) = look(alloc, space, index, name, said)? else {
         return Ok(None);
     };
     match read_control(found.data) {
         Ok(pair) => Ok(Some(pair)),
-        Err(shape) => Err(refusal(alloc, space, index, name, ReadFault::from(shape))),
+        Err(shape) => {
+            refuse(alloc, space, index, name, shape, said)?;
+            Ok(None)
+        }
     }
 }
 
@@ -318,18 +342,21 @@ pub(crate) fn find_limit(
     space: &Space,
     index: usize,
     name: Name,
-    notes: &mut Vec<Note>,
-) -> Result<Option<u32>, BuildFault>
+    said: &mut Said,
+) -> Result<Option<u32>, Memory>
     requires within { index < length space.now }
     requires countable { AreCountable space.now }
-    ensures { Builds (λ o. o) result notes.old.items notes.new.items (limit_at space.now index name) }
+    ensures { Builds (λ o. o) result said.old said.new (limit_at space.now index name) }
 {
-    let Some(found) = look(alloc, space, index, name, notes)? else {
+    let Some(found) = look(alloc, space, index, name, said)? else {
         return Ok(None);
     };
     match read_limit(found.data, found.width) {
         Ok(limit) => Ok(Some(limit)),
-        Err(shape) => Err(refusal(alloc, space, index, name, ReadFault::from(shape))),
+        Err(shape) => {
+            refuse(alloc, space, index, name, shape, said)?;
+            Ok(None)
+        }
     }
 }
 
@@ -340,18 +367,21 @@ pub(crate) fn find_dependency(
     space: &Space,
     index: usize,
     name: Name,
-    notes: &mut Vec<Note>,
-) -> Result<Option<Dependency>, BuildFault>
+    said: &mut Said,
+) -> Result<Option<Dependency>, Memory>
     requires within { index < length space.now }
     requires countable { AreCountable space.now }
-    ensures { Builds (λ o. o) result notes.old.items notes.new.items (dependency_at space.now index name) }
+    ensures { Builds (λ o. o) result said.old said.new (dependency_at space.now index name) }
 {
-    let Some(found) = look(alloc, space, index, name, notes)? else {
+    let Some(found) = look(alloc, space, index, name, said)? else {
         return Ok(None);
     };
     match read_dependency(found.data, found.width) {
         Ok(dependency) => Ok(Some(dependency)),
-        Err(shape) => Err(refusal(alloc, space, index, name, ReadFault::from(shape))),
+        Err(shape) => {
+            refuse(alloc, space, index, name, shape, said)?;
+            Ok(None)
+        }
     }
 }
 
@@ -361,21 +391,21 @@ pub(crate) fn find_cpc(
     alloc: Global,
     space: &Space,
     index: usize,
-    notes: &mut Vec<Note>,
-) -> Result<Option<Cpc>, BuildFault>
+    said: &mut Said,
+) -> Result<Option<Cpc>, Memory>
     requires within { index < length space.now }
     requires countable { AreCountable space.now }
-    ensures { Builds (λ o. o) result notes.old.items notes.new.items (cpc_at space.now index) }
+    ensures { Builds (λ o. o) result said.old said.new (cpc_at space.now index) }
 {
-    let Some(found) = look(alloc, space, index, Name::Cpc, notes)? else {
+    let Some(found) = look(alloc, space, index, Name::Cpc, said)? else {
         return Ok(None);
     };
-    let cpc = tell(
+    tell(
         alloc,
         space,
         index,
         Name::Cpc,
         read_cpc(alloc, found.data, found.width),
-    )?;
-    Ok(Some(cpc))
+        said,
+    )
 }

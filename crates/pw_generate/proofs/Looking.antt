@@ -13,7 +13,7 @@ use Rattle.acpi_space.specs.Places.{Place}
 use Rattle.acpi_space.specs.Things.Thing.{data_object}
 use Rattle.acpi_space.proofs.Lookups.{count_places, numbered, path_at, unnumbered}
 use Rattle.acpi_build.specs.Tables.{looked_at}
-use Rattle.acpi_build.specs.declared.note.Note.{Note}
+use Rattle.acpi_build.specs.Building.{Remarks, built}
 use Rattle.pw_plan.proofs.Lists.{each_append, each_flat_map}
 use Rattle.pw_generate.specs.Machines.{cpus_of}
 use Rattle.pw_generate.proofs.Ranges.{get_piece, length_pieces}
@@ -102,13 +102,13 @@ not_found n place other = unnumbered (machine_entries n) place (λ among.
 
 -- # What is looked at
 
-pub looks : (n k : ℕ) (place : Place) (object : Data) (notes : List Note) → number_at (machine_entries n) place ≡ Some k
+pub looks : (n k : ℕ) (place : Place) (object : Data) (said : Remarks) → number_at (machine_entries n) place ≡ Some k
     → entry_in (machine_entries n) k ≡ standing place (data_object object)
-    → looked_at (machine_entries n) place notes ≡ Ok (Some (record { object = object; width = W64 }), notes)
+    → looked_at (machine_entries n) place said ≡ built (Some (record { object = object; width = W64 })) said
 unfolding looked_at
-looks n k place object notes number is = rw (number, is) refl
+looks n k place object said number is = rw (number, is) refl
 
-pub looks_past : (n : ℕ) (place : Place) (notes : List Note) → is_given (last_of place) ≡ false
-    → looked_at (machine_entries n) place notes ≡ Ok (None, notes)
+pub looks_past : (n : ℕ) (place : Place) (said : Remarks) → is_given (last_of place) ≡ false
+    → looked_at (machine_entries n) place said ≡ built None said
 unfolding looked_at
-looks_past n place notes other = rw (not_found n place other) refl
+looks_past n place said other = rw (not_found n place other) refl

@@ -18,7 +18,7 @@ use Rattle.acpi_space.specs.Lookup.{no_entry, path_in}
 use Rattle.acpi_space.specs.Things.Thing.{data_object}
 use Rattle.acpi_space.specs.Namespace.{Entry}
 use Rattle.acpi_space.specs.Places.{Place}
-use Rattle.acpi_build.specs.declared.note.Note.{Note}
+use Rattle.acpi_build.specs.Building.{Remarks, built}
 use Rattle.acpi_build.specs.Machine.{container_parts, cpu_parts, idle_of, idle_table, perf_of, scale_of, scale_with, throttle_of}
 use Rattle.acpi_build.specs.Tables.{Given, control_at, cpc_at, csd_at, cst_at, dependency_at, limit_at, looked_at, lpi_at, pss_at, tss_at}
 use Rattle.pw_generate.specs.Tables.{container_idle, cpu_control, cpu_domain, cpu_idle, cpu_perf}
@@ -33,47 +33,47 @@ use Rattle.pw_generate.proofs.Parents.{container_parent, container_path, cpu_par
 
 -- what is looked at below a place
 abbrev Sees : List Entry → Place → List ℕ → Option Given → Type 0
-Sees entries path seg o = (notes : List Note) → looked_at entries (path ++ seg ∷ []) notes ≡ Ok (o, notes)
+Sees entries path seg o = (said : Remarks) → looked_at entries (path ++ seg ∷ []) said ≡ built o said
 
 abbrev given : Data → Option Given
 given object = Some (record { object = object; width = W64 })
 
-lpi_read : (entries : List Entry) (k : ℕ) (path : Place) (object : Data) (lpi : Lpi) (notes : List Note) → path_in entries k ≡ path
+lpi_read : (entries : List Entry) (k : ℕ) (path : Place) (object : Data) (lpi : Lpi) (said : Remarks) → path_in entries k ≡ path
     → Sees entries path (codes "_LPI") (given object)
-    → lpi_of W64 object ≡ Ok lpi → (length lpi.states == 0) ≡ false → lpi_at entries k notes ≡ Ok (Some lpi, notes)
+    → lpi_of W64 object ≡ Ok lpi → (length lpi.states == 0) ≡ false → lpi_at entries k said ≡ built (Some lpi) said
 unfolding lpi_at
-lpi_read entries k path object lpi notes at sees read some = rw (at, sees notes, read, some) refl
+lpi_read entries k path object lpi said at sees read some = rw (at, sees said, read, some) refl
 
-idle_read : (entries : List Entry) (k : ℕ) (path : Place) (object : Data) (lpi : Lpi) (notes : List Note) → path_in entries k ≡ path
+idle_read : (entries : List Entry) (k : ℕ) (path : Place) (object : Data) (lpi : Lpi) (said : Remarks) → path_in entries k ≡ path
     → Sees entries path (codes "_LPI") (given object)
     → lpi_of W64 object ≡ Ok lpi → (length lpi.states == 0) ≡ false → Sees entries path (codes "_CST") None
     → Sees entries path (codes "_CSD") None
-    → idle_of entries k notes ≡ Ok ((idle_table (Some lpi) None, []), notes)
+    → idle_of entries k said ≡ built ((idle_table (Some lpi) None, [])) said
 unfolding idle_of cst_at csd_at
-idle_read entries k path object lpi notes at sees read some cst csd =
-    rw (lpi_read entries k path object lpi notes at sees read some, at, cst notes, csd notes) refl
+idle_read entries k path object lpi said at sees read some cst csd =
+    rw (lpi_read entries k path object lpi said at sees read some, at, cst said, csd said) refl
 
 perf_read : (entries : List Entry) (k : ℕ) (path : Place) (first second third : Data) (ps : List PState) (pair : ControlPair)
-    (d : Dependency) (notes : List Note) → path_in entries k ≡ path
+    (d : Dependency) (said : Remarks) → path_in entries k ≡ path
     → Sees entries path (codes "_PSS") (given first) → pss_of W64 first ≡ Ok ps → (length ps == 0) ≡ false
     → Sees entries path (codes "_PCT") (given second) → control_of second ≡ Ok pair
     → Sees entries path (codes "_PPC") None
     → Sees entries path (codes "_PSD") (given third) → domain_of W64 third ≡ Ok d
-    → perf_of entries k notes ≡ Ok (scale_with (Some (map (λ (s : PState). s.control) ps)) (Some pair) None (Some d), notes)
+    → perf_of entries k said ≡ built (scale_with (Some (map (λ (s : PState). s.control) ps)) (Some pair) None (Some d)) said
 unfolding perf_of scale_of pss_at control_at limit_at dependency_at
-perf_read entries k path first second third ps pair d notes at pss states some pct control ppc psd domain =
-    rw (at, pss notes, states, some, pct notes, control, ppc notes, psd notes, domain) refl
+perf_read entries k path first second third ps pair d said at pss states some pct control ppc psd domain =
+    rw (at, pss said, states, some, pct said, control, ppc said, psd said, domain) refl
 
-throttle_read : (entries : List Entry) (k : ℕ) (path : Place) (notes : List Note) → path_in entries k ≡ path
+throttle_read : (entries : List Entry) (k : ℕ) (path : Place) (said : Remarks) → path_in entries k ≡ path
     → Sees entries path (codes "_TSS") None → Sees entries path (codes "_PTC") None
-    → Sees entries path (codes "_TPC") None → Sees entries path (codes "_TSD") None → throttle_of entries k notes ≡ Ok (None, notes)
+    → Sees entries path (codes "_TPC") None → Sees entries path (codes "_TSD") None → throttle_of entries k said ≡ built None said
 unfolding throttle_of scale_of tss_at control_at limit_at dependency_at
-throttle_read entries k path notes at tss ptc tpc tsd = rw (at, tss notes, ptc notes, tpc notes, tsd notes) refl
+throttle_read entries k path said at tss ptc tpc tsd = rw (at, tss said, ptc said, tpc said, tsd said) refl
 
-cpc_read : (entries : List Entry) (k : ℕ) (path : Place) (notes : List Note) → path_in entries k ≡ path
-    → Sees entries path (codes "_CPC") None → cpc_at entries k notes ≡ Ok (None, notes)
+cpc_read : (entries : List Entry) (k : ℕ) (path : Place) (said : Remarks) → path_in entries k ≡ path
+    → Sees entries path (codes "_CPC") None → cpc_at entries k said ≡ built None said
 unfolding cpc_at
-cpc_read entries k path notes at cpc = rw (at, cpc notes) refl
+cpc_read entries k path said at cpc = rw (at, cpc said) refl
 
 -- # What is written is read
 
@@ -102,25 +102,25 @@ module _ (n : ℕ) (small : n ≤ 32) where
   abbrev entries : List Entry
   entries = machine_entries n
 
-  pub container_made : (c : ℕ) (notes : List Note) → c < n
-      → container_parts entries (container_spot c) notes ≡ Ok (machine_container c, notes)
+  pub container_made : (c : ℕ) (said : Remarks) → c < n
+      → container_parts entries (container_spot c) said ≡ built (machine_container c) said
   unfolding container_parts machine_container
-  container_made c notes l =
+  container_made c said l =
       let sees : Sees entries (container_place c) (codes "_LPI") (given (lpi_object container_idle)) =
       λ old. looks n (container_spot c + 2) _ (lpi_object container_idle) old (found_in_container n c 2 _ small l (omega arith) refl)
       (at_front n c 2 l (omega arith)) in
       let path = container_path n small c l in
       rw (
-        lpi_read entries (container_spot c) (container_place c) (lpi_object container_idle) container_idle notes path sees container_lpi.0
+        lpi_read entries (container_spot c) (container_place c) (lpi_object container_idle) container_idle said path sees container_lpi.0
             container_lpi.1,
         path,
         container_parent n small c l,
       ) refl
 
-  pub cpu_made : (c i : ℕ) (notes : List Note) → c < n → i < 8
-      → cpu_parts entries (cpu_spot c i) notes ≡ Ok (machine_cpu (8 * c + i), notes)
+  pub cpu_made : (c i : ℕ) (said : Remarks) → c < n → i < 8
+      → cpu_parts entries (cpu_spot c i) said ≡ built (machine_cpu (8 * c + i)) said
   unfolding cpu_parts machine_cpu cpu_control
-  cpu_made c i notes l less =
+  cpu_made c i said l less =
       let p = 8 * c + i in
       let k = cpu_spot c i in
       let place = cpu_place c p in
@@ -133,16 +133,16 @@ module _ (n : ℕ) (small : n ≤ 32) where
       (at_cpu n c i j l less few ∙ is) in
       let past : (seg : List ℕ) → is_given seg ≡ false → Sees entries place seg None =
       λ seg other old. looks_past n (place ++ seg ∷ []) old other in
-      let idle = idle_read entries k place (lpi_object cpu_idle) cpu_idle notes path
+      let idle = idle_read entries k place (lpi_object cpu_idle) cpu_idle said path
       (sees 2 (codes "_LPI") (lpi_object cpu_idle) (omega arith) refl) cpu_lpi.0 cpu_lpi.1
       (past (codes "_CST") refl) (past (codes "_CSD") refl) in
       let perf = perf_read entries k place (pss_object cpu_perf) (control_object cpu_control) (domain_object (cpu_domain c)) cpu_perf
-      cpu_control (cpu_domain c) notes path
+      cpu_control (cpu_domain c) said path
       (sees 3 (codes "_PSS") (pss_object cpu_perf) (omega arith) refl) cpu_pss.0 cpu_pss.1
       (sees 4 (codes "_PCT") (control_object cpu_control) (omega arith) refl) cpu_pct
       (past (codes "_PPC") refl)
       (sees 5 (codes "_PSD") (domain_object (cpu_domain c)) (omega arith) refl) (cpu_psd c (omega arith)) in
-      let throttle = throttle_read entries k place notes path (past (codes "_TSS") refl) (past (codes "_PTC") refl)
+      let throttle = throttle_read entries k place said path (past (codes "_TSS") refl) (past (codes "_PTC") refl)
       (past (codes "_TPC") refl) (past (codes "_TSD") refl) in
-      let cpc = cpc_read entries k place notes path (past (codes "_CPC") refl) in
+      let cpc = cpc_read entries k place said path (past (codes "_CPC") refl) in
       rw (idle, perf, throttle, cpc, path, cpu_parent n small c i l less, own) refl

@@ -8,7 +8,7 @@ use Rattle.acpi_space.specs.Namespace.{Entry, entries_in, places_of}
 use Rattle.acpi_build.specs.declared.fault.BuildFault.{BuildFault}
 use Rattle.acpi_build.specs.declared.fault.BuildFault.TheVariants.{Limit, Memory, Object}
 use Rattle.acpi_build.specs.declared.note.Note.{Note}
-use Rattle.acpi_build.specs.Building.{Build, IsFault, each}
+use Rattle.acpi_build.specs.Building.{Build, IsFault, Remarks, built, each, noting}
 use Rattle.acpi_build.specs.Machine.{Parts, container_parts, cpu_parts, parts_of}
 use Rattle.acpi_build.specs.Planning.{IsPlanFrom, parts_within, unfit_notes}
 use Rattle.pw_plan.specs.declared.plan.Plan.{Plan}
@@ -27,14 +27,14 @@ abbrev made_in : Parts × List Note → Result (Parts × List Note) BuildFault �
 made_in other (Ok made) = made
 made_in other (Err fault) = other
 
--- all are made, and nothing is noted
-each_made : {A : Type 0} (f : ℕ → Build A) (spot : ℕ → ℕ) (made : ℕ → A) (a m : ℕ) (notes : List Note)
-    → ((x : ℕ) → a ≤ x → x < a + m → f (spot x) notes ≡ Ok (made x, notes))
-    → each f (map spot (range_with_len a m)) notes ≡ Ok (map made (range_with_len a m), notes)
-each_made f spot made a zero notes one = refl
-each_made f spot made a (suc m) notes one = rw (
+-- all are made, and nothing is remarked
+each_made : {A : Type 0} (f : ℕ → Build A) (spot : ℕ → ℕ) (made : ℕ → A) (a m : ℕ) (said : Remarks)
+    → ((x : ℕ) → a ≤ x → x < a + m → f (spot x) said ≡ built (made x) said)
+    → each f (map spot (range_with_len a m)) said ≡ built (map made (range_with_len a m)) said
+each_made f spot made a zero said one = refl
+each_made f spot made a (suc m) said one = rw (
   one a (omega arith) (omega arith),
-  each_made f spot made (a + 1) m notes
+  each_made f spot made (a + 1) m said
       (λ x l r. one x (omega arith) (omega arith)),
 ) refl
 
@@ -42,21 +42,21 @@ module _ (n : ℕ) (small : n ≤ 32) where
   abbrev entries : List Entry
   entries = machine_entries n
 
-  all_containers : each (container_parts entries) (map container_spot (range_with_len 0 n)) [] ≡ Ok (machine_containers n, [])
+  all_containers : each (container_parts entries) (map container_spot (range_with_len 0 n)) (noting []) ≡ built (machine_containers n) (noting [])
   unfolding machine_containers
-  all_containers = each_made (container_parts entries) container_spot machine_container 0 n []
-      (λ c a b. container_made n small c [] (omega arith))
+  all_containers = each_made (container_parts entries) container_spot machine_container 0 n (noting [])
+      (λ c a b. container_made n small c (noting []) (omega arith))
 
-  cpu_numbered : (p : ℕ) → p < 8 * n → cpu_parts entries (spot_of p) [] ≡ Ok (machine_cpu p, [])
+  cpu_numbered : (p : ℕ) → p < 8 * n → cpu_parts entries (spot_of p) (noting []) ≡ built (machine_cpu p) (noting [])
   cpu_numbered p l =
       let whole : 8 * (p / 8) + p % 8 ≡ p = omega arith in
-      cpu_made n small (p / 8) (p % 8) [] (omega arith) (omega arith) ∙ ap (λ q. Ok (machine_cpu q, [])) whole
+      cpu_made n small (p / 8) (p % 8) (noting []) (omega arith) (omega arith) ∙ ap (λ q. built (machine_cpu q) (noting [])) whole
 
-  all_cpus : each (cpu_parts entries) (map spot_of (range_with_len 0 (8 * n))) [] ≡ Ok (machine_cpus n, [])
+  all_cpus : each (cpu_parts entries) (map spot_of (range_with_len 0 (8 * n))) (noting []) ≡ built (machine_cpus n) (noting [])
   unfolding machine_cpus
-  all_cpus = each_made (cpu_parts entries) spot_of machine_cpu 0 (8 * n) [] (λ p a b. cpu_numbered p (omega arith))
+  all_cpus = each_made (cpu_parts entries) spot_of machine_cpu 0 (8 * n) (noting []) (λ p a b. cpu_numbered p (omega arith))
 
-  machine_parts : parts_of entries [] ≡ Ok (record { containers = machine_containers n; cpus = machine_cpus n }, [])
+  machine_parts : parts_of entries (noting []) ≡ built (record { containers = machine_containers n; cpus = machine_cpus n }) (noting [])
   unfolding parts_of
   machine_parts = rw (machine_containers_are n small, all_containers, machine_processors n small, all_cpus) refl
 

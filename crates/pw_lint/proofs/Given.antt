@@ -1,5 +1,5 @@
--- What stands at a place, and why objects make no plan.
-use Rattle.std.proofs.Common.{◌≡◌, ◌≢◌, ◌∙◌, List, [], Option, Some, None, Result, Ok, Err, IfOk, refl, ap}
+-- What stands at a place.
+use Rattle.std.proofs.Common.{◌≡◌, ◌∙◌, List, Option, Some, None, ap}
 use Rattle.std.specs.Prelude.{Bool, true, false, Contains, is_some}
 use Rattle.acpi_space.specs.declared.object.Placed.{Placed}
 use Rattle.acpi_space.specs.Distinct.{IsDistinct}
@@ -9,14 +9,7 @@ use Rattle.acpi_space.specs.Places.{Place}
 use Rattle.acpi_space.specs.Standing.{IsFound}
 use Rattle.acpi_space.specs.Things.{thing}
 use Rattle.acpi_space.proofs.Lookups.{numbered, unnumbered}
-use Rattle.acpi_build.specs.declared.fault.BuildFault.{BuildFault}
-use Rattle.acpi_build.specs.declared.fault.BuildFault.TheVariants.{Object, Limit, Memory}
-use Rattle.acpi_build.specs.Building.{IsFault}
-use Rattle.acpi_build.specs.Planning.{parts_within}
-use Rattle.pw_lint.specs.Notes.{fault_findings}
-use Rattle.pw_lint.specs.Machine.{AreFindings}
 use Rattle.pw_lint.specs.Tables.{given_as, given_at, given_in}
-use Rattle.pw_lint.specs.Machine.AreFindings.{of_fault}
 
 pub none_given : (entries : List Entry) (place : Place) → (Contains (places_of entries) place → ⊥) → given_at entries place ≡ None
 unfolding given_at
@@ -37,14 +30,3 @@ pub some_stands : (entries : List Entry) (place : Place) (p : Placed) → IsDist
     → is_some (number_at entries place) ≡ true
 some_stands entries place p distinct found =
     ap is_some (numbered entries p.index place distinct found.0 (ap (λ (e : Entry). e.path) (found.1 no_entry)))
-
--- a fault other than want of memory is found
-pub fault_found : (entries : List Entry) (fault : BuildFault) → IsFault fault (parts_within entries []) → fault ≢ Memory → AreFindings entries (fault_findings fault)
-fault_found entries (Object path place why) is other = of_fault (Object path place why) is
-fault_found entries (Limit which number) is other = of_fault (Limit which number) is
-fault_found entries Memory is other = absurd (other refl)
-
--- what follows of a value
-pub if_ok : {A E : Type 0} {P Q : A → Type 0} (r : Result A E) → ((x : A) → P x → Q x) → IfOk r P → IfOk r Q
-if_ok (Ok x) f h = f x h
-if_ok (Err e) f h = tt

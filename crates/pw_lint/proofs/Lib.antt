@@ -1,2 +1,3 @@
 pub mod Given
 pub mod Found
+pub mod Refused

@@ -8,6 +8,8 @@ use Rattle.acpi_values.specs.declared.idle.IdleKind.TheVariants.{Cst}
 use Rattle.acpi_values.specs.declared.idle.IdleRow.{IdleRow}
 use Rattle.acpi_values.specs.declared.idle.IdleTable.{IdleTable}
 use Rattle.acpi_space.specs.Namespace.{Entry}
+use Rattle.acpi_build.specs.declared.fault.BuildFault.{BuildFault}
+use Rattle.acpi_build.specs.declared.fault.BuildFault.TheVariants as faults
 use Rattle.acpi_build.specs.declared.note.Note.{Note}
 use Rattle.pw_plan.specs.declared.domain.Domain.{Domain}
 use Rattle.pw_plan.specs.declared.domain.DomainKind.{DomainKind}
@@ -18,12 +20,13 @@ use Rattle.pw_findings.specs.declared.finding.Finding.{Finding}
 use Rattle.pw_findings.specs.declared.finding.FindingKind.TheVariants as kinds
 use Rattle.pw_findings.specs.declared.finding.OfEntry.TheVariants.{NullState, OtherCount}
 use Rattle.pw_findings.specs.declared.finding.OfIdle.TheVariants.{LatencyFalls, ResidencyFalls}
+use Rattle.pw_findings.specs.declared.finding.OfObject.TheVariants.{Meaningless, PastLimit}
 use Rattle.pw_findings.specs.declared.finding.OfRate.TheVariants.{Zero, Rises, Repeats}
 use Rattle.pw_findings.specs.declared.finding.Repeat.{Repeat}
 use Rattle.pw_lint.specs.Cpcs.{cpc_findings}
 use Rattle.pw_findings.specs.Domains.{domain_findings, member_findings, unfit_findings}
 use Rattle.pw_findings.specs.Findings.{finding}
-use Rattle.pw_lint.specs.Notes.{note_findings}
+use Rattle.pw_lint.specs.Notes.{note_findings, root}
 use Rattle.pw_findings.specs.Firsts.{first_repeat}
 use Rattle.pw_lint.specs.Idle.{counted, has_cst, has_null, row_in, state_count}
 use Rattle.pw_lint.specs.Machine.{container_findings, cpu_findings, cpu_idle_findings, perf_findings, throttle_findings}
@@ -52,6 +55,14 @@ IsFoundOfCpu entries containers cpus c f = Contains (cpu_idle_findings entries c
 -- it is found of why a domain is unfit, or of how its members differ
 abbrev pub IsFoundOfDomain : List CpuParts → Domain → Finding → Type 0
 IsFoundOfDomain cpus d f = Contains (unfit_findings cpus d) f ⊎ Contains (member_findings cpus d) f
+
+-- # Of refusals
+
+-- it is of why objects make no plan: of the first that means nothing, or of the limit that is passed
+abbrev pub IsOfRefusal : BuildFault → Finding → Type 0
+IsOfRefusal (faults.Object path place why) f = f ≡ finding path (kinds.Object (Meaningless place why))
+IsOfRefusal (faults.Limit which number) f = f ≡ finding root (kinds.Object (PastLimit which number))
+IsOfRefusal faults.Memory f = ⊥
 
 -- # Of idle states
 

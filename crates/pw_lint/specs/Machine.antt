@@ -1,18 +1,19 @@
 -- What is found of a machine (ACPI 6.5, 8.4).
-use Rattle.std.specs.Prelude.{◌≡◌, ◌&&◌, ◌||◌, ℕ, not, Bool, List, [], ◌++◌, codes, find, is_some, Err, Option, if◌then◌else◌}
+use Rattle.std.specs.Prelude.{◌≡◌, ◌&&◌, ◌||◌, ℕ, not, Bool, List, [], ◌∷◌, ◌++◌, codes, find, is_some, map, Option, if◌then◌else◌}
 use Rattle.std.specs.List.{flat_map}
 use Rattle.acpi_values.specs.declared.idle.CState.{CState}
 use Rattle.aml_data.specs.declared.path.FullPath.{FullPath}
 use Rattle.acpi_space.specs.Namespace.{Entry}
-use Rattle.acpi_build.specs.declared.fault.BuildFault.{BuildFault}
 use Rattle.acpi_build.specs.declared.note.Note.{Note}
-use Rattle.acpi_build.specs.Planning.{IsPlanFrom, parts_within}
+use Rattle.acpi_build.specs.declared.survey.Outcome.{Outcome}
+use Rattle.acpi_build.specs.declared.survey.Outcome.TheVariants.{Planned, PastLimit}
+use Rattle.acpi_build.specs.declared.survey.Survey.{Survey}
+use Rattle.acpi_build.specs.Planning.{IsSurvey}
 use Rattle.pw_plan.specs.declared.domain.Domain.{Domain}
 use Rattle.pw_plan.specs.declared.domain.DomainKind.{DomainKind}
 use Rattle.pw_plan.specs.declared.domain.DomainKind.TheVariants.{Perf, Throttle}
 use Rattle.pw_plan.specs.declared.parts.ContainerParts.{ContainerParts}
 use Rattle.pw_plan.specs.declared.parts.CpuParts.{CpuParts}
-use Rattle.pw_plan.specs.declared.plan.Plan.{Plan}
 use Rattle.pw_findings.specs.declared.finding.Finding.{Finding}
 use Rattle.pw_findings.specs.declared.finding.FindingKind.TheVariants as kinds
 use Rattle.pw_findings.specs.declared.finding.OfLimit.TheVariants as limits
@@ -22,7 +23,7 @@ use Rattle.pw_lint.specs.Cpcs.{cpc_findings}
 use Rattle.pw_lint.specs.CStates.{cst_findings}
 use Rattle.pw_findings.specs.Domains.{domain_findings}
 use Rattle.pw_findings.specs.Findings.{finding, when}
-use Rattle.pw_lint.specs.Notes.{fault_findings, note_findings}
+use Rattle.pw_lint.specs.Notes.{fault_finding, limit_finding, note_findings}
 use Rattle.pw_lint.specs.Idle.{counted, has_cst, idle_findings, integer_findings}
 use Rattle.pw_lint.specs.Parents.{around, parent_findings}
 use Rattle.pw_findings.specs.Scales.{declares, latency_findings, of_scale, rate_findings, shared, two_spaces}
@@ -105,8 +106,13 @@ findings entries containers cpus domains noted =
     ++ (flat_map (cpu_findings entries containers cpus) cpus
     ++ flat_map (domain_findings cpus) domains))
 
--- These are the findings of objects: those of the plan that they tell of; or of why they make none.
-pub data AreFindings (entries : List Entry) : List Finding → Type 0 where
-  of_plan : (P : Plan) (noted : List Note) → IsPlanFrom entries P noted
-      → AreFindings entries (findings entries P.containers P.cpus P.domains noted)
-  of_fault : (fault : BuildFault) → parts_within entries [] ≡ Err fault → AreFindings entries (fault_findings fault)
+-- What is found of what objects make: of their plan and its notes; or of the notes and the limit that is passed.
+abbrev pub outcome_findings : List Entry → Outcome → List Note → List Finding
+outcome_findings entries (Planned P) noted = findings entries P.containers P.cpus P.domains noted
+outcome_findings entries (PastLimit which number) noted = flat_map note_findings noted ++ limit_finding which number ∷ []
+
+-- These are the findings of objects: of each that means nothing, and of what the others make.
+pub record AreFindings (entries : List Entry) (found : List Finding) : Type 0 where
+  pub survey : Survey
+  pub made : IsSurvey entries survey
+  pub found_are : found ≡ map fault_finding survey.faults ++ outcome_findings entries survey.outcome survey.notes

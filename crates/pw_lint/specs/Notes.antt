@@ -1,8 +1,7 @@
--- What is found of notes and of faults.
-use Rattle.std.specs.Prelude.{◌∷◌, List, [], Option, Some, None}
+-- What is found of notes, of objects that mean nothing, and of limits.
+use Rattle.std.specs.Prelude.{◌∷◌, ℕ, List, [], Option, Some, None}
 use Rattle.aml_data.specs.declared.path.FullPath.{FullPath}
-use Rattle.acpi_build.specs.declared.fault.BuildFault.{BuildFault}
-use Rattle.acpi_build.specs.declared.fault.BuildFault.TheVariants as faults
+use Rattle.acpi_build.specs.declared.fault.ObjectFault.{ObjectFault}
 use Rattle.acpi_build.specs.declared.note.Note.{Note}
 use Rattle.acpi_build.specs.declared.note.NoteKind.{NoteKind}
 use Rattle.acpi_build.specs.declared.note.NoteKind.TheVariants as notes
@@ -31,13 +30,15 @@ of_object path (Some why) = finding path (kinds.Object (objects.Unused why)) ∷
 abbrev pub note_findings : Note → List Finding
 note_findings note = of_object note.path (noted_kind note.kind)
 
--- # Faults
+-- # Objects that mean nothing, and limits
 
 abbrev pub root : FullPath
 root = record { segs = [] }
 
--- what is found where objects make no plan: the first object that means nothing, or the limit that is passed
-abbrev pub fault_findings : BuildFault → List Finding
-fault_findings (faults.Object path place why) = finding path (kinds.Object (objects.Meaningless place why)) ∷ []
-fault_findings (faults.Limit which number) = finding root (kinds.Object (objects.PastLimit which number)) ∷ []
-fault_findings faults.Memory = []
+-- what is found of an object that means nothing
+abbrev pub fault_finding : ObjectFault → Finding
+fault_finding f = finding f.path (kinds.Object (objects.Meaningless f.place f.why))
+
+-- what is found of a limit that is passed
+abbrev pub limit_finding : ℕ → ℕ → Finding
+limit_finding which number = finding root (kinds.Object (objects.PastLimit which number))

@@ -1,22 +1,25 @@
 //! What the definitions mean.
 
-ghost use Rattle.std.specs.Prelude.{◌≡◌, ◌↔◌, ℕ, [], List, Option, Contains};
+ghost use Rattle.std.specs.Prelude.{◌≡◌, ◌↔◌, ℕ, [], List, Option, Err, Contains};
 ghost use Rattle.std.proofs.Common.{◌⊎◌};
 ghost use Rattle.aml_data.specs.declared.path.FullPath.{FullPath as path_type};
 ghost use Rattle.acpi_values.specs.Idle.{rows_of};
 ghost use Rattle.acpi_values.specs.declared.idle.IdleTable.{IdleTable as table_type};
 ghost use Rattle.acpi_space.specs.Namespace.{Entry as entry_type};
+ghost use Rattle.acpi_build.specs.declared.fault.BuildFault.{BuildFault as fault_type};
 ghost use Rattle.acpi_build.specs.declared.note.Note.{Note as note_type};
+ghost use Rattle.acpi_build.specs.Planning.{parts_within, IsPlanFrom};
 ghost use Rattle.pw_plan.specs.declared.domain.Domain.{Domain as domain_type};
 ghost use Rattle.pw_plan.specs.declared.domain.DomainKind.{DomainKind as kind_type};
 ghost use Rattle.pw_plan.specs.declared.parts.ContainerParts.{ContainerParts as container_type};
 ghost use Rattle.pw_plan.specs.declared.parts.CpuParts.{CpuParts as cpu_type};
+ghost use Rattle.pw_plan.specs.declared.plan.Plan.{Plan as plan_type};
 ghost use Rattle.pw_findings.specs.declared.finding.Finding.{Finding as finding_type};
 ghost use Rattle.pw_findings.specs.Domains.{domain_findings, unfit_findings};
 ghost use Rattle.pw_lint.specs.Idle.{counted, idle_findings};
-ghost use Rattle.pw_lint.specs.Laws.{IsCounted, IsFalling, IsFound, IsFoundOfCpu, IsFoundOfDomain, IsRepeated};
-ghost use Rattle.pw_lint.specs.Laws.{IsRising, IsShrinking, IsStill, IsUnentered};
-ghost use Rattle.pw_lint.specs.Machine.{cpu_findings, findings};
+ghost use Rattle.pw_lint.specs.Laws.{IsCounted, IsFalling, IsFound, IsFoundOfCpu, IsFoundOfDomain, IsOfRefusal};
+ghost use Rattle.pw_lint.specs.Laws.{IsRepeated, IsRising, IsShrinking, IsStill, IsUnentered};
+ghost use Rattle.pw_lint.specs.Machine.{cpu_findings, findings, AreFindings};
 ghost use Rattle.pw_findings.specs.Scales.{rate_findings};
 
 /// What is found of a machine is what is found of its notes, its containers, its processors and its domains.
@@ -30,6 +33,19 @@ pub fn findings_are_of_objects()
         → Contains (cpu_findings entries containers cpus c) f ↔ IsFoundOfCpu entries containers cpus c f }
     ensures domain { (cpus : List cpu_type) (d : domain_type) (f : finding_type)
         → Contains (domain_findings cpus d) f ↔ IsFoundOfDomain cpus d f }
+{}
+
+/// What `check` refuses objects for is found; where it makes a plan, all that is found is of that; and nothing
+/// else can be found.
+pub fn findings_of_refusals()
+    ensures refused { (entries : List entry_type) (fault : fault_type) (found : List finding_type) (f : finding_type)
+        → parts_within entries [] ≡ Err fault → IsOfRefusal fault f → AreFindings entries found
+        → Contains found f }
+    ensures planned { (entries : List entry_type) (P : plan_type) (noted : List note_type) (found : List finding_type)
+        → IsPlanFrom entries P noted → AreFindings entries found
+        → found ≡ findings entries P.containers P.cpus P.domains noted }
+    ensures one { (entries : List entry_type) (first second : List finding_type)
+        → AreFindings entries first → AreFindings entries second → first ≡ second }
 {}
 
 /// What is found of idle states: each that wakes sooner than the one before it or is worth its cost sooner,

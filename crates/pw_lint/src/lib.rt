@@ -15,5 +15,6 @@ mod reading;
 
 pub use laws::{
     findings_are_of_objects, findings_of_domains, findings_of_idle_states, findings_of_rates,
+    findings_of_refusals,
 };
 pub use linting::find_all;

@@ -1,46 +1,68 @@
-ghost use Rattle.std.specs.Prelude.{◌≡◌, IfOk};
+ghost use Rattle.std.specs.Prelude.{◌≡◌, ◌++◌, IfOk, OnOk};
 ghost use Rattle.acpi_build.specs.Tables.{AreCountable};
-ghost use Rattle.pw_lint.specs.Machine.{findings, AreFindings};
+ghost use Rattle.pw_lint.specs.Machine.{findings, outcome_findings, AreFindings};
 
-use crate::notes::{find_in_fault, find_in_notes};
+use crate::notes::{find_in_faults, find_in_notes, find_past_limit};
 use crate::processors::{find_in_containers, find_in_cpus};
-use acpi_build::{Note, plan};
+use acpi_build::{Note, Outcome, survey_objects};
 use acpi_space::Space;
 use pw_base::Memory;
 use pw_findings::{Finding, find_in_domains};
 use pw_plan::Plan;
 use std::alloc::Global;
 
-/// What is found of a plan and its notes.
+/// Adds what is found of a plan and its notes.
 #[tactic(auto, unfolding(crate::specs::Machine::findings))]
-fn findings(
+fn find_in_plan(
     alloc: Global,
     space: &Space<'_>,
     plan: &Plan,
     notes: &[Note],
-) -> Result<Vec<Finding>, Memory>
+    found: &mut Vec<Finding>,
+) -> Result<(), Memory>
     requires { AreCountable space.now }
-    ensures { IfOk result (λ r. r.items
-        ≡ findings space.now plan.now.containers plan.now.cpus plan.now.domains notes.now) }
+    ensures { OnOk result (found.new.items ≡ found.old.items
+        ++ findings space.now plan.now.containers plan.now.cpus plan.now.domains notes.now) }
 {
     let containers = plan.containers.as_slice();
     let cpus = plan.cpus.as_slice();
-    let mut found = Vec::new(alloc);
-    find_in_notes(alloc, notes, &mut found)?;
-    find_in_containers(alloc, containers, &mut found)?;
-    find_in_cpus(alloc, space, containers, cpus, &mut found)?;
-    find_in_domains(alloc, cpus, plan.domains.as_slice(), &mut found)?;
-    Ok(found)
+    find_in_notes(alloc, notes, found)?;
+    find_in_containers(alloc, containers, found)?;
+    find_in_cpus(alloc, space, containers, cpus, found)?;
+    find_in_domains(alloc, cpus, plan.domains.as_slice(), found)
 }
 
-/// What is found of the objects of a namespace (ACPI 6.5, 8.4): of the plan that they tell of, in the order
-/// of its notes, containers, processors and domains; or why they make none.
+/// Adds what is found of what objects make, and of the notes then.
+fn find_in_outcome(
+    alloc: Global,
+    space: &Space<'_>,
+    outcome: &Outcome,
+    notes: &[Note],
+    found: &mut Vec<Finding>,
+) -> Result<(), Memory>
+    requires { AreCountable space.now }
+    ensures { OnOk result (found.new.items ≡ found.old.items
+        ++ outcome_findings space.now outcome.now notes.now) }
+{
+    match outcome {
+        Outcome::Planned(plan) => find_in_plan(alloc, space, plan, notes, found),
+        Outcome::PastLimit { which, number } => {
+            find_in_notes(alloc, notes, found)?;
+            find_past_limit(alloc, *which, *number, found)
+        }
+    }
+}
+
+/// What is found of the objects of a namespace (ACPI 6.5, 8.4): of each that means nothing, and then of the
+/// plan that the others tell of, in the order of its notes, containers, processors and domains.
 pub fn find_all(alloc: Global, space: &Space<'_>) -> Result<Vec<Finding>, Memory>
     requires { AreCountable space.now }
     ensures { IfOk result (λ found. AreFindings space.now found.items) }
 {
-    match plan(alloc, space) {
-        Ok((plan, notes)) => findings(alloc, space, &plan, &notes),
-        Err(fault) => find_in_fault(alloc, fault),
-    }
+    let survey = survey_objects(alloc, space)?;
+    let mut found = Vec::new(alloc);
+    find_in_faults(alloc, survey.faults.as_slice(), &mut found)?;
+    let notes = survey.notes.as_slice();
+    find_in_outcome(alloc, space, &survey.outcome, notes, &mut found)?;
+    Ok(found)
 }

@@ -1,10 +1,8 @@
-ghost use Rattle.std.specs.Prelude.{◌≡◌, ◌≢◌, ◌∷◌, ◌++◌, [], IfOk, OnOk};
+ghost use Rattle.std.specs.Prelude.{◌≡◌, ◌∷◌, ◌++◌, [], map, OnOk};
 ghost use Rattle.std.specs.List.{flat_map};
-ghost use Rattle.pw_findings.specs.Findings.{finding};
-ghost use Rattle.pw_lint.specs.Notes.{fault_findings, note_findings, noted_kind};
-ghost use Rattle.acpi_build.specs.declared.fault.BuildFault.TheVariants.{Memory as no_memory};
+ghost use Rattle.pw_lint.specs.Notes.{fault_finding, limit_finding, note_findings, noted_kind};
 
-use acpi_build::{BuildFault, Note, NoteKind};
+use acpi_build::{Note, NoteKind, ObjectFault};
 use aml_data::FullPath;
 use pw_base::{List, Memory};
 use pw_findings::{Finding, FindingKind, OfObject, Unused, add};
@@ -51,32 +49,36 @@ pub(crate) fn find_in_notes(
     Ok(())
 }
 
-/// One finding of the object at a path.
-fn one(alloc: Global, path: FullPath, amiss: OfObject) -> Result<Vec<Finding>, Memory>
-    ensures { IfOk result (λ r. r.items ≡ finding path (FindingKind.Object amiss) ∷ []) }
+/// Adds what is found of objects that mean nothing.
+pub(crate) fn find_in_faults(
+    alloc: Global,
+    faults: &[ObjectFault],
+    found: &mut Vec<Finding>,
+) -> Result<(), Memory>
+    ensures { OnOk result (found.new.items ≡ found.old.items ++ map fault_finding faults.now) }
 {
-    let mut found = Vec::new(alloc);
-    found.push(Finding {
-        path,
-        kind: FindingKind::Object(amiss),
-    })?;
-    Ok(found)
+    for fault in faults {
+        let amiss = OfObject::Meaningless {
+            place: fault.place,
+            why: fault.why,
+        };
+        add(alloc, &fault.path, FindingKind::Object(amiss), found)?;
+    }
+    Ok(())
 }
 
-/// What is found where objects make no plan.
-pub(crate) fn find_in_fault(alloc: Global, fault: BuildFault) -> Result<Vec<Finding>, Memory>
-    ensures { IfOk result (λ r. (r.items ≡ fault_findings fault) × (fault ≢ no_memory)) }
+/// Adds what is found of a limit that is passed.
+pub(crate) fn find_past_limit(
+    alloc: Global,
+    which: u8,
+    number: u32,
+    found: &mut Vec<Finding>,
+) -> Result<(), Memory>
+    ensures { OnOk result (found.new.items ≡ found.old.items ++ limit_finding which number ∷ []) }
 {
-    match fault {
-        BuildFault::Object { path, place, why } => {
-            one(alloc, path, OfObject::Meaningless { place, why })
-        }
-        BuildFault::Limit { which, number } => {
-            let root = FullPath {
-                segs: List::from_vec(Vec::new(alloc)),
-            };
-            one(alloc, root, OfObject::PastLimit { which, number })
-        }
-        BuildFault::Memory => Err(Memory),
-    }
+    let root = FullPath {
+        segs: List::from_vec(Vec::new(alloc)),
+    };
+    let amiss = OfObject::PastLimit { which, number };
+    add(alloc, &root, FindingKind::Object(amiss), found)
 }

@@ -25,12 +25,12 @@ use Rattle.acpi_space.specs.Things.{Thing}
 use Rattle.acpi_space.specs.Things.Thing.{data_object, device, processor, method, alias_of}
 use Rattle.acpi_space.specs.inner.Naming.{named_by}
 use Rattle.acpi_space.proofs.TermSteps.{steps-layer}
-use Rattle.acpi_build.specs.declared.fault.BuildFault.{BuildFault}
+use Rattle.acpi_build.specs.declared.fault.ObjectFault.{ObjectFault}
 use Rattle.acpi_build.specs.declared.note.Note.{Note}
-use Rattle.acpi_build.specs.Building.{◌>>=◌, Build, after, done, each}
+use Rattle.acpi_build.specs.Building.{◌>>=◌, Build, Made, Remarks, after, built, done, each, noting}
 use Rattle.acpi_build.specs.Finding.{containers_of, has_id, is_declared, is_device, is_processor, numbers_of, parent_of, processor_id, processors_of}
 use Rattle.acpi_build.specs.Machine.{Parts, container_parts, cpu_parts, idle_of, parts_of, perf_of, throttle_of}
-use Rattle.acpi_build.specs.Planning.{parts_within, within}
+use Rattle.acpi_build.specs.Planning.{first_fault, judged, parts_within, unless, within}
 use Rattle.acpi_build.specs.Tables.{cpc_at}
 use Rattle.pw_plan.specs.Limits.{limit_passed}
 use Rattle.pw_plan.specs.declared.parts.Scale.{Scale}
@@ -170,31 +170,27 @@ thing_placed place (alias_of name) b e placed = absurd (cc)
 cpu_placed : (es : List Entry) → AllByRecursion IsPlacedEntry es → (k : ℕ) → is_processor es k ≡ true → OfSegments (path_in es k)
 cpu_placed es all k e = thing_placed (path_in es k) (entry_in es k).object (has_id es processor_id k) e (entry_placed es all k)
 
--- what was made, where all was
-after_ok : {A B : Type 0} (r : Result (A × List Note) BuildFault) (f : A → Build B) (made : B × List Note) → after r f ≡ Ok made
-    → (mid : A × List Note) × (r ≡ Ok mid) × (f mid.0 mid.1 ≡ Ok made)
-after_ok (Ok mid) f made e = (mid, refl, e)
-after_ok (Err fault) f made e = absurd (cc)
+-- what is made has a property, behind any remarks
+abbrev Makes : {A : Type 0} → (A → Type 0) → Made A → Type 0
+Makes T (built x remarks) = T x
 
-abbrev Made : {A : Type 0} → A × List Note → Result (A × List Note) BuildFault
-Made made = Ok made
+after_all : {A B : Type 0} (T : B → Type 0) (r : Made A) (f : A → Build B) → ((x : A) (mid : Remarks) → Makes T (f x mid)) → Makes T (after r f)
+after_all T (built x mid) f next = next x mid
 
-ok_same : {A : Type 0} {a b : A × List Note} → Made a ≡ Made b → a ≡ b
-ok_same e = cc
+after_first : {A B : Type 0} (S : A → Type 0) (T : B → Type 0) (r : Made A) (f : A → Build B) → Makes S r → ((x : A) (mid : Remarks) → S x → Makes T (f x mid))
+    → Makes T (after r f)
+after_first S T (built x mid) f first next = next x mid first
 
-each_made : {A : Type 0} (f : ℕ → Build A) (test : ℕ → Bool) (T : A → Type 0)
-    → ((k : ℕ) → test k ≡ true → (old : List Note) (made : A × List Note) → f k old ≡ Ok made → T made.0)
-    → (ks : List ℕ) (old : List Note) (made : List A × List Note) → each f (filter test ks) old ≡ Ok made → AllByRecursion T made.0
-each_made {A} f test T h [] old made e = subst (λ (m : List A × List Note). AllByRecursion T m.0) (ok_same e) tt
-each_made {A} f test T h (k ∷ ks) old made e = by (test k) refl e (λ before m made_so. each_made f test T h ks before m made_so)
+each_made : {A : Type 0} (f : ℕ → Build A) (test : ℕ → Bool) (T : A → Type 0) → ((k : ℕ) → test k ≡ true → (old : Remarks) → Makes T (f k old))
+    → (ks : List ℕ) (old : Remarks) → Makes (AllByRecursion T) (each f (filter test ks) old)
+each_made {A} f test T h [] old = tt
+each_made {A} f test T h (k ∷ ks) old = by (test k) refl (each_made f test T h ks)
   where
-    by : (b : Bool) → test k ≡ b → each f (cond b (k ∷ filter test ks) (filter test ks)) old ≡ Ok made
-        → ((before : List Note) (m : List A × List Note) → each f (filter test ks) before ≡ Ok m → AllByRecursion T m.0) → AllByRecursion T made.0
-    by false is e later = later old made e
-    by true is e later =
-        let first = after_ok (f k old) (λ y. each f (filter test ks) >>= λ ys. done (y ∷ ys)) made e in
-        let rest = after_ok (each f (filter test ks) first.0.1) (λ ys. done (first.0.0 ∷ ys)) made first.2 in
-        subst (λ (m : List A × List Note). AllByRecursion T m.0) (ok_same rest.2) (h k is old first.0 first.1, later first.0.1 rest.0 rest.1)
+    by : (b : Bool) → test k ≡ b → ((before : Remarks) → Makes (AllByRecursion T) (each f (filter test ks) before))
+        → Makes (AllByRecursion T) (each f (cond b (k ∷ filter test ks) (filter test ks)) old)
+    by false is later = later old
+    by true is later = after_first T (AllByRecursion T) (f k old) (λ y. each f (filter test ks) >>= λ ys. done (y ∷ ys)) (h k is old)
+        (λ y mid first. after_first (AllByRecursion T) (AllByRecursion T) (each f (filter test ks) mid) (λ ys. done (y ∷ ys)) (later mid) (λ ys last rest. (first, rest)))
 
 -- how a processor's parts are made, once some of them are
 abbrev with_cpc : List Entry → ℕ → IdleTable × List CDependency → Option Scale → Option Scale → Option Cpc → Build CpuParts
@@ -217,37 +213,47 @@ with_perf es k idle perf = throttle_of es k >>= with_throttle es k idle perf
 abbrev with_idle : List Entry → ℕ → IdleTable × List CDependency → Build CpuParts
 with_idle es k idle = perf_of es k >>= with_perf es k idle
 
-cpu_made : (es : List Entry) (k : ℕ) (old : List Note) (made : CpuParts × List Note) → cpu_parts es k old ≡ Ok made → made.0.path.segs ≡ path_in es k
+cpu_made : (es : List Entry) (k : ℕ) (old : Remarks) → Makes (λ (c : CpuParts). c.path.segs ≡ path_in es k) (cpu_parts es k old)
 unfolding cpu_parts
-cpu_made es k old made e =
-    let idle = after_ok (idle_of es k old) (with_idle es k) made e in
-    let perf = after_ok (perf_of es k idle.0.1) (with_perf es k idle.0.0) made idle.2 in
-    let throttle = after_ok (throttle_of es k perf.0.1) (with_throttle es k idle.0.0 perf.0.0) made perf.2 in
-    let cpc = after_ok (cpc_at es k throttle.0.1) (with_cpc es k idle.0.0 perf.0.0 throttle.0.0) made throttle.2 in
-    ap (λ (m : CpuParts × List Note). m.0.path.segs) (sym (ok_same cpc.2))
+cpu_made es k old =
+    let T : CpuParts → Type 0 = λ c. c.path.segs ≡ path_in es k in
+    after_all T (idle_of es k old) (with_idle es k) (λ idle a.
+    after_all T (perf_of es k a) (with_perf es k idle) (λ perf b.
+    after_all T (throttle_of es k b) (with_throttle es k idle perf) (λ throttle c.
+    after_all T (cpc_at es k c) (with_cpc es k idle perf throttle) (λ cpc d. refl))))
 
-cpus_made : (es : List Entry) → AllByRecursion IsPlacedEntry es → (old : List Note) (made : List CpuParts × List Note)
-    → each (cpu_parts es) (processors_of es) old ≡ Ok made → AllByRecursion IsOfSegments made.0
+of_segments : (es : List Entry) (k : ℕ) (r : Made CpuParts) → OfSegments (path_in es k) → Makes (λ (c : CpuParts). c.path.segs ≡ path_in es k) r → Makes IsOfSegments r
+of_segments es k (built c remarks) segments path = subst (AllByRecursion IsSegment) (sym path) segments
+
+cpus_made : (es : List Entry) → AllByRecursion IsPlacedEntry es → (old : Remarks) → Makes (AllByRecursion IsOfSegments) (each (cpu_parts es) (processors_of es) old)
 unfolding processors_of
-cpus_made es all old made e =
-    each_made (cpu_parts es) (is_processor es) IsOfSegments
-    (λ k is before one made_so. subst (AllByRecursion IsSegment) (sym (cpu_made es k before one made_so)) (cpu_placed es all k is)) (numbers_of es) old made e
+cpus_made es all old =
+    each_made (cpu_parts es) (is_processor es) IsOfSegments (λ k is before. of_segments es k (cpu_parts es k before) (cpu_placed es all k is) (cpu_made es k before)) (numbers_of es) old
 
-parts_made : (es : List Entry) → AllByRecursion IsPlacedEntry es → (old : List Note) (made : Parts × List Note) → parts_of es old ≡ Ok made
-    → AllByRecursion IsOfSegments made.0.cpus
+parts_made : (es : List Entry) → AllByRecursion IsPlacedEntry es → (old : Remarks) → Makes (λ (p : Parts). AllByRecursion IsOfSegments p.cpus) (parts_of es old)
 unfolding parts_of
-parts_made es all old made e =
-    let containers = after_ok {B = Parts} (each (container_parts es) (containers_of es) old)
-    (λ containers. each (cpu_parts es) (processors_of es) >>= λ cpus. done (record { containers = containers; cpus = cpus })) made e in
-    let cpus = after_ok {B = Parts} (each (cpu_parts es) (processors_of es) containers.0.1) (λ cpus. done (record { containers = containers.0.0; cpus = cpus })) made containers.2 in
-    subst (λ (m : Parts × List Note). AllByRecursion IsOfSegments m.0.cpus) (ok_same cpus.2) (cpus_made es all containers.0.1 cpus.0 cpus.1)
+parts_made es all old =
+    let T : Parts → Type 0 = λ p. AllByRecursion IsOfSegments p.cpus in
+    after_all T (each (container_parts es) (containers_of es) old)
+    (λ containers. each (cpu_parts es) (processors_of es) >>= λ cpus. done (record { containers = containers; cpus = cpus })) (λ containers mid.
+    after_first (AllByRecursion IsOfSegments) T (each (cpu_parts es) (processors_of es) mid) (λ cpus. done (record { containers = containers; cpus = cpus })) (cpus_made es all mid)
+    (λ cpus last segments. segments))
+
+judged_made : (r : Made Parts) (made : Parts × List Note) → Makes (λ (p : Parts). AllByRecursion IsOfSegments p.cpus) r → judged r ≡ Ok made → AllByRecursion IsOfSegments made.0.cpus
+judged_made (built parts remarks) made segments e = by remarks.faults (limit_passed parts.containers parts.cpus) e
+  where
+    by : (fs : List ObjectFault) (o : Option PlanFault) → unless (first_fault fs) (within o (parts, remarks.notes)) ≡ Ok made → AllByRecursion IsOfSegments made.0.cpus
+    by [] None is = subst (λ (m : Parts × List Note). AllByRecursion IsOfSegments m.0.cpus) (ok_same is) segments
+    by [] (Some (limits.Limit which number)) is = absurd (cc)
+    by [] (Some limits.Memory) is = subst (λ (m : Parts × List Note). AllByRecursion IsOfSegments m.0.cpus) (ok_same is) segments
+    by (f ∷ fs) o is = absurd (cc)
+
+    ok_same : {a b : Parts × List Note} → within None a ≡ Ok b → a ≡ b
+    ok_same e = cc
 
 within_made : (es : List Entry) → AllByRecursion IsPlacedEntry es → (made : Parts × List Note) → parts_within es [] ≡ Ok made → AllByRecursion IsOfSegments made.0.cpus
 unfolding parts_within
-within_made es all made e =
-    let parts = after_ok {B = Parts} (parts_of es []) (λ parts. within (limit_passed parts.containers parts.cpus) >>= λ _. done parts) made e in
-    let limits = after_ok {B = Parts} (within (limit_passed parts.0.0.containers parts.0.0.cpus) parts.0.1) (λ _. done parts.0.0) made parts.2 in
-    subst (λ (m : Parts × List Note). AllByRecursion IsOfSegments m.0.cpus) (ok_same limits.2) (parts_made es all [] parts.0 parts.1)
+within_made es all made e = judged_made (parts_of es (noting [])) made (parts_made es all (noting [])) e
 
 -- # Files
 

@@ -12,10 +12,7 @@ use Rattle.pw_plan.specs.declared.plan.Plan.{Plan}
 use Rattle.acpi_build.proofs.Planned.{same_plan}
 use Rattle.pw_check.specs.CheckText.{check_text}
 use Rattle.pw_check.specs.Refusals.{refusal_line}
-use Rattle.pw_findings.specs.declared.finding.Finding.{Finding}
-use Rattle.pw_lint.specs.Notes.{fault_findings}
-use Rattle.pw_lint.specs.Machine.{AreFindings}
-use Rattle.pw_lint.specs.Machine.AreFindings.{of_plan, of_fault}
+use Rattle.pw_lint.proofs.Refused.{one_findings}
 use Rattle.pw_findings.specs.Words.{findings_text}
 use Rattle.aml_block.specs.Held.{name_at}
 use Rattle.aml_block.proofs.OneReading.{same_blocks, same_first_fault, blocks_not_fault}
@@ -50,18 +47,8 @@ one_check_text entries a b p q =
     let same = same_plan entries p.plan q.plan p.notes q.notes p.made q.made in
     p.says ∙ same_text p.plan q.plan p.notes q.notes same.0 same.1 ∙ sym q.says
 
--- findings are one list
-one_list : (entries : List Entry) (a b : List Finding) → AreFindings entries a → AreFindings entries b → a ≡ b
-one_list entries a b (of_plan P first p) (of_plan Q second q) =
-    let same = same_plan entries P Q first second p q in
-    let kept = same.0 in
-    rw (kept.containers, kept.cpus, kept.domains, same.1) refl
-one_list entries a b (of_plan P notes p) (of_fault fault q) = let parts = p.parts in absurd (cc)
-one_list entries a b (of_fault fault p) (of_plan Q notes q) = let parts = q.parts in absurd (cc)
-one_list entries a b (of_fault first p) (of_fault second q) = let same : first ≡ second = cc in ap fault_findings same
-
 one_lint_text : (entries : List Entry) (a b : List ℕ) → IsLintText entries a → IsLintText entries b → a ≡ b
-one_lint_text entries a b p q = p.says ∙ ap findings_text (one_list entries p.found q.found p.made q.made) ∙ sym q.says
+one_lint_text entries a b p q = p.says ∙ ap findings_text (one_findings entries p.found q.found p.made q.made) ∙ sym q.says
 
 -- # Blocks
 

@@ -4,6 +4,7 @@ use Rattle.std.proofs.lemmas.List.{get_or_default, length_push}
 use Rattle.pw_plan.specs.Parts.{no_container}
 use Rattle.acpi_build.specs.Finding.{parent_of}
 use Rattle.acpi_build.specs.Machine.{container_parts}
+use Rattle.acpi_build.specs.inner.Answers.{remarks_in}
 use Rattle.acpi_build.proofs.Each.{each_step, index_push}
 use Rattle.acpi_build.proofs.machine.read_containers.Goals as goal
 
@@ -15,7 +16,7 @@ loop-index-preserved c =
     let front = before.containers.items in
     let y = c.in_ok-container.container in
     let i = before.index-index in
-    let step = each_step (container_parts space) front order i (get_or order i 0) y before.notes.items c.read_container.new.notes.items c.loop-index-test.true
+    let step = each_step (container_parts space) front order i (get_or order i 0) y (remarks_in before.said) (remarks_in c.read_container.new.said) c.loop-index-test.true
     (get_or_default order i 0 (get_or order i 0) c.loop-index-test.true) c.in_ok-container.ensures.value in
     record {
       value = rw c.in_ok-push.ensures.items (step ∙ before.invariant.value);

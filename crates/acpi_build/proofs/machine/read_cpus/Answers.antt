@@ -6,6 +6,7 @@ use Rattle.pw_plan.specs.Parts.{no_cpu}
 use Rattle.acpi_build.specs.Finding.{parent_of}
 use Rattle.acpi_build.specs.inner.Fitting.{FitsAlone}
 use Rattle.acpi_build.specs.Machine.{cpu_parts}
+use Rattle.acpi_build.specs.inner.Answers.{remarks_in}
 use Rattle.acpi_build.proofs.Each.{each_step, index_push}
 use Rattle.acpi_build.proofs.machine.read_cpus.Goals as goal
 
@@ -17,7 +18,7 @@ loop-index-preserved c =
     let front = before.cpus.items in
     let y = c.in_ok-cpu.cpu in
     let i = before.index-index in
-    let step = each_step (cpu_parts space) front order i (get_or order i 0) y before.notes.items c.read_cpu.new.notes.items c.loop-index-test.true
+    let step = each_step (cpu_parts space) front order i (get_or order i 0) y (remarks_in before.said) (remarks_in c.read_cpu.new.said) c.loop-index-test.true
     (get_or_default order i 0 (get_or order i 0) c.loop-index-test.true) c.in_ok-cpu.ensures.value in
     record {
       value = rw c.in_ok-push.ensures.items (step ∙ before.invariant.value);

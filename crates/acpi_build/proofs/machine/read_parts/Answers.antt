@@ -1,5 +1,6 @@
 use Rattle.std.proofs.Common.{◌∙◌, sym, ap, subst}
 use Rattle.acpi_build.specs.Building.{each}
+use Rattle.acpi_build.specs.inner.Answers.{remarks_in}
 use Rattle.acpi_build.specs.inner.Fitting.{AreContainers, AreCpus}
 use Rattle.acpi_build.specs.Machine.{container_parts, cpu_parts}
 use Rattle.acpi_build.proofs.Parents.{containers_within, processors_within}
@@ -18,9 +19,9 @@ read_cpus-requires-clause-within c = rw (c.as_slice-numbers.ensures.value, c.in_
 pub returns-clause-value : goal.returns-clause-value
 returns-clause-value c =
     let space = c.args.space.now in
-    let containers = ap (λ order. each (container_parts space) order c.args.notes.now.items) (sym (c.as_slice-order.ensures.value ∙ c.in_ok-outer.ensures)) ∙ c.in_ok-containers.ensures.value in
-    let cpus = ap (λ order. each (cpu_parts space) order c.read_containers.new.notes.items) (sym (c.as_slice-numbers.ensures.value ∙ c.in_ok-declared.ensures)) ∙ c.in_ok-cpus.ensures.value in
-    parts_made space c.in_ok-containers.containers.items c.in_ok-cpus.cpus.items c.args.notes.now.items c.read_containers.new.notes.items c.read_cpus.new.notes.items containers cpus
+    let containers = ap (λ order. each (container_parts space) order (remarks_in c.args.said.now)) (sym (c.as_slice-order.ensures.value ∙ c.in_ok-outer.ensures)) ∙ c.in_ok-containers.ensures.value in
+    let cpus = ap (λ order. each (cpu_parts space) order (remarks_in c.read_containers.new.said)) (sym (c.as_slice-numbers.ensures.value ∙ c.in_ok-declared.ensures)) ∙ c.in_ok-cpus.ensures.value in
+    parts_made space c.in_ok-containers.containers.items c.in_ok-cpus.cpus.items (remarks_in c.args.said.now) (remarks_in c.read_containers.new.said) (remarks_in c.read_cpus.new.said) containers cpus
 
 pub returns-clause-fit : goal.returns-clause-fit
 returns-clause-fit c =

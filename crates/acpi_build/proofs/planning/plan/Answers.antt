@@ -1,22 +1,21 @@
-use Rattle.std.proofs.Common.{◌∙◌, Err, sym, ap}
-use Rattle.acpi_build.specs.Machine.{parts_of}
-use Rattle.acpi_build.proofs.Planned.{limit_found, plan_made}
+use Rattle.std.proofs.Common.{◌∙◌, sym, subst}
+use Rattle.acpi_build.specs.Planning.{IsPlanFrom}
+use Rattle.acpi_build.proofs.Planned.{fault_found, fault_is, limit_found, plan_found}
 use Rattle.acpi_build.proofs.planning.plan.Goals as goal
 
-pub note_domains-requires : goal.note_domains-requires
-note_domains-requires c = λ k d l. (c.in-Ok.ensures.domains.each k d l).some
+pub returns-in-Some-clause-fault : goal.returns-in-Some-clause-fault
+returns-in-Some-clause-fault c =
+    let S = c.in_ok-faults.field-0 in
+    let first = sym c.first_fault.ensures ∙ c.in-Some.is in
+    fault_is c.args.space.now S.faults c.in-Some.fault first (fault_found c.args.space.now S c.in-Some.fault c.in_ok-faults.ensures first)
 
-pub returns-in_ok-note_domains-in-Ok-clause-plan : goal.returns-in_ok-note_domains-in-Ok-clause-plan
-returns-in_ok-note_domains-in-Ok-clause-plan c =
-    let space = c.args.space.now in
-    let parts = ap (parts_of space) (sym c.new-notes.ensures.items) ∙ c.in_ok-containers.ensures.value in
-    plan_made space c.in-Ok.plan c.in_ok-containers.containers.items c.in_ok-containers.cpus.items c.read_parts.new.notes.items c.note_domains.new.notes.items parts c.in_ok-containers.ensures.fit
-    (λ which number e. let impossible = (c.in-Ok.ensures.limit which number).1 e in cc)
-    c.in-Ok.ensures.containers c.in-Ok.ensures.cpus c.in-Ok.ensures.children c.in-Ok.ensures.domains c.in-Ok.ensures.groups c.in_ok-note_domains-in-Ok.ensures
+pub returns-in-Planned-clause-plan : goal.returns-in-Planned-clause-plan
+returns-in-Planned-clause-plan c =
+    let S = c.in_ok-faults.field-0 in
+    subst (IsPlanFrom c.args.space.now c.in-Planned.plan) (sym c.into_vec.ensures)
+    (plan_found c.args.space.now S c.in-Planned.plan c.in_ok-faults.ensures (sym c.first_fault.ensures ∙ c.in-None.is) c.in-Planned.is)
 
-pub returns-in-Err-clause-fault : goal.returns-in-Err-clause-fault
-returns-in-Err-clause-fault c =
-    let space = c.args.space.now in
-    let parts = ap (parts_of space) (sym c.new-notes.ensures.items) ∙ c.in_ok-containers.ensures.value in
-    limit_found space c.in_ok-containers.containers.items c.in_ok-containers.cpus.items c.read_parts.new.notes.items c.in-Err.fault c.limit_fault.result
-    parts c.limit_fault.ensures (λ which number e. (c.in-Err.ensures.limit which number).0 (ap Err e))
+pub returns-in-PastLimit-clause-fault : goal.returns-in-PastLimit-clause-fault
+returns-in-PastLimit-clause-fault c =
+    let S = c.in_ok-faults.field-0 in
+    limit_found c.args.space.now S c.in-PastLimit.which c.in-PastLimit.number c.in_ok-faults.ensures (sym c.first_fault.ensures ∙ c.in-None.is) c.in-PastLimit.is

@@ -20,6 +20,6 @@ returns-clause-value c =
           ∙ sym (ap (λ o. option_map (map control) (option_map (λ v. v.items) o)) w.in-Some.is)
       | in-None w ↦ w.controls-is ∙ sym (ap (λ o. option_map (map control) (option_map (λ v. v.items) o)) w.in-None.is)
     ] in
-    builds_on (λ o. o) c.scale.result c.args.notes.now.items c.find_tss.new.notes.items c.scale.new.notes.items (tss_at space c.args.index)
+    builds_on (λ o. o) c.scale.result c.args.said.now c.find_tss.new.said c.scale.new.said (tss_at space c.args.index)
     (λ found. scale_of space c.args.index names.Ptc names.Tpc names.Tsd (option_map (map control) found)) states c.in_ok-states.ensures.value
-    (subst (λ l. Builds (λ o. o) c.scale.result c.find_tss.new.notes.items c.scale.new.notes.items (scale_of space c.args.index names.Ptc names.Tpc names.Tsd l)) same c.scale.ensures.value)
+    (subst (λ l. Builds (λ o. o) c.scale.result c.find_tss.new.said c.scale.new.said (scale_of space c.args.index names.Ptc names.Tpc names.Tsd l)) same c.scale.ensures.value)

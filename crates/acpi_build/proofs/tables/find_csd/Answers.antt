@@ -10,4 +10,5 @@ pub returns-clause-count : goal.returns-clause-count
 returns-clause-count c =
     let found = c.in-Some.found in
     let countable = subst (λ o. IfSome o (λ f. IsCountable f.data.now)) c.in-Some.is c.in_ok-found.ensures.countable in
-    told_few (λ v. v.items) (place_below c.args.space.now c.args.index Csd) found.width found.data.now c.read_csd.result c.in_ok-entries.entries countable c.read_csd.ensures c.in_ok-entries.ensures
+    told_few (λ v. v.items) (place_below c.args.space.now c.args.index Csd) found.width found.data.now c.read_csd.result c.tell.result _ _
+    countable c.read_csd.ensures c.tell.ensures
