@@ -1,5 +1,5 @@
-//! What `lint` finds amiss with a machine's tables: of the notes of its plan, of its containers, processors
-//! and domains, or why there is no plan.
+//! What `lint` finds amiss with a machine's tables: of each object that means nothing, and of the notes,
+//! containers, processors and domains of the plan of the others.
 #![tactic(auto)]
 
 mod c_states;

@@ -32,6 +32,8 @@ use Rattle.acpi_build.specs.Finding.{containers_of, has_id, is_declared, is_devi
 use Rattle.acpi_build.specs.Machine.{Parts, container_parts, cpu_parts, idle_of, parts_of, perf_of, throttle_of}
 use Rattle.acpi_build.specs.Planning.{first_fault, judged, parts_within, unless, within}
 use Rattle.acpi_build.specs.Tables.{cpc_at}
+use Rattle.pw_plan.specs.declared.fault.PlanFault.{PlanFault}
+use Rattle.pw_plan.specs.declared.fault.PlanFault.TheVariants as limits
 use Rattle.pw_plan.specs.Limits.{limit_passed}
 use Rattle.pw_plan.specs.declared.parts.Scale.{Scale}
 use Rattle.pw_plan.specs.declared.parts.CpuParts.{CpuParts}
@@ -239,17 +241,17 @@ parts_made es all old =
     after_first (AllByRecursion IsOfSegments) T (each (cpu_parts es) (processors_of es) mid) (λ cpus. done (record { containers = containers; cpus = cpus })) (cpus_made es all mid)
     (λ cpus last segments. segments))
 
+same_made : {a b : Parts × List Note} → within None a ≡ Ok b → a ≡ b
+same_made e = cc
+
 judged_made : (r : Made Parts) (made : Parts × List Note) → Makes (λ (p : Parts). AllByRecursion IsOfSegments p.cpus) r → judged r ≡ Ok made → AllByRecursion IsOfSegments made.0.cpus
 judged_made (built parts remarks) made segments e = by remarks.faults (limit_passed parts.containers parts.cpus) e
   where
     by : (fs : List ObjectFault) (o : Option PlanFault) → unless (first_fault fs) (within o (parts, remarks.notes)) ≡ Ok made → AllByRecursion IsOfSegments made.0.cpus
-    by [] None is = subst (λ (m : Parts × List Note). AllByRecursion IsOfSegments m.0.cpus) (ok_same is) segments
+    by [] None is = subst (λ (m : Parts × List Note). AllByRecursion IsOfSegments m.0.cpus) (same_made is) segments
     by [] (Some (limits.Limit which number)) is = absurd (cc)
-    by [] (Some limits.Memory) is = subst (λ (m : Parts × List Note). AllByRecursion IsOfSegments m.0.cpus) (ok_same is) segments
+    by [] (Some limits.Memory) is = subst (λ (m : Parts × List Note). AllByRecursion IsOfSegments m.0.cpus) (same_made is) segments
     by (f ∷ fs) o is = absurd (cc)
-
-    ok_same : {a b : Parts × List Note} → within None a ≡ Ok b → a ≡ b
-    ok_same e = cc
 
 within_made : (es : List Entry) → AllByRecursion IsPlacedEntry es → (made : Parts × List Note) → parts_within es [] ≡ Ok made → AllByRecursion IsOfSegments made.0.cpus
 unfolding parts_within
