@@ -1,8 +1,9 @@
-"""Measures `show`, `show --json`, `rewrite` and `check` of blocks: time, peak memory, bytes read and written, and growth.
+"""Measures `show`, `show --json`, `rewrite`, `check` and `lint` of blocks: time, peak memory, bytes read and written, and growth.
 
 Times are the least of several runs, whose output is let go, by the clock and as the program's own processor time; runs of both
 programs alternate, and the plain one is to write the same bytes. A second table is of blocks of scopes and devices, with the time of
-`iasl -d` beside `show` where iasl is installed; a third is of machines with the tables of processors.
+`iasl -d` beside `show` where iasl is installed; a third is of machines with the tables of processors; a fourth is of `lint` on these,
+beside `check`, with which its runs alternate.
 """
 
 import hashlib
@@ -260,9 +261,9 @@ def run_apart(words):
     return time.perf_counter() - start, busy() - before
 
 
-def least(programs, command, path, count):
-    """Of each program the least wall and the least processor milliseconds of so many runs, which alternate."""
-    runs = [[run_apart(words_of(program, command, path)) for program in programs] for _ in range(count)]
+def least(works, count):
+    """Of each of these words the least wall and the least processor milliseconds of so many runs, which alternate."""
+    runs = [[run_apart(words) for words in works] for _ in range(count)]
     return [tuple(1e3 * min(of[i] for of in taken) for i in (0, 1)) for taken in zip(*runs)]
 
 
@@ -299,7 +300,7 @@ def measured(programs, work, command, path, count):
     written = [written_by(program, command, path) for program in programs]
     if any(other != written[0] for other in written):
         raise SystemExit(f"{programs[1]} writes other bytes at {work}")
-    took = least(programs, command, path, count)
+    took = least([words_of(program, command, path) for program in programs], count)
     peaks = [peak_memory(program, command, path) for program in programs]
     if len(programs) == 1:
         return written[0][0], took[0], peaks[0], ["", "", ""]
@@ -360,13 +361,34 @@ def scopes(programs):
     grown(programs, kinds, ("show", "rewrite"))
 
 
+MACHINES = [
+    ("processors of 500 states", processors, (64, 128, 248)),
+    ("devices beside 248 processors", machine, (4000, 8000, 16000)),
+]
+
+
 def machines(programs):
     """The table of machines with the tables of processors."""
-    kinds = [
-        ("processors of 500 states", processors, (64, 128, 248)),
-        ("devices beside 248 processors", machine, (4000, 8000, 16000)),
-    ]
-    grown(programs, kinds, ("check", "show --json"))
+    grown(programs, MACHINES, ("check", "show --json"))
+
+
+def findings(program):
+    """The table of `lint` on these machines, beside `check`."""
+    heads = ["work", "block, bytes", "output, bytes", "processor, ms", "check, ms", "against check", "peak memory, KiB", "memory against check"]
+    print(row_of(heads))
+    print("|---" * len(heads) + "|")
+    with tempfile.TemporaryDirectory() as folder:
+        path = Path(folder) / "block.aml"
+        for what, made, counts in MACHINES:
+            for count in counts:
+                path.write_bytes(made(count))
+                works = [words_of(program, command, str(path)) for command in ("lint", "check")]
+                written = written_by(program, "lint", str(path))[0]
+                (_, lint), (_, check) = least(works, RUNS)
+                peaks = [peak_memory(program, command, str(path)) for command in ("lint", "check")]
+                row = [f"lint, {count} {what}", path.stat().st_size, written, f"{lint:.1f}", f"{check:.1f}", f"{lint / check:.2f}"]
+                row += [peaks[0], f"{peaks[0] / peaks[1]:.2f}"] if peaks[0] else ["no GNU time", ""]
+                print(row_of(row), flush=True)
 
 
 def grown(programs, kinds, commands):
@@ -399,3 +421,5 @@ def main(programs):
     scopes(programs)
     print()
     machines(programs)
+    print()
+    findings(programs[0])

@@ -14,12 +14,13 @@ use Rattle.pw_findings.specs.declared.finding.FindingKind.TheVariants as kinds
 use Rattle.pw_findings.specs.declared.finding.FindingKind.{FindingKind}
 use Rattle.pw_findings.specs.declared.finding.OfDomain.TheVariants.{OtherType, OtherNumber, OtherSize}
 use Rattle.pw_findings.specs.declared.finding.OfMember.TheVariants.{OtherLength, NoRegister, OtherRegister, OtherControl}
+use Rattle.pw_findings.specs.declared.finding.Shared.TheVariants.{States}
 use Rattle.pw_findings.specs.Findings.{finding}
 use Rattle.pw_findings.specs.Firsts.{first_other, number_in}
 use Rattle.pw_findings.specs.Scales.{are_same, register_in}
 
 abbrev pub id_of : Domain → DomainId
-id_of d = record { kind = d.kind; number = d.number; index = d.index }
+id_of d = record { of = States d.kind; number = d.number; index = d.index }
 
 -- the first member
 abbrev pub lead : Domain → ℕ

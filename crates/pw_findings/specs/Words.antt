@@ -20,6 +20,8 @@ use Rattle.pw_findings.specs.declared.finding.OfCpc.{OfCpc}
 use Rattle.pw_findings.specs.declared.finding.OfCpc.TheVariants as cpc
 use Rattle.pw_findings.specs.declared.finding.OfCst.{OfCst}
 use Rattle.pw_findings.specs.declared.finding.OfCst.TheVariants as cst
+use Rattle.pw_findings.specs.declared.finding.OfDevice.{OfDevice}
+use Rattle.pw_findings.specs.declared.finding.OfDevice.TheVariants as devices
 use Rattle.pw_findings.specs.declared.finding.OfDomain.{OfDomain}
 use Rattle.pw_findings.specs.declared.finding.OfDomain.TheVariants as domains
 use Rattle.pw_findings.specs.declared.finding.OfEntry.{OfEntry}
@@ -38,6 +40,8 @@ use Rattle.pw_findings.specs.declared.finding.OfRate.{OfRate}
 use Rattle.pw_findings.specs.declared.finding.OfRate.TheVariants as rates
 use Rattle.pw_findings.specs.declared.finding.OfScale.{OfScale}
 use Rattle.pw_findings.specs.declared.finding.OfScale.TheVariants as scales
+use Rattle.pw_findings.specs.declared.finding.Shared.{Shared}
+use Rattle.pw_findings.specs.declared.finding.Shared.TheVariants.{States, Cpc}
 use Rattle.pw_findings.specs.declared.finding.Unused.{Unused}
 use Rattle.pw_findings.specs.declared.finding.Unused.TheVariants as unused
 use Rattle.pw_findings.specs.declared.putting.Word.{Word}
@@ -93,13 +97,14 @@ number_words None = codes "its own domain"
 number_words (Some number) = codes "domain " ++ decimal number
 
 -- what its members share; C states are counted from 1
-abbrev pub shared_words : DomainKind → ℕ → List ℕ
-shared_words Perf index = codes " of performance"
-shared_words Throttle index = codes " of throttling"
-shared_words Idle index = codes " of C state " ++ decimal (index + 1)
+abbrev pub shared_words : Shared → ℕ → List ℕ
+shared_words (States Perf) index = codes " of performance"
+shared_words (States Throttle) index = codes " of throttling"
+shared_words (States Idle) index = codes " of C state " ++ decimal (index + 1)
+shared_words Cpc index = codes " of _CPC"
 
 abbrev pub domain_words : DomainId → List ℕ
-domain_words d = number_words d.number ++ shared_words d.kind d.index
+domain_words d = number_words d.number ++ shared_words d.of d.index
 
 -- where an object means nothing: an element, or an element of one, both counted from 1
 abbrev pub place_words : Place → List ℕ
@@ -176,6 +181,15 @@ abbrev pub object_words : OfObject → List (List ℕ)
 object_words (objects.Meaningless place why) = codes "W-OBJECT" ∷ place_words place ∷ why_words why ∷ []
 object_words (objects.PastLimit which number) = codes "U-LARGE has" ∷ decimal number ∷ bounded_words which ∷ []
 object_words (objects.Unused why) = unused_words why ∷ []
+
+-- of a container or a processor as a device,
+abbrev pub device_words : OfDevice → List (List ℕ)
+device_words (devices.NotPresent status) =
+    codes "U-STA-ABSENT isn't present by its _STA of" ∷ decimal status ∷ codes "and is counted" ∷ []
+device_words (devices.NotEnabled status) =
+    codes "U-STA-DISABLED is present and not enabled by its _STA of" ∷ decimal status ∷ codes "and is counted" ∷ []
+device_words devices.NoUid = codes "W-UID-NONE has no _UID" ∷ []
+device_words (devices.SameUid uid earlier) = codes "W-UID-TWICE has _UID" ∷ decimal uid ∷ codes "as" ∷ place_text earlier.segs ∷ []
 
 -- of idle states,
 abbrev pub idle_words : OfIdle → List (List ℕ)
@@ -276,6 +290,9 @@ member_words id (members.OtherRegister other) =
 member_words id (members.OtherControl state value other there) =
     codes "U-DOMAIN-CONTROL writes" ∷ decimal value ∷ codes "for state" ∷ decimal state ∷ codes "in" ∷ domain_words id
     ∷ codes "and" ∷ place_text other.segs ∷ codes "writes" ∷ decimal there ∷ []
+member_words id (members.OtherRange lowest highest other from to) =
+    codes "U-DOMAIN-RANGE goes from" ∷ decimal lowest ∷ codes "to" ∷ decimal highest ∷ codes "in" ∷ domain_words id
+    ∷ codes "and" ∷ place_text other.segs ∷ codes "from" ∷ decimal from ∷ codes "to" ∷ decimal to ∷ []
 
 -- or of continuous performance control
 abbrev pub cpc_words : OfCpc → List (List ℕ)
@@ -286,6 +303,7 @@ cpc_words cpc.NoDesired = codes "W-CPC-DESIRED has no register for desired perfo
 
 abbrev pub kind_words : FindingKind → List (List ℕ)
 kind_words (kinds.Object amiss) = object_words amiss
+kind_words (kinds.Device amiss) = device_words amiss
 kind_words (kinds.Idle amiss) = idle_words amiss
 kind_words (kinds.Cst amiss) = cst_words amiss
 kind_words (kinds.Entry amiss) = entry_words amiss

@@ -10,7 +10,7 @@ ghost use Rattle.pw_findings.specs.Domains.{other_length, other_number, other_si
 ghost use Rattle.pw_findings.specs.Domains.{shown_in, unfit_findings};
 
 use crate::adding::add;
-use crate::finding::{DomainId, Finding, FindingKind, OfDomain, OfMember};
+use crate::finding::{DomainId, Finding, FindingKind, OfDomain, OfMember, Shared};
 use crate::members::find_in_members;
 use acpi_values::{CDependency, Coord, Dependency};
 use aml_data::{FullPath, copy_full_path};
@@ -23,7 +23,7 @@ pub(crate) fn id_of(domain: &Domain) -> DomainId
     ensures { result ≡ id_of domain.now }
 {
     DomainId {
-        kind: domain.kind,
+        of: Shared::States(domain.kind),
         number: domain.number,
         index: domain.index,
     }
@@ -41,7 +41,7 @@ pub(crate) fn lead(domain: &Domain) -> u32
 
 /// The path of a processor.
 #[tactic(auto, unfolding(pw_plan::specs::Parts::no_cpu))]
-pub(crate) fn path_at(alloc: Global, cpus: &[CpuParts], cpu: u32) -> Result<FullPath, Memory>
+pub fn path_at(alloc: Global, cpus: &[CpuParts], cpu: u32) -> Result<FullPath, Memory>
     ensures { IfOk result (λ path. path ≡ path_at cpus.now cpu) }
 {
     match cpus.get(cpu as usize) {
@@ -53,7 +53,7 @@ pub(crate) fn path_at(alloc: Global, cpus: &[CpuParts], cpu: u32) -> Result<Full
 }
 
 /// Whether two coordination types are the same.
-fn same_coord(one: Coord, other: Coord) -> bool
+pub fn same_coord(one: Coord, other: Coord) -> bool
     ensures { result ≡ same_coord one other }
 {
     match (one, other) {

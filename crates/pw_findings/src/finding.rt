@@ -30,6 +30,20 @@ pub enum OfObject {
     Unused(Unused),
 }
 
+/// What is amiss with whether a container or a processor is there, and with its name for the hardware
+/// (ACPI 6.5, 6.3.7 and 6.1.12).
+#[derive(Drop)]
+pub enum OfDevice {
+    /// Unwise: by its `_STA` it isn't present.
+    NotPresent { status: u64 },
+    /// Unwise: by its `_STA` it is present and not enabled.
+    NotEnabled { status: u64 },
+    /// Wrong: a processor device has no `_UID`.
+    NoUid,
+    /// Wrong: an earlier processor has the same `_UID`.
+    SameUid { uid: u64, earlier: FullPath },
+}
+
 /// What is amiss with idle states, which are counted from 1 (ACPI 6.5, 8.4.1.1 and 8.4.3.3).
 #[derive(Clone, Copy)]
 pub enum OfIdle {
@@ -171,10 +185,19 @@ pub enum OfControl {
     PastAccess { end: u32, room: u32 },
 }
 
+/// What the members of a domain share.
+#[derive(Clone, Copy)]
+pub enum Shared {
+    /// Performance states, throttling states or a C state.
+    States(DomainKind),
+    /// Continuous performance control (ACPI 6.5, 8.4.6.1).
+    Cpc,
+}
+
 /// A domain, as its members name it.
 #[derive(Clone, Copy)]
 pub struct DomainId {
-    pub kind: DomainKind,
+    pub of: Shared,
     /// None for a domain of a single processor that declares none.
     pub number: Option<u32>,
     /// Of an idle domain, the C state that it is about, counted from 0; else 0.
@@ -203,16 +226,16 @@ pub enum OfDomain {
     },
 }
 
-/// How the states of a domain's members differ (ACPI 6.5, 8.3).
+/// How a domain's members differ (ACPI 6.5, 8.3).
 #[derive(Drop)]
 pub enum OfMember {
-    /// Wrong: there are other numbers of them.
+    /// Wrong: they have other numbers of states.
     OtherLength {
         count: usize,
         other: FullPath,
         there: usize,
     },
-    /// Wrong: those of one member have no control register.
+    /// Wrong: the states of one member have no control register.
     NoRegister {
         other: FullPath,
     },
@@ -226,6 +249,14 @@ pub enum OfMember {
         value: u32,
         other: FullPath,
         there: u32,
+    },
+    /// Unwise: they have other levels of lowest and highest performance.
+    OtherRange {
+        lowest: u64,
+        highest: u64,
+        other: FullPath,
+        from: u64,
+        to: u64,
     },
 }
 
@@ -251,6 +282,7 @@ pub enum OfCpc {
 #[derive(Drop)]
 pub enum FindingKind {
     Object(OfObject),
+    Device(OfDevice),
     Idle(OfIdle),
     Cst(OfCst),
     Entry(OfEntry),

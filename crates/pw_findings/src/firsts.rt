@@ -1,6 +1,6 @@
 //! The first number that stands twice in a list, and the first place where two lists differ.
 
-ghost use Rattle.std.specs.Prelude.{◌≡◌, ◌<◌, length};
+ghost use Rattle.std.specs.Prelude.{◌≡◌, ◌<◌, ◌≤◌, ℕ, length};
 ghost use Rattle.pw_findings.specs.Firsts.{differ_at, earlier, first_other, first_repeat, number_in, repeat_at, stood};
 
 use crate::finding::Repeat;
@@ -44,14 +44,36 @@ fn repeat_at(numbers: &[u32], k: usize) -> Repeat
     }
 }
 
-/// The first place whose number stood before it.
+/// Whether the number at place k stood before it, where all before it are between two numbers: one that isn't
+/// between these isn't looked for.
+fn stood_between(numbers: &[u32], k: usize, least: u32, most: u32) -> bool
+    requires within { k < length numbers.now }
+    requires between { (j : ℕ) → j < k → (least ≤ number_in numbers.now j) × (number_in numbers.now j ≤ most) }
+    ensures { result ≡ stood numbers.now k }
+{
+    let number = number_in(numbers, k);
+    if number < least {
+        return false;
+    }
+    if most < number {
+        return false;
+    }
+    stood(numbers, k)
+}
+
+/// The first place whose number stood before it. Numbers that rise or fall are gone through once.
 pub fn first_repeat(numbers: &[u32]) -> Option<Repeat>
     ensures { result ≡ first_repeat numbers.now }
 {
+    let mut least = u32::MAX;
+    let mut most = 0;
     for k in 0..numbers.len() {
-        if stood(numbers, k) {
+        if stood_between(numbers, k, least, most) {
             return Some(repeat_at(numbers, k));
         }
+        let number = number_in(numbers, k);
+        least = least.min(number);
+        most = most.max(number);
     }
     None
 }

@@ -18,10 +18,10 @@ mod words;
 
 pub use adding::{add, add_when};
 pub use controls::{find_shared, find_two_spaces};
-pub use domains::find_in_domains;
+pub use domains::{find_in_domains, path_at, same_coord};
 pub use finding::{
-    DomainId, Finding, FindingKind, OfControl, OfCpc, OfCst, OfDomain, OfEntry, OfIdle, OfLimit,
-    OfMember, OfObject, OfParent, OfRate, OfScale, Repeat, Unused,
+    DomainId, Finding, FindingKind, OfControl, OfCpc, OfCst, OfDevice, OfDomain, OfEntry, OfIdle,
+    OfLimit, OfMember, OfObject, OfParent, OfRate, OfScale, Repeat, Shared, Unused,
 };
 pub use firsts::first_repeat;
 pub use printing::print_findings;

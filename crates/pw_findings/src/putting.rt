@@ -4,7 +4,7 @@ ghost use Rattle.pw_text.specs.Puts.{PutsText};
 ghost use Rattle.pw_findings.specs.Words.{domain_words, number_words, pace_words, place_words};
 ghost use Rattle.pw_findings.specs.Words.{shared_words, state_words, word_text};
 
-use crate::finding::{DomainId, Unused};
+use crate::finding::{DomainId, Shared, Unused};
 use crate::words::{
     bounded_name, control_name, coord_name, domain_name, level_name, limit_name, states_name,
     unit_name, unused_name, why_name,
@@ -82,16 +82,19 @@ fn put_domain_number<K: Sink>(
 fn put_shared<K: Sink>(
     page: &mut Page,
     sink: &mut K,
-    kind: DomainKind,
+    of: Shared,
     index: u32,
 ) -> Result<(), Failed>
     ensures { PutsText K.Sink sink.old sink.new page.old page.new
-        (shared_words kind index) (is_ok result) }
+        (shared_words of index) (is_ok result) }
 {
-    match kind {
-        DomainKind::Perf => page.put(sink, b" of performance"),
-        DomainKind::Throttle => page.put(sink, b" of throttling"),
-        DomainKind::Idle => put_labelled(page, sink, b" of C state ", u64::from(index) + 1),
+    match of {
+        Shared::States(DomainKind::Perf) => page.put(sink, b" of performance"),
+        Shared::States(DomainKind::Throttle) => page.put(sink, b" of throttling"),
+        Shared::States(DomainKind::Idle) => {
+            put_labelled(page, sink, b" of C state ", u64::from(index) + 1)
+        }
+        Shared::Cpc => page.put(sink, b" of _CPC"),
     }
 }
 
@@ -101,7 +104,7 @@ fn put_domain<K: Sink>(page: &mut Page, sink: &mut K, domain: DomainId) -> Resul
         (domain_words domain) (is_ok result) }
 {
     put_domain_number(page, sink, domain.number)?;
-    put_shared(page, sink, domain.kind, domain.index)
+    put_shared(page, sink, domain.of, domain.index)
 }
 
 /// Puts which state it is.

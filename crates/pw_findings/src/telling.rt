@@ -1,8 +1,9 @@
 ghost use Rattle.std.specs.Prelude.{◌≡◌, is_ok};
 ghost use Rattle.pw_text.specs.Puts.{PutsText};
-ghost use Rattle.pw_findings.specs.Words.{behind, cpc_words, cst_words, entry_words, idle_words, kind_words, object_words, parent_words};
+ghost use Rattle.pw_findings.specs.Words.{behind, cpc_words, cst_words, device_words, entry_words, idle_words};
+ghost use Rattle.pw_findings.specs.Words.{kind_words, object_words, parent_words};
 
-use crate::finding::{FindingKind, OfCpc, OfCst, OfEntry, OfIdle, OfObject, OfParent};
+use crate::finding::{FindingKind, OfCpc, OfCst, OfDevice, OfEntry, OfIdle, OfObject, OfParent};
 use crate::putting::{Word, put_words};
 use crate::telling_domains::{put_declared, put_member};
 use crate::telling_states::{put_control, put_limit, put_rate, put_scale};
@@ -34,6 +35,44 @@ fn put_object<K: Sink>(page: &mut Page, sink: &mut K, amiss: &OfObject) -> Resul
             ],
         ),
         OfObject::Unused(why) => put_words(page, sink, &[Word::Unused(*why)]),
+    }
+}
+
+/// Puts what is amiss with a container or a processor as a device.
+fn put_device<K: Sink>(page: &mut Page, sink: &mut K, amiss: &OfDevice) -> Result<(), Failed>
+    ensures { PutsText K.Sink sink.old sink.new page.old page.new
+        (behind (device_words amiss.now)) (is_ok result) }
+{
+    match amiss {
+        OfDevice::NotPresent { status } => put_words(
+            page,
+            sink,
+            &[
+                Word::Text(b"U-STA-ABSENT isn't present by its _STA of"),
+                Word::Long(*status),
+                Word::Text(b"and is counted"),
+            ],
+        ),
+        OfDevice::NotEnabled { status } => put_words(
+            page,
+            sink,
+            &[
+                Word::Text(b"U-STA-DISABLED is present and not enabled by its _STA of"),
+                Word::Long(*status),
+                Word::Text(b"and is counted"),
+            ],
+        ),
+        OfDevice::NoUid => put_words(page, sink, &[Word::Text(b"W-UID-NONE has no _UID")]),
+        OfDevice::SameUid { uid, earlier } => put_words(
+            page,
+            sink,
+            &[
+                Word::Text(b"W-UID-TWICE has _UID"),
+                Word::Long(*uid),
+                Word::Text(b"as"),
+                Word::Path(earlier),
+            ],
+        ),
     }
 }
 
@@ -266,6 +305,7 @@ pub(crate) fn put_kind<K: Sink>(
 {
     match kind {
         FindingKind::Object(amiss) => put_object(page, sink, amiss),
+        FindingKind::Device(amiss) => put_device(page, sink, amiss),
         FindingKind::Idle(amiss) => put_idle(page, sink, amiss),
         FindingKind::Cst(amiss) => put_cst(page, sink, amiss),
         FindingKind::Entry(amiss) => put_entry(page, sink, amiss),

@@ -1,7 +1,7 @@
 ghost use Rattle.std.specs.Prelude.{◌≡◌, is_ok};
 ghost use Rattle.pw_text.specs.Puts.{PutsText};
 ghost use Rattle.pw_findings.specs.declared.finding.OfDomain.TheVariants.{OtherType};
-ghost use Rattle.pw_findings.specs.declared.finding.OfMember.TheVariants.{OtherControl};
+ghost use Rattle.pw_findings.specs.declared.finding.OfMember.TheVariants.{OtherControl, OtherRange};
 ghost use Rattle.pw_findings.specs.Words.{behind, declared_words, member_words};
 
 use crate::finding::{DomainId, OfDomain, OfMember};
@@ -116,7 +116,38 @@ fn put_other_control<K: Sink>(
     put_words(page, sink, &words)
 }
 
-/// Puts what is amiss with the states of a domain's members.
+/// Puts that the levels of the first member and those of another go from and to other ones.
+fn put_other_range<K: Sink>(
+    page: &mut Page,
+    sink: &mut K,
+    id: DomainId,
+    first: (u64, u64),
+    other: &FullPath,
+    there: (u64, u64),
+) -> Result<(), Failed>
+    ensures { PutsText K.Sink sink.old sink.new page.old page.new
+        (behind (member_words id (OtherRange first.0 first.1 other.now there.0 there.1))) (is_ok result) }
+{
+    let (lowest, highest) = first;
+    let (from, to) = there;
+    let words = [
+        Word::Text(b"U-DOMAIN-RANGE goes from"),
+        Word::Long(lowest),
+        Word::Text(b"to"),
+        Word::Long(highest),
+        Word::Text(b"in"),
+        Word::Domain(id),
+        Word::Text(b"and"),
+        Word::Path(other),
+        Word::Text(b"from"),
+        Word::Long(from),
+        Word::Text(b"to"),
+        Word::Long(to),
+    ];
+    put_words(page, sink, &words)
+}
+
+/// Puts how a domain's members differ.
 pub(crate) fn put_member<K: Sink>(
     page: &mut Page,
     sink: &mut K,
@@ -171,5 +202,12 @@ pub(crate) fn put_member<K: Sink>(
             other,
             there,
         } => put_other_control(page, sink, id, (*state, *value), other, *there),
+        OfMember::OtherRange {
+            lowest,
+            highest,
+            other,
+            from,
+            to,
+        } => put_other_range(page, sink, id, (*lowest, *highest), other, (*from, *to)),
     }
 }

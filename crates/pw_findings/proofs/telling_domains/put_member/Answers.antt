@@ -11,3 +11,6 @@ returns-in-OtherRegister g c = rw c.in-OtherRegister.is c.put_words-in-OtherRegi
 
 pub returns-in-OtherControl : goal.returns-in-OtherControl
 returns-in-OtherControl g c = rw c.in-OtherControl.is c.put_other_control.ensures
+
+pub returns-in-OtherRange : goal.returns-in-OtherRange
+returns-in-OtherRange g c = rw c.in-OtherRange.is c.put_other_range.ensures
