@@ -23,14 +23,14 @@ DefinitionBlock ("", "DSDT", 2, "POWER ", "SERVER  ", 0x00000001)
             Device (CLU0)
             {
                 Name (_HID, "ACPI0010")
-                Name (_UID, Zero)
+                Name (_UID, One)
                 Name (_LPI, Package (0x05)
                 {
                     0x00, 0x01, 0x02,
                     Package (0x0A)
                     {
                         2000, 600, 0x01, 0x01, 0x00, 0x00,
-                        0x00100000,
+                        0x00000010,
                         ResourceTemplate () { Register (SystemMemory, 0, 0, 0, 0) },
                         ResourceTemplate () { Register (SystemMemory, 0, 0, 0, 0) },
                         "CluRet"
@@ -160,14 +160,14 @@ DefinitionBlock ("", "DSDT", 2, "POWER ", "SERVER  ", 0x00000001)
             Device (CLU1)
             {
                 Name (_HID, "ACPI0010")
-                Name (_UID, One)
+                Name (_UID, 0x02)
                 Name (_LPI, Package (0x05)
                 {
                     0x00, 0x01, 0x02,
                     Package (0x0A)
                     {
                         2000, 600, 0x01, 0x01, 0x00, 0x00,
-                        0x00100000,
+                        0x00000010,
                         ResourceTemplate () { Register (SystemMemory, 0, 0, 0, 0) },
                         ResourceTemplate () { Register (SystemMemory, 0, 0, 0, 0) },
                         "CluRet"
