@@ -1,5 +1,5 @@
 -- The first number that passes a test, and the first that stands twice in a list.
-use Rattle.std.specs.Prelude.{ℕ, zero, suc, ◌==◌, not, Bool, List, length, take, is_some, position, slice_index, slice_index_or, Option, Some, None, if◌then◌else◌}
+use Rattle.std.specs.Prelude.{ℕ, zero, suc, ◌==◌, not, Bool, List, length, take, is_some, position, slice_index_or, Option, Some, None, if◌then◌else◌}
 use Rattle.std.specs.Option.{option_map, option_or, unwrap_or}
 use Rattle.pw_findings.specs.declared.finding.Repeat.{Repeat}
 

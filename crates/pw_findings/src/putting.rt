@@ -79,12 +79,7 @@ fn put_domain_number<K: Sink>(
 }
 
 /// Puts what a domain's members share.
-fn put_shared<K: Sink>(
-    page: &mut Page,
-    sink: &mut K,
-    of: Shared,
-    index: u32,
-) -> Result<(), Failed>
+fn put_shared<K: Sink>(page: &mut Page, sink: &mut K, of: Shared, index: u32) -> Result<(), Failed>
     ensures { PutsText K.Sink sink.old sink.new page.old page.new
         (shared_words of index) (is_ok result) }
 {

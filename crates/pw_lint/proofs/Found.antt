@@ -1,7 +1,7 @@
 -- What lists of findings contain.
 use Rattle.std.proofs.Common.{eqb-true, eq-eqb, ne_eqb, if◌then◌else◌, ◌≡◌, ◌≢◌, ◌⊎◌, ◌↔◌, ◌∙◌, ◌<◌, ◌+◌, ◌==◌, ◌&&◌, inl, inr, ℕ, suc, zero, Bool, true, false, not, List, [], ◌∷◌, ◌++◌, length, Option, Some, None, refl, sym, ap, subst, arith}
-use Rattle.std.specs.Prelude.{Contains, find, nat_lt, slice_index}
-use Rattle.std.specs.List.{Any, flat_map}
+use Rattle.std.specs.Prelude.{Contains, find, nat_lt}
+use Rattle.std.specs.List.{flat_map}
 use Rattle.std.proofs.lemmas.Bool.{false≢true}
 use Rattle.std.proofs.lemmas.Bool.Decides.{Decides-ltb}
 use Rattle.std.proofs.lemmas.List.Elements.{Contains-append_cases, Contains-append_left, Contains-append_right}
@@ -10,7 +10,6 @@ use Rattle.aml_data.specs.declared.path.FullPath.{FullPath}
 use Rattle.acpi_values.specs.Idle.{rows_of}
 use Rattle.acpi_values.specs.declared.idle.IdleKind.{IdleKind}
 use Rattle.acpi_values.specs.declared.idle.IdleKind.TheVariants.{Lpi, Cst, Absent}
-use Rattle.acpi_values.specs.declared.idle.IdleRow.{IdleRow}
 use Rattle.acpi_values.specs.declared.idle.IdleTable.{IdleTable}
 use Rattle.acpi_space.specs.Namespace.{Entry}
 use Rattle.acpi_build.specs.declared.note.Note.{Note}
@@ -30,30 +29,31 @@ use Rattle.pw_lint.specs.Notes.{note_findings}
 use Rattle.pw_findings.specs.Firsts.{first_repeat}
 use Rattle.pw_lint.specs.Idle.{counted, falling, has_cst, has_null, idle_findings, is_cst, row_in, shrinking, state_count, unentered}
 use Rattle.pw_lint.specs.Laws.{FoundIn, IsCounted, IsFalling, IsFound, IsFoundOfCpu, IsFoundOfDomain, IsRepeated, IsRising, IsShrinking, IsStill, IsUnentered}
-use Rattle.pw_lint.specs.Machine.{container_findings, cpu_findings, cpu_idle_findings, findings, perf_findings, throttle_findings}
+use Rattle.pw_lint.specs.Devices.{twin_findings}
+use Rattle.pw_lint.specs.Machine.{container_findings, cpu_findings, cpu_idle_findings, device_findings, findings, perf_findings, throttle_findings}
 use Rattle.pw_findings.specs.Scales.{declares, rate_at, rate_findings, repeated, rising, still}
 
 -- # Facts that are the same
 
-both_ways : {A B C : Type 0} → (A ↔ B) → (B ↔ C) → A ↔ C
+pub both_ways : {A B C : Type 0} → (A ↔ B) → (B ↔ C) → A ↔ C
 both_ways p q = (λ a. q.0 (p.0 a), λ c. p.1 (q.1 c))
 
-either : {A B C D : Type 0} → (A ↔ C) → (B ↔ D) → (A ⊎ B) ↔ (C ⊎ D)
+pub either : {A B C D : Type 0} → (A ↔ C) → (B ↔ D) → (A ⊎ B) ↔ (C ⊎ D)
 either p q = (
   λ e. elim e [ inl a ↦ inl (p.0 a) | inr b ↦ inr (q.0 b) ],
   λ e. elim e [ inl c ↦ inl (p.1 c) | inr d ↦ inr (q.1 d) ],
 )
 
-both_true : (a b : Bool) → (a && b) ≡ true → (a ≡ true) × (b ≡ true)
+pub both_true : (a b : Bool) → (a && b) ≡ true → (a ≡ true) × (b ≡ true)
 both_true true b e = (refl, e)
 both_true false b e = absurd (false≢true e)
 
-true_both : (a b : Bool) → a ≡ true → b ≡ true → (a && b) ≡ true
+pub true_both : (a b : Bool) → a ≡ true → b ≡ true → (a && b) ≡ true
 true_both a b p q = rw (p, q) refl
 
 -- # Lists
 
-in_either : {X : Type 0} (xs ys : List X) (x : X) → Contains (xs ++ ys) x ↔ (Contains xs x ⊎ Contains ys x)
+pub in_either : {X : Type 0} (xs ys : List X) (x : X) → Contains (xs ++ ys) x ↔ (Contains xs x ⊎ Contains ys x)
 in_either xs ys x = (
   Contains-append_cases xs ys x,
   λ e. elim e [ inl c ↦ Contains-append_left xs ys x c | inr c ↦ Contains-append_right xs ys x c ],
@@ -78,14 +78,14 @@ in_all f xs y = (in_flat f xs y, flat_in f xs y)
 abbrev OfNumber : ℕ → (ℕ → List Finding) → Finding → Type 0
 OfNumber n f y = (k : ℕ) × (k < n) × Contains (f k) y
 
-in_each : (n : ℕ) (f : ℕ → List Finding) (y : Finding) → Contains (of_each n f) y → OfNumber n f y
+pub in_each : (n : ℕ) (f : ℕ → List Finding) (y : Finding) → Contains (of_each n f) y → OfNumber n f y
 in_each zero f y (k, l, e) = absurd (let bad = l in omega arith)
 in_each (suc n) f y c = elim (Contains-append_cases (of_each n f) (f n) y c) [
   | inl old ↦ let s = in_each n f y old in (s.0, omega (arith, s.1), s.2)
   | inr here ↦ (n, omega arith, here)
 ]
 
-each_in : (n : ℕ) (f : ℕ → List Finding) (y : Finding) → OfNumber n f y → Contains (of_each n f) y
+pub each_in : (n : ℕ) (f : ℕ → List Finding) (y : Finding) → OfNumber n f y → Contains (of_each n f) y
 each_in zero f y (k, l, c) = absurd (let bad = l in omega arith)
 each_in (suc n) f y (k, l, c) = elim (cases_lt k n) [
   | inl below ↦ Contains-append_left (of_each n f) (f n) y (each_in n f y (k, below, c))
@@ -94,15 +94,15 @@ each_in (suc n) f y (k, l, c) = elim (cases_lt k n) [
       Contains-append_right (of_each n f) (f n) y (subst (λ j. Contains (f j) y) same c)
 ]
 
-alone_is : (f g : Finding) → Contains (f ∷ []) g → g ≡ f
+pub alone_is : (f g : Finding) → Contains (f ∷ []) g → g ≡ f
 alone_is f g (zero, l, e) = sym e
 alone_is f g (suc k, l, e) = absurd (let bad = l in omega arith)
 
-in_when : (b : Bool) (f g : Finding) → Contains (when b f) g → (b ≡ true) × (g ≡ f)
+pub in_when : (b : Bool) (f g : Finding) → Contains (when b f) g → (b ≡ true) × (g ≡ f)
 in_when true f g c = (refl, alone_is f g c)
 in_when false f g (k, l, e) = absurd (let bad = l in omega arith)
 
-when_in : (b : Bool) (f g : Finding) → b ≡ true → g ≡ f → Contains (when b f) g
+pub when_in : (b : Bool) (f g : Finding) → b ≡ true → g ≡ f → Contains (when b f) g
 when_in b f g t e = rw t (0, omega arith, sym e)
 
 -- # A machine
@@ -112,24 +112,26 @@ pub found_of_machine : (entries : List Entry) (containers : List ContainerParts)
 unfolding findings
 found_of_machine entries containers cpus domains noted f =
     both_ways (in_either (flat_map note_findings noted) _ f) (either (in_all note_findings noted f)
-    (both_ways (in_either (flat_map (container_findings containers) containers) _ f) (either (in_all (container_findings containers) containers f)
+    (both_ways (in_either (flat_map (container_findings entries containers) containers) _ f) (either (in_all (container_findings entries containers) containers f)
     (both_ways (in_either (flat_map (cpu_findings entries containers cpus) cpus) _ f) (either (in_all (cpu_findings entries containers cpus) cpus f)
-    (in_all (domain_findings cpus) domains f))))))
+    (both_ways (in_either (twin_findings entries cpus) _ f) (either (λ a. a, λ a. a)
+    (both_ways (in_either (flat_map (domain_findings cpus) domains) _ f) (either (in_all (domain_findings cpus) domains f) (λ a. a, λ a. a))))))))))
 
 pub found_of_cpu : (entries : List Entry) (containers : List ContainerParts) (cpus : List CpuParts) (c : CpuParts) (f : Finding)
     → Contains (cpu_findings entries containers cpus c) f ↔ IsFoundOfCpu entries containers cpus c f
 unfolding cpu_findings
 found_of_cpu entries containers cpus c f =
-    both_ways (in_either (cpu_idle_findings entries containers (find has_cst cpus) c) _ f) (either (λ a. a, λ a. a)
+    both_ways (in_either (device_findings entries c.path) _ f) (either (λ a. a, λ a. a)
+    (both_ways (in_either (cpu_idle_findings entries containers (find has_cst cpus) c) _ f) (either (λ a. a, λ a. a)
     (both_ways (in_either (perf_findings entries (find (declares Perf) cpus) c) _ f) (either (λ a. a, λ a. a)
-    (in_either (throttle_findings entries (find (declares Throttle) cpus) c) _ f))))
+    (in_either (throttle_findings entries (find (declares Throttle) cpus) c) _ f))))))
 
 pub found_of_domain : (cpus : List CpuParts) (d : Domain) (f : Finding) → Contains (domain_findings cpus d) f ↔ IsFoundOfDomain cpus d f
 found_of_domain cpus d f = in_either (unfit_findings cpus d) (member_findings cpus d) f
 
 -- # Idle states
 
-is_cst_of : (kind : IdleKind) → is_cst kind ≡ true → kind ≡ Cst
+pub is_cst_of : (kind : IdleKind) → is_cst kind ≡ true → kind ≡ Cst
 is_cst_of Lpi e = absurd (false≢true e)
 is_cst_of Cst e = refl
 is_cst_of Absent e = absurd (false≢true e)
@@ -185,10 +187,10 @@ found_of_states path t f = (
 )
 
 -- two numbers differ where a test says so
-differ : (m n : ℕ) → not (m == n) ≡ true → m ≢ n
+pub differ : (m n : ℕ) → not (m == n) ≡ true → m ≢ n
 differ m n t e = absurd (false≢true (sym (ap not (eq-eqb m n e)) ∙ t))
 
-tell : (m n : ℕ) → m ≢ n → not (m == n) ≡ true
+pub tell : (m n : ℕ) → m ≢ n → not (m == n) ≡ true
 tell m n other = ap not (ne_eqb m n other)
 
 pub found_of_count : (c : CpuParts) (first : Option CpuParts) (f : Finding) → Contains (counted c first) f ↔ IsCounted c first f
@@ -205,7 +207,7 @@ found_of_count c (Some q) f = (
 
 -- # Rates
 
-in_repeated : (path : FullPath) (kind : Repeat → FindingKind) (o : Option Repeat) (f : Finding)
+pub in_repeated : (path : FullPath) (kind : Repeat → FindingKind) (o : Option Repeat) (f : Finding)
     → Contains (repeated path kind o) f ↔ ((r : Repeat) × (o ≡ Some r) × (f ≡ finding path (kind r)))
 in_repeated path kind None f = (λ (k, l, e). absurd (let bad = l in omega arith), λ u. let bad : None ≡ Some u.0 = u.1 in absurd (cc))
 in_repeated path kind (Some r) f = (

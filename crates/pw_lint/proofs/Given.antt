@@ -1,5 +1,5 @@
 -- What stands at a place.
-use Rattle.std.proofs.Common.{◌≡◌, ◌∙◌, List, Option, Some, None, ap}
+use Rattle.std.proofs.Common.{◌≡◌, ◌∙◌, List, None, ap}
 use Rattle.std.specs.Prelude.{Bool, true, false, Contains, is_some}
 use Rattle.acpi_space.specs.declared.object.Placed.{Placed}
 use Rattle.acpi_space.specs.Distinct.{IsDistinct}
@@ -7,9 +7,9 @@ use Rattle.acpi_space.specs.Lookup.{no_entry, number_at}
 use Rattle.acpi_space.specs.Namespace.{Entry, places_of}
 use Rattle.acpi_space.specs.Places.{Place}
 use Rattle.acpi_space.specs.Standing.{IsFound}
-use Rattle.acpi_space.specs.Things.{thing}
+use Rattle.acpi_space.specs.Things.{Thing, thing}
 use Rattle.acpi_space.proofs.Lookups.{numbered, unnumbered}
-use Rattle.pw_lint.specs.Tables.{given_as, given_at, given_in}
+use Rattle.pw_lint.specs.Tables.{given_as, given_at, given_in, is_there}
 
 pub none_given : (entries : List Entry) (place : Place) → (Contains (places_of entries) place → ⊥) → given_at entries place ≡ None
 unfolding given_at
@@ -30,3 +30,14 @@ pub some_stands : (entries : List Entry) (place : Place) (p : Placed) → IsDist
     → is_some (number_at entries place) ≡ true
 some_stands entries place p distinct found =
     ap is_some (numbered entries p.index place distinct found.0 (ap (λ (e : Entry). e.path) (found.1 no_entry)))
+
+-- whether what stands there is of a sort
+pub none_there : (test : Thing → Bool) (entries : List Entry) (place : Place) → (Contains (places_of entries) place → ⊥)
+    → is_there test entries (number_at entries place) ≡ false
+none_there test entries place none = ap (is_there test entries) (unnumbered entries place none)
+
+pub some_there : (test : Thing → Bool) (entries : List Entry) (place : Place) (p : Placed) → IsDistinct (places_of entries) → IsFound entries place p
+    → is_there test entries (number_at entries place) ≡ test (thing p.object)
+some_there test entries place p distinct found =
+    ap (is_there test entries) (numbered entries p.index place distinct found.0 (ap (λ (e : Entry). e.path) (found.1 no_entry)))
+    ∙ ap (λ (e : Entry). test e.object) (found.1 no_entry)

@@ -1,5 +1,5 @@
 -- What is found of continuous performance control (ACPI 6.5, 8.4.6.1).
-use Rattle.std.specs.Prelude.{ℕ, ◌||◌, ◌++◌, Bool, true, false, List, [], nat_lt, is_none, slice_get, Option, Some, None}
+use Rattle.std.specs.Prelude.{ℕ, ◌||◌, ◌++◌, Bool, true, List, [], nat_lt, is_none, slice_get, Option, Some, None}
 use Rattle.aml_data.specs.declared.path.FullPath.{FullPath}
 use Rattle.acpi_values.specs.Null.{is_null}
 use Rattle.acpi_values.specs.declared.performance.Cpc.{Cpc}

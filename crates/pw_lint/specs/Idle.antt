@@ -1,5 +1,5 @@
 -- What is found of idle states (ACPI 6.5, 8.4.1.1 and 8.4.3.3).
-use Rattle.std.specs.Prelude.{ℕ, ◌+◌, ◌==◌, ◌&&◌, ◌++◌, not, Bool, true, false, List, [], length, nat_lt, slice_index_or, Option, Some, None, if◌then◌else◌}
+use Rattle.std.specs.Prelude.{ℕ, ◌+◌, ◌==◌, ◌&&◌, ◌++◌, not, Bool, true, false, List, [], length, nat_lt, slice_index_or, Option, Some, None}
 use Rattle.aml_data.specs.declared.path.FullPath.{FullPath}
 use Rattle.acpi_values.specs.Idle.{rows_of}
 use Rattle.acpi_values.specs.Null.{is_null}

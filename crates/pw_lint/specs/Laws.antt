@@ -1,7 +1,7 @@
 -- Which findings there are, in words.
-use Rattle.std.specs.Prelude.{◌≡◌, ◌≢◌, ◌<◌, ◌+◌, ℕ, Bool, true, List, length, find, slice_index, Option, Some, Contains}
+use Rattle.std.specs.Prelude.{◌≡◌, ◌≢◌, ◌<◌, ◌+◌, ◌/◌, ◌%◌, ℕ, true, List, [], codes, length, find, slice_index, Option, Some, Contains}
 use Rattle.std.proofs.Common.{◌⊎◌}
-use Rattle.std.specs.List.{Any}
+use Rattle.std.specs.List.{AllByRecursion, Any}
 use Rattle.aml_data.specs.declared.path.FullPath.{FullPath}
 use Rattle.acpi_values.specs.Idle.{rows_of}
 use Rattle.acpi_values.specs.declared.idle.IdleKind.TheVariants.{Cst}
@@ -11,26 +11,32 @@ use Rattle.acpi_space.specs.Namespace.{Entry}
 use Rattle.acpi_build.specs.declared.fault.BuildFault.{BuildFault}
 use Rattle.acpi_build.specs.declared.fault.BuildFault.TheVariants as faults
 use Rattle.acpi_build.specs.declared.note.Note.{Note}
+use Rattle.acpi_build.specs.declared.note.NoteKind.TheVariants.{UnfitDomain}
 use Rattle.pw_plan.specs.declared.domain.Domain.{Domain}
 use Rattle.pw_plan.specs.declared.domain.DomainKind.{DomainKind}
 use Rattle.pw_plan.specs.declared.domain.DomainKind.TheVariants.{Perf, Throttle}
 use Rattle.pw_plan.specs.declared.parts.ContainerParts.{ContainerParts}
 use Rattle.pw_plan.specs.declared.parts.CpuParts.{CpuParts}
+use Rattle.pw_plan.specs.Parts.{cpu_in}
 use Rattle.pw_findings.specs.declared.finding.Finding.{Finding}
 use Rattle.pw_findings.specs.declared.finding.FindingKind.TheVariants as kinds
+use Rattle.pw_findings.specs.declared.finding.OfDevice.TheVariants.{NotPresent, NotEnabled, SameUid}
 use Rattle.pw_findings.specs.declared.finding.OfEntry.TheVariants.{NullState, OtherCount}
 use Rattle.pw_findings.specs.declared.finding.OfIdle.TheVariants.{LatencyFalls, ResidencyFalls}
 use Rattle.pw_findings.specs.declared.finding.OfObject.TheVariants.{Meaningless, PastLimit}
 use Rattle.pw_findings.specs.declared.finding.OfRate.TheVariants.{Zero, Rises, Repeats}
 use Rattle.pw_findings.specs.declared.finding.Repeat.{Repeat}
+use Rattle.pw_lint.specs.CpcDomains.{cpc_domain_findings}
 use Rattle.pw_lint.specs.Cpcs.{cpc_findings}
+use Rattle.pw_lint.specs.Devices.{twin_findings, uid_in, uids_of}
 use Rattle.pw_findings.specs.Domains.{domain_findings, member_findings, unfit_findings}
 use Rattle.pw_findings.specs.Findings.{finding}
 use Rattle.pw_lint.specs.Notes.{note_findings, root}
 use Rattle.pw_findings.specs.Firsts.{first_repeat}
-use Rattle.pw_lint.specs.Idle.{counted, has_cst, has_null, row_in, state_count}
-use Rattle.pw_lint.specs.Machine.{container_findings, cpu_findings, cpu_idle_findings, perf_findings, throttle_findings}
+use Rattle.pw_lint.specs.Idle.{has_cst, has_null, row_in, state_count}
+use Rattle.pw_lint.specs.Machine.{container_findings, cpu_findings, cpu_idle_findings, device_findings, perf_findings, throttle_findings}
 use Rattle.pw_findings.specs.Scales.{declares}
+use Rattle.pw_lint.specs.Tables.{integer_at}
 
 -- # Of a machine
 
@@ -38,19 +44,22 @@ use Rattle.pw_findings.specs.Scales.{declares}
 abbrev pub FoundIn : {X : Type 0} → (X → List Finding) → List X → Finding → Type 0
 FoundIn found xs f = Any (λ x. Contains (found x) f) xs
 
--- it is found of a note, a container, a processor or a domain
+-- it is found of a note, a container, a processor, two of one name, a domain or a domain of processors with `_CPC`
 abbrev pub IsFound : List Entry → List ContainerParts → List CpuParts → List Domain → List Note → Finding → Type 0
 IsFound entries containers cpus domains noted f = FoundIn note_findings noted f
-    ⊎ (FoundIn (container_findings containers) containers f
-    ⊎ (FoundIn (cpu_findings entries containers cpus) cpus f ⊎ FoundIn (domain_findings cpus) domains f))
+    ⊎ (FoundIn (container_findings entries containers) containers f
+    ⊎ (FoundIn (cpu_findings entries containers cpus) cpus f
+    ⊎ (Contains (twin_findings entries cpus) f
+    ⊎ (FoundIn (domain_findings cpus) domains f ⊎ Contains (cpc_domain_findings entries cpus) f))))
 
--- it is found of a processor's idle, performance or throttling states, beside the first that has C states or declares a domain,
--- or of its continuous performance control
+-- it is found of a processor as a device, of its idle, performance or throttling states, beside the first that has C states or
+-- declares a domain, or of its continuous performance control
 abbrev pub IsFoundOfCpu : List Entry → List ContainerParts → List CpuParts → CpuParts → Finding → Type 0
-IsFoundOfCpu entries containers cpus c f = Contains (cpu_idle_findings entries containers (find has_cst cpus) c) f
+IsFoundOfCpu entries containers cpus c f = Contains (device_findings entries c.path) f
+    ⊎ (Contains (cpu_idle_findings entries containers (find has_cst cpus) c) f
     ⊎ (Contains (perf_findings entries (find (declares Perf) cpus) c) f
     ⊎ (Contains (throttle_findings entries (find (declares Throttle) cpus) c) f
-    ⊎ Contains (cpc_findings c.path c.cpc) f))
+    ⊎ Contains (cpc_findings c.path c.cpc) f)))
 
 -- it is found of why a domain is unfit, or of how its members differ
 abbrev pub IsFoundOfDomain : List CpuParts → Domain → Finding → Type 0
@@ -63,6 +72,51 @@ abbrev pub IsOfRefusal : BuildFault → Finding → Type 0
 IsOfRefusal (faults.Object path place why) f = f ≡ finding path (kinds.Object (Meaningless place why))
 IsOfRefusal (faults.Limit which number) f = f ≡ finding root (kinds.Object (PastLimit which number))
 IsOfRefusal faults.Memory f = ⊥
+
+-- # Where nothing is found
+
+-- of none of these is anything
+abbrev pub NoneIn : {X : Type 0} → (X → List Finding) → List X → Type 0
+NoneIn found xs = AllByRecursion (λ x. found x ≡ []) xs
+
+-- a note that is about an unfit domain
+abbrev pub IsOfDomain : Note → Type 0
+IsOfDomain note = (domain : ℕ) × (note.kind ≡ UnfitDomain domain)
+
+-- All notes are about unfit domains and all domains are fit; nothing unwise is found of their members, of the containers and
+-- the processors, of two of one name, or of domains of processors with `_CPC`.
+pub record IsWise (entries : List Entry) (containers : List ContainerParts) (cpus : List CpuParts) (domains : List Domain)
+    (noted : List Note) : Type 0 where
+  pub of_notes : AllByRecursion IsOfDomain noted
+  pub of_containers : NoneIn (container_findings entries containers) containers
+  pub of_processors : NoneIn (cpu_findings entries containers cpus) cpus
+  pub of_names : twin_findings entries cpus ≡ []
+  pub of_domains : AllByRecursion (λ (d : Domain). (d.unfit ≡ 0) × (member_findings cpus d ≡ [])) domains
+  pub of_cpc : cpc_domain_findings entries cpus ≡ []
+
+-- # Of devices
+
+-- by its `_STA` a device isn't present
+abbrev pub IsAbsent : List Entry → FullPath → Finding → Type 0
+IsAbsent entries path f = (n : ℕ) × (integer_at entries path (codes "_STA") ≡ Some n) × (n % 2 ≢ 1)
+    × (f ≡ finding path (kinds.Device (NotPresent n)))
+
+-- by its `_STA` it is present and not enabled
+abbrev pub IsDisabled : List Entry → FullPath → Finding → Type 0
+IsDisabled entries path f = (n : ℕ) × (integer_at entries path (codes "_STA") ≡ Some n) × (n % 2 ≡ 1) × (n / 2 % 2 ≢ 1)
+    × (f ≡ finding path (kinds.Device (NotEnabled n)))
+
+-- Processor k has the `_UID` of processor j, and none before that one has it.
+pub record IsTwin (entries : List Entry) (cpus : List CpuParts) (f : Finding) : Type 0 where
+  pub j : ℕ
+  pub k : ℕ
+  pub uid : ℕ
+  pub order : j < k
+  pub within : k < length cpus
+  pub one : uid_in (uids_of entries cpus) j ≡ Some uid
+  pub other : uid_in (uids_of entries cpus) k ≡ Some uid
+  pub first : (i : ℕ) → i < j → uid_in (uids_of entries cpus) i ≢ Some uid
+  pub told : f ≡ finding (cpu_in cpus k).path (kinds.Device (SameUid uid (cpu_in cpus j).path))
 
 -- # Of idle states
 

@@ -1,8 +1,10 @@
+pub mod Tables
+pub mod Devices
 pub mod Idle
 pub mod CStates
 pub mod Parents
 pub mod Cpcs
+pub mod CpcDomains
 pub mod Notes
-pub mod Tables
 pub mod Machine
 pub mod Laws

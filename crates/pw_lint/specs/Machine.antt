@@ -19,7 +19,9 @@ use Rattle.pw_findings.specs.declared.finding.FindingKind.TheVariants as kinds
 use Rattle.pw_findings.specs.declared.finding.OfLimit.TheVariants as limits
 use Rattle.pw_findings.specs.declared.finding.OfObject.TheVariants as objects
 use Rattle.pw_findings.specs.declared.finding.Unused.TheVariants.{NoStates}
+use Rattle.pw_lint.specs.CpcDomains.{cpc_domain_findings}
 use Rattle.pw_lint.specs.Cpcs.{cpc_findings}
+use Rattle.pw_lint.specs.Devices.{status_findings, twin_findings, unnamed}
 use Rattle.pw_lint.specs.CStates.{cst_findings}
 use Rattle.pw_findings.specs.Domains.{domain_findings}
 use Rattle.pw_findings.specs.Findings.{finding, when}
@@ -27,12 +29,19 @@ use Rattle.pw_lint.specs.Notes.{fault_finding, limit_finding, note_findings}
 use Rattle.pw_lint.specs.Idle.{counted, has_cst, idle_findings, integer_findings}
 use Rattle.pw_lint.specs.Parents.{around, parent_findings}
 use Rattle.pw_findings.specs.Scales.{declares, latency_findings, of_scale, rate_findings, shared, two_spaces}
-use Rattle.pw_lint.specs.Tables.{below, c_states, frequencies, p_states, percentages, registers, stands, t_states}
+use Rattle.pw_lint.specs.Tables.{below, c_states, frequencies, p_states, is_unknown, percentages, registers, stands, t_states}
 
 -- # Idle states
 
-abbrev pub container_findings : List ContainerParts → ContainerParts → List Finding
-container_findings containers c = idle_findings c.path c.idle ++ parent_findings c.path (around containers c.parent) c.idle
+-- whether it is known which states stand at a path: `_LPI` is neither a method nor an alias
+abbrev pub is_lpi_known : List Entry → FullPath → Bool
+is_lpi_known entries path = not (is_unknown entries path (codes "_LPI"))
+
+unfoldable pub container_findings : List Entry → List ContainerParts → ContainerParts → List Finding
+container_findings entries containers c =
+    status_findings entries c.path
+    ++ (idle_findings c.path c.idle
+    ++ parent_findings c.path (is_lpi_known entries c.path) (around containers c.parent) c.idle)
 
 -- the C states that a processor idles in, none where it has others
 abbrev pub used_c_states : List Entry → CpuParts → List CState
@@ -45,7 +54,13 @@ cpu_idle_findings entries containers first c =
     ++ (counted c first
     ++ (cst_findings c.path (used_c_states entries c)
     ++ (integer_findings c.path c.idle
-    ++ parent_findings c.path (around containers c.parent) c.idle)))
+    ++ parent_findings c.path (is_lpi_known entries c.path) (around containers c.parent) c.idle)))
+
+-- # Devices
+
+-- of a processor as a device
+abbrev pub device_findings : List Entry → FullPath → List Finding
+device_findings entries path = status_findings entries path ++ unnamed entries path
 
 -- # Performance and throttling states
 
@@ -90,21 +105,25 @@ throttle_findings entries declaring c =
 
 -- # All of it
 
--- what is found of a processor: its idle, its performance, its throttling states, and continuous performance control
+-- what is found of a processor: whether it is there and named, its idle, its performance, its throttling states, and continuous
+-- performance control
 unfoldable pub cpu_findings : List Entry → List ContainerParts → List CpuParts → CpuParts → List Finding
 cpu_findings entries containers cpus c =
-    cpu_idle_findings entries containers (find has_cst cpus) c
+    device_findings entries c.path
+    ++ (cpu_idle_findings entries containers (find has_cst cpus) c
     ++ (perf_findings entries (find (declares Perf) cpus) c
     ++ (throttle_findings entries (find (declares Throttle) cpus) c
-    ++ cpc_findings c.path c.cpc))
+    ++ cpc_findings c.path c.cpc)))
 
--- What is found of a plan and its notes: by the notes, then of the containers, the processors and the domains.
+-- What is found of a plan and its notes: by the notes, then of the containers, the processors and their names, and the domains.
 unfoldable pub findings : List Entry → List ContainerParts → List CpuParts → List Domain → List Note → List Finding
 findings entries containers cpus domains noted =
     flat_map note_findings noted
-    ++ (flat_map (container_findings containers) containers
+    ++ (flat_map (container_findings entries containers) containers
     ++ (flat_map (cpu_findings entries containers cpus) cpus
-    ++ flat_map (domain_findings cpus) domains))
+    ++ (twin_findings entries cpus
+    ++ (flat_map (domain_findings cpus) domains
+    ++ cpc_domain_findings entries cpus))))
 
 -- What is found of what objects make: of their plan and its notes; or of the notes and the limit that is passed.
 abbrev pub outcome_findings : List Entry → Outcome → List Note → List Finding

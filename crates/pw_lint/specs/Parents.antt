@@ -1,5 +1,5 @@
 -- What is found between idle states and those of the container around them (ACPI 6.5, 8.4.3.3).
-use Rattle.std.specs.Prelude.{ℕ, ◌+◌, ◌&&◌, ◌++◌, not, Bool, List, [], length, nat_le, nat_lt, slice_get, Option, Some, None}
+use Rattle.std.specs.Prelude.{ℕ, ◌+◌, ◌&&◌, ◌++◌, not, Bool, List, [], length, nat_le, nat_lt, slice_get, Option, Some, None, if◌then◌else◌}
 use Rattle.std.specs.List.{list_any}
 use Rattle.aml_data.specs.declared.path.FullPath.{FullPath}
 use Rattle.acpi_values.specs.Idle.{rows_of}
@@ -43,6 +43,11 @@ unreached path None rows = []
 unreached path (Some c) rows = when (nat_lt 0 (count_in c) && not (list_any (enables (count_in c)) rows))
     (finding path (kinds.Parent (Unreached c.path (count_in c))))
 
--- what is found of the idle states at a path, beside the container around them
-unfoldable pub parent_findings : FullPath → Option ContainerParts → IdleTable → List Finding
-parent_findings path parent table = past_findings path parent (rows_of table) ++ unreached path parent (rows_of table)
+-- where `_LPI` is a method or an alias, which states there are isn't known
+abbrev pub unreached_where : Bool → FullPath → Option ContainerParts → List IdleRow → List Finding
+unreached_where known path parent rows = if known then unreached path parent rows else []
+
+-- what is found of the idle states at a path, which are known or not, beside the container around them
+unfoldable pub parent_findings : FullPath → Bool → Option ContainerParts → IdleTable → List Finding
+parent_findings path known parent table =
+    past_findings path parent (rows_of table) ++ unreached_where known path parent (rows_of table)

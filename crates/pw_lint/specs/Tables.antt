@@ -1,15 +1,17 @@
 -- What is read of objects again, of which a plan keeps a part alone (ACPI 6.5, 8.4).
-use Rattle.std.specs.Prelude.{ℕ, Bool, List, [], ◌∷◌, ◌++◌, codes, is_some, map, Ok, Err, Option, Some, None}
+use Rattle.std.specs.Prelude.{ℕ, Bool, true, false, List, [], ◌∷◌, ◌++◌, codes, is_some, map, Ok, Err, Option, Some, None}
+use Rattle.aml_data.specs.Meaning.{meaning}
 use Rattle.aml_data.specs.declared.data.Data.{Data}
 use Rattle.aml_data.specs.declared.data.Width.{Width}
 use Rattle.aml_data.specs.declared.path.FullPath.{FullPath}
 use Rattle.acpi_fields.specs.Reading.{Read}
+use Rattle.acpi_values.specs.declared.dependency.Dependency.{Dependency}
 use Rattle.acpi_values.specs.declared.idle.CState.{CState}
 use Rattle.acpi_values.specs.declared.performance.ControlPair.{ControlPair}
 use Rattle.acpi_values.specs.declared.performance.PState.{PState}
 use Rattle.acpi_values.specs.declared.performance.TState.{TState}
 use Rattle.acpi_idle.specs.CStates.{cst_of}
-use Rattle.acpi_perf.specs.Objects.{control_of}
+use Rattle.acpi_perf.specs.Objects.{control_of, domain_of}
 use Rattle.acpi_perf.specs.Scales.{pss_of, tss_of}
 use Rattle.acpi_space.specs.Lookup.{entry_in, number_at}
 use Rattle.acpi_space.specs.Namespace.{Entry}
@@ -41,6 +43,34 @@ given_as entries (Some k) = given_in (entry_in entries k).width (entry_in entrie
 -- the data object at a place
 unfoldable pub given_at : List Entry → Place → Option Given
 given_at entries place = given_as entries (number_at entries place)
+
+-- # What isn't read
+
+-- whether what stands at a place is of a sort
+abbrev pub is_there : (Thing → Bool) → List Entry → Option ℕ → Bool
+is_there test entries None = false
+is_there test entries (Some k) = test (entry_in entries k).object
+
+-- a method or an alias: what is meant isn't known
+abbrev pub is_veiled : Thing → Bool
+is_veiled (data_object d) = false
+is_veiled device = false
+is_veiled processor = false
+is_veiled method = true
+is_veiled (alias_of name) = true
+
+unfoldable pub is_unknown : List Entry → FullPath → List ℕ → Bool
+is_unknown entries path seg = is_there is_veiled entries (number_at entries (below path seg).segs)
+
+-- # Numbers
+
+abbrev pub number_of : Option Given → Option ℕ
+number_of None = None
+number_of (Some given) = meaning given.object given.width
+
+-- the integer at a segment below a path
+unfoldable pub integer_at : List Entry → FullPath → List ℕ → Option ℕ
+integer_at entries path seg = number_of (given_at entries (below path seg).segs)
 
 -- # States
 
@@ -83,3 +113,17 @@ pair_of (Some given) = pair_read (control_of given.object)
 -- the registers of `_PCT` below a path
 unfoldable pub registers : List Entry → FullPath → Option ControlPair
 registers entries path = pair_of (given_at entries (below path (codes "_PCT")).segs)
+
+-- # Domains
+
+abbrev pub dependency_read : Read Dependency → Option Dependency
+dependency_read (Ok d) = Some d
+dependency_read (Err shape) = None
+
+abbrev pub dependency_of : Option Given → Option Dependency
+dependency_of None = None
+dependency_of (Some given) = dependency_read (domain_of given.width given.object)
+
+-- what `_PSD` below a path declares
+unfoldable pub dependency : List Entry → FullPath → Option Dependency
+dependency entries path = dependency_of (given_at entries (below path (codes "_PSD")).segs)

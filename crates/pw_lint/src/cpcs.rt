@@ -22,7 +22,7 @@ fn number_of(element: Option<&CpcEntry>) -> Option<u64>
 }
 
 /// A level of performance, by its place behind the first two elements.
-fn level(cpc: &Cpc, k: usize) -> Option<u64>
+pub(crate) fn level(cpc: &Cpc, k: usize) -> Option<u64>
     ensures { result ≡ level cpc.now k }
 {
     number_of(cpc.entries.as_slice().get(k))

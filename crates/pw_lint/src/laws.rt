@@ -17,8 +17,10 @@ ghost use Rattle.pw_plan.specs.declared.plan.Plan.{Plan as plan_type};
 ghost use Rattle.pw_findings.specs.declared.finding.Finding.{Finding as finding_type};
 ghost use Rattle.pw_findings.specs.Domains.{domain_findings, unfit_findings};
 ghost use Rattle.pw_lint.specs.Idle.{counted, idle_findings};
-ghost use Rattle.pw_lint.specs.Laws.{IsCounted, IsFalling, IsFound, IsFoundOfCpu, IsFoundOfDomain, IsOfRefusal};
-ghost use Rattle.pw_lint.specs.Laws.{IsRepeated, IsRising, IsShrinking, IsStill, IsUnentered};
+ghost use Rattle.pw_lint.specs.Devices.{status_findings, twin_findings};
+ghost use Rattle.pw_lint.specs.Laws.{IsAbsent, IsCounted, IsDisabled, IsFalling, IsFound, IsFoundOfCpu};
+ghost use Rattle.pw_lint.specs.Laws.{IsFoundOfDomain, IsOfRefusal, IsRepeated, IsTwin};
+ghost use Rattle.pw_lint.specs.Laws.{IsRising, IsShrinking, IsStill, IsUnentered, IsWise};
 ghost use Rattle.pw_lint.specs.Machine.{cpu_findings, findings, AreFindings};
 ghost use Rattle.pw_findings.specs.Scales.{rate_findings};
 
@@ -46,6 +48,24 @@ pub fn findings_of_refusals()
         → found ≡ findings entries P.containers P.cpus P.domains noted }
     ensures one { (entries : List entry_type) (first second : List finding_type)
         → AreFindings entries first → AreFindings entries second → first ≡ second }
+{}
+
+/// Nothing is found exactly where all notes are about unfit domains and no domain is unfit, and where none of
+/// what is unwise holds.
+pub fn nothing_is_found()
+    ensures { (entries : List entry_type) (containers : List container_type) (cpus : List cpu_type)
+        (domains : List domain_type) (noted : List note_type)
+        → (findings entries containers cpus domains noted ≡ [])
+        ↔ IsWise entries containers cpus domains noted }
+{}
+
+/// A container or a processor is found not to be present, or to be present and not enabled, by the number of its
+/// `_STA` (ACPI 6.5, 6.3.7); and where two of one `_UID` are found, the earlier one is the first with that.
+pub fn findings_of_devices()
+    ensures status { (entries : List entry_type) (path : path_type) (f : finding_type)
+        → Contains (status_findings entries path) f ↔ (IsAbsent entries path f ⊎ IsDisabled entries path f) }
+    ensures names { (entries : List entry_type) (cpus : List cpu_type) (f : finding_type)
+        → Contains (twin_findings entries cpus) f → IsTwin entries cpus f }
 {}
 
 /// What is found of idle states: each that wakes sooner than the one before it or is worth its cost sooner,

@@ -3,7 +3,9 @@
 #![tactic(auto)]
 
 mod c_states;
+mod cpc_domains;
 mod cpcs;
+mod devices;
 mod idle;
 mod laws;
 mod linting;
@@ -14,7 +16,7 @@ mod rates;
 mod reading;
 
 pub use laws::{
-    findings_are_of_objects, findings_of_domains, findings_of_idle_states, findings_of_rates,
-    findings_of_refusals,
+    findings_are_of_objects, findings_of_devices, findings_of_domains, findings_of_idle_states,
+    findings_of_rates, findings_of_refusals, nothing_is_found,
 };
 pub use linting::find_all;

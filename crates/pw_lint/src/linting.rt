@@ -2,6 +2,8 @@ ghost use Rattle.std.specs.Prelude.{◌≡◌, ◌++◌, IfOk, OnOk};
 ghost use Rattle.acpi_build.specs.Tables.{AreCountable};
 ghost use Rattle.pw_lint.specs.Machine.{findings, outcome_findings, AreFindings};
 
+use crate::cpc_domains::find_in_cpc_domains;
+use crate::devices::find_twins;
 use crate::notes::{find_in_faults, find_in_notes, find_past_limit};
 use crate::processors::{find_in_containers, find_in_cpus};
 use acpi_build::{Note, Outcome, survey_objects};
@@ -27,9 +29,11 @@ fn find_in_plan(
     let containers = plan.containers.as_slice();
     let cpus = plan.cpus.as_slice();
     find_in_notes(alloc, notes, found)?;
-    find_in_containers(alloc, containers, found)?;
+    find_in_containers(alloc, space, containers, found)?;
     find_in_cpus(alloc, space, containers, cpus, found)?;
-    find_in_domains(alloc, cpus, plan.domains.as_slice(), found)
+    find_twins(alloc, space, cpus, found)?;
+    find_in_domains(alloc, cpus, plan.domains.as_slice(), found)?;
+    find_in_cpc_domains(alloc, space, cpus, found)
 }
 
 /// Adds what is found of what objects make, and of the notes then.

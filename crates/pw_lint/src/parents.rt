@@ -162,19 +162,23 @@ fn find_past_parents(
     }
 }
 
-/// Adds what is found of idle states beside the container around them.
+/// Adds what is found of idle states, which are known or not, beside the container around them.
 #[tactic(auto, unfolding(crate::specs::Parents::parent_findings))]
 pub fn find_beside_parent(
     alloc: Global,
     path: &FullPath,
+    known: bool,
     parent: Option<&ContainerParts>,
     table: &IdleTable,
     found: &mut Vec<Finding>,
 ) -> Result<(), Memory>
     ensures { OnOk result (found.new.items ≡ found.old.items
-        ++ parent_findings path.now (option_copied parent.entry) table.now) }
+        ++ parent_findings path.now known (option_copied parent.entry) table.now) }
 {
     let rows = table.states();
     find_past_parents(alloc, path, parent, rows, found)?;
-    find_unreached(alloc, path, parent, rows, found)
+    if known {
+        return find_unreached(alloc, path, parent, rows, found);
+    }
+    Ok(())
 }

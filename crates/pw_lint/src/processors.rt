@@ -3,16 +3,19 @@
 ghost use Rattle.std.specs.Prelude.{◌≡◌, ◌++◌, option_copied, IfOk, OnOk};
 ghost use Rattle.std.specs.List.{flat_map};
 ghost use Rattle.acpi_build.specs.Tables.{AreCountable};
-ghost use Rattle.pw_lint.specs.Machine.{container_findings, cpu_findings, cpu_idle_findings, perf_findings, stateless};
+ghost use Rattle.pw_lint.specs.Machine.{container_findings, cpu_findings, cpu_idle_findings, device_findings};
+ghost use Rattle.pw_lint.specs.Machine.{is_lpi_known, perf_findings, stateless};
 ghost use Rattle.pw_lint.specs.Machine.{throttle_findings, unlimited, unused_perf, unused_throttle, used_c_states};
 
 use crate::c_states::find_in_cst;
 use crate::cpcs::find_in_cpc;
+use crate::devices::{find_status, find_unnamed};
 use crate::idle::{find_counted, find_in_idle, find_integers, first_with_cst, has_cst};
 use crate::parents::{around, find_beside_parent};
 use crate::rates::{find_hasty, find_in_rates};
 use crate::reading::{
-    c_states, frequencies, p_states, path_below, percentages, registers, stands, t_states,
+    c_states, frequencies, is_unknown, p_states, path_below, percentages, registers, stands,
+    t_states,
 };
 use acpi_space::Space;
 use acpi_values::CState;
@@ -25,32 +28,47 @@ use pw_findings::{
 use pw_plan::{ContainerParts, CpuParts, DomainKind};
 use std::alloc::Global;
 
+/// Whether it is known which states stand at a path.
+fn is_lpi_known(alloc: Global, space: &Space<'_>, path: &FullPath) -> Result<bool, Memory>
+    ensures { IfOk result (λ b. b ≡ is_lpi_known space.now path.now) }
+{
+    Ok(!is_unknown(alloc, space, path, Seg::of_segment(*b"_LPI"))?)
+}
+
 /// Adds what is found of a container.
+#[tactic(auto, unfolding(crate::specs::Machine::container_findings))]
 fn find_in_container(
     alloc: Global,
+    space: &Space<'_>,
     containers: &[ContainerParts],
     container: &ContainerParts,
     found: &mut Vec<Finding>,
 ) -> Result<(), Memory>
+    requires { AreCountable space.now }
     ensures { OnOk result (found.new.items ≡ found.old.items
-        ++ container_findings containers.now container.now) }
+        ++ container_findings space.now containers.now container.now) }
 {
+    let path = &container.path;
     let parent = around(containers, container.parent);
-    find_in_idle(alloc, &container.path, &container.idle, found)?;
-    find_beside_parent(alloc, &container.path, parent, &container.idle, found)
+    let known = is_lpi_known(alloc, space, path)?;
+    find_status(alloc, space, path, found)?;
+    find_in_idle(alloc, path, &container.idle, found)?;
+    find_beside_parent(alloc, path, known, parent, &container.idle, found)
 }
 
 /// Adds what is found of containers.
 pub(crate) fn find_in_containers(
     alloc: Global,
+    space: &Space<'_>,
     containers: &[ContainerParts],
     found: &mut Vec<Finding>,
 ) -> Result<(), Memory>
+    requires { AreCountable space.now }
     ensures { OnOk result (found.new.items ≡ found.old.items
-        ++ flat_map (container_findings containers.now) containers.now) }
+        ++ flat_map (container_findings space.now containers.now) containers.now) }
 {
     for container in containers {
-        find_in_container(alloc, containers, container, found)?;
+        find_in_container(alloc, space, containers, container, found)?;
     }
     Ok(())
 }
@@ -82,11 +100,12 @@ fn find_in_cpu_idle(
 {
     let states = used_c_states(alloc, space, cpu)?;
     let parent = around(containers, cpu.parent);
+    let known = is_lpi_known(alloc, space, &cpu.path)?;
     find_in_idle(alloc, &cpu.path, &cpu.idle, found)?;
     find_counted(alloc, cpu, first, found)?;
     find_in_cst(alloc, &cpu.path, &states, found)?;
     find_integers(alloc, &cpu.path, &cpu.idle, found)?;
-    find_beside_parent(alloc, &cpu.path, parent, &cpu.idle, found)
+    find_beside_parent(alloc, &cpu.path, known, parent, &cpu.idle, found)
 }
 
 /// Adds that an object speaks of states, where there is no use for it.
@@ -210,6 +229,20 @@ fn find_in_throttle(
     find_unused_throttle(alloc, space, &cpu.path, found)
 }
 
+/// Adds what is found of a processor as a device.
+fn find_in_device(
+    alloc: Global,
+    space: &Space<'_>,
+    path: &FullPath,
+    found: &mut Vec<Finding>,
+) -> Result<(), Memory>
+    requires { AreCountable space.now }
+    ensures { OnOk result (found.new.items ≡ found.old.items ++ device_findings space.now path.now) }
+{
+    find_status(alloc, space, path, found)?;
+    find_unnamed(alloc, space, path, found)
+}
+
 /// Adds what is found of a processor.
 #[tactic(auto, unfolding(crate::specs::Machine::cpu_findings))]
 fn find_in_cpu(
@@ -227,6 +260,7 @@ fn find_in_cpu(
     let perf = first_declaring(DomainKind::Perf, cpus);
     let throttle = first_declaring(DomainKind::Throttle, cpus);
     let first = first_with_cst(cpus);
+    find_in_device(alloc, space, &cpu.path, found)?;
     find_in_cpu_idle(alloc, space, containers, first, cpu, found)?;
     find_in_perf(alloc, space, cpu, perf, found)?;
     find_in_throttle(alloc, space, cpu, throttle, found)?;

@@ -5,15 +5,17 @@ ghost use Rattle.std.specs.Option.{option_map};
 ghost use Rattle.aml_data.specs.Countable.{IsCountable};
 ghost use Rattle.acpi_idle.specs.CStates.{cst_of};
 ghost use Rattle.acpi_perf.specs.Scales.{pss_of, tss_of};
+ghost use Rattle.acpi_space.specs.Things.{thing};
 ghost use Rattle.acpi_build.specs.Tables.{AreCountable};
-ghost use Rattle.pw_lint.specs.Tables.{below, c_states, frequencies, given_at, p_states, pair_read};
+ghost use Rattle.pw_lint.specs.Tables.{below, c_states, dependency, dependency_read, frequencies, given_at, integer_at};
+ghost use Rattle.pw_lint.specs.Tables.{is_unknown, is_veiled, p_states, pair_read};
 ghost use Rattle.pw_lint.specs.Tables.{percentages, registers, stands, states_read, t_states};
 
 use acpi_idle::read_cst;
-use acpi_perf::{read_control, read_pss, read_tss};
+use acpi_perf::{read_control, read_dependency, read_pss, read_tss};
 use acpi_space::{Object, Space};
-use acpi_values::{CState, ControlPair, PState, ReadFault, Shape, TState};
-use aml_data::{Data, FullPath, Seg, Width};
+use acpi_values::{CState, ControlPair, Dependency, PState, ReadFault, Shape, TState};
+use aml_data::{Data, FullPath, Seg, Width, integer};
 use pw_base::{List, Memory};
 use std::alloc::Global;
 
@@ -77,6 +79,51 @@ fn given_below<'a>(
             width: placed.width,
         })),
         Object::Device | Object::Processor | Object::Method | Object::Alias(_) => Ok(None),
+    }
+}
+
+/// Whether what an object means isn't known: it is a method or an alias.
+fn is_veiled(object: Object<'_>) -> bool
+    ensures { result ≡ is_veiled (thing object.entry) }
+{
+    match object {
+        Object::Method | Object::Alias(_) => true,
+        Object::Data(_) | Object::Device | Object::Processor => false,
+    }
+}
+
+/// Whether what stands at a segment below a path isn't known.
+#[tactic(auto, unfolding(crate::specs::Tables::is_unknown))]
+pub(crate) fn is_unknown(
+    alloc: Global,
+    space: &Space<'_>,
+    path: &FullPath,
+    seg: Seg,
+) -> Result<bool, Memory>
+    ensures { IfOk result (λ b. b ≡ is_unknown space.now path.now seg) }
+{
+    let _objects = space.placed();
+    let place = path_below(alloc, path, seg)?;
+    let Some(placed) = space.find(&place) else {
+        return Ok(false);
+    };
+    Ok(is_veiled(placed.object))
+}
+
+/// The integer at a segment below a path, where one stands there.
+#[tactic(auto, unfolding(crate::specs::Tables::integer_at))]
+pub(crate) fn integer_below(
+    alloc: Global,
+    space: &Space<'_>,
+    path: &FullPath,
+    seg: Seg,
+) -> Result<Option<u64>, Memory>
+    requires { AreCountable space.now }
+    ensures { IfOk result (λ n. n ≡ integer_at space.now path.now seg) }
+{
+    match given_below(alloc, space, path, seg)? {
+        None => Ok(None),
+        Some(given) => Ok(integer(given.object, given.width)),
     }
 }
 
@@ -201,5 +248,31 @@ pub(crate) fn registers(
     match given_below(alloc, space, path, Seg::of_segment(*b"_PCT"))? {
         None => Ok(None),
         Some(given) => Ok(pair_read(read_control(given.object))),
+    }
+}
+
+/// What an object declares of a domain.
+fn dependency_read(read: Result<Dependency, Shape>) -> Option<Dependency>
+    ensures { result ≡ dependency_read read }
+{
+    match read {
+        Ok(declared) => Some(declared),
+        Err(_) => None,
+    }
+}
+
+/// What `_PSD` below a path declares.
+#[tactic(auto, unfolding(crate::specs::Tables::dependency))]
+pub(crate) fn dependency(
+    alloc: Global,
+    space: &Space<'_>,
+    path: &FullPath,
+) -> Result<Option<Dependency>, Memory>
+    requires { AreCountable space.now }
+    ensures { IfOk result (λ d. d ≡ dependency space.now path.now) }
+{
+    match given_below(alloc, space, path, Seg::of_segment(*b"_PSD"))? {
+        None => Ok(None),
+        Some(given) => Ok(dependency_read(read_dependency(given.object, given.width))),
     }
 }

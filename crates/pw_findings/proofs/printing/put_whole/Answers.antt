@@ -1,4 +1,3 @@
-use Rattle.std.proofs.Common.{◌∙◌, append_assoc}
 use Rattle.std.proofs.lemmas.List.{append-nil}
 use Rattle.pw_text.proofs.Putting.{PutsText-as, PutsText-stop, PutsText-then}
 use Rattle.pw_findings.specs.Words.{findings_text}
