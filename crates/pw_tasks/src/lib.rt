@@ -3,9 +3,11 @@
 
 mod check;
 mod json;
+mod laws;
 mod lint;
 mod rewrite;
 mod show;
 mod tasks;
 
+pub use laws::rewritten_blocks_are_read_alike;
 pub use tasks::do_on_blocks;
