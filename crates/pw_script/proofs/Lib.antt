@@ -4,6 +4,7 @@ pub mod Cutting
 mod Examples
 pub mod Existing
 pub mod Feeds
+pub mod Replied
 pub mod Leading
 pub mod Lined
 pub mod Sourced

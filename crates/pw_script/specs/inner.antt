@@ -1,5 +1,6 @@
 pub mod Behind
 pub mod Cuts
 pub mod Feeds
+pub mod Known
 pub mod Openings
 pub mod Paths

@@ -6,6 +6,7 @@
 mod asking;
 mod digits;
 mod index;
+mod known;
 mod laws;
 mod line;
 mod lines;
@@ -36,7 +37,7 @@ pub use openings::{first_of, opened, put_open_line, put_opened};
 pub use operations::{put_ops, put_path};
 pub use parsing::{parse, too_long};
 pub use paths::PathTexts;
-pub use printing::print_history;
+pub use printing::{print_history, print_known};
 pub use script::{Line, LineWhy, MOST_BYTES, MOST_LINES, MOST_OPERATIONS, Script, ScriptFault};
 pub use text_laws::{
     beginnings_are_starts, beginnings_complete, lines_follow, texts_of_scripts_tell,

@@ -1,5 +1,5 @@
 ghost use Rattle.std.specs.Prelude.{◌≡◌, ◌≤◌, ◌∷◌, ◌++◌, [], is_ok, map, true};
-ghost use Rattle.std.specs.Prelude.{Err, OnOk};
+ghost use Rattle.std.specs.Prelude.{Err, IfSome, OnOk, option_copied};
 ghost use Rattle.std.specs.List.{AllByRecursion, flat_map};
 ghost use Rattle.pw_base.specs.Outside.{GrewByPart, KeepsSink, Rose};
 ghost use Rattle.pw_text.specs.Lines.{text_of};
@@ -7,12 +7,15 @@ ghost use Rattle.pw_text.specs.Puts.{PutsText};
 ghost use Rattle.pw_text.specs.declared.fault.PrintFault.TheVariants as faults;
 ghost use Rattle.pw_plan.specs.Requests.{cpu_of, opening_bound};
 ghost use Rattle.pw_model.specs.States.{IsState, opening as opening_state};
-ghost use Rattle.pw_model.specs.History.{StatesRequest, after_entry};
+ghost use Rattle.pw_model.specs.Answers.{answer};
+ghost use Rattle.pw_model.specs.History.{StatesRequest, after_entry, replies, request_of};
 ghost use Rattle.pw_model.specs.Operations.{opening_ops};
 ghost use Rattle.pw_script.specs.HistoryText.{entry_lines, fault_words, history_text, lines_from, op_line};
 ghost use Rattle.pw_script.specs.HistoryText.{opening_lines, reply_words, request_line};
 ghost use Rattle.pw_script.specs.inner.Behind.{head_text};
+ghost use Rattle.pw_script.specs.inner.Known.{AreKnown};
 
+use crate::known::{first_known, step};
 use crate::named::NamedPlan;
 use crate::openings::{first_of, put_opened};
 use crate::operations::put_ops;
@@ -94,7 +97,8 @@ fn put_faulted<K: Sink>(
     put_done(page, sink, plan, ops)
 }
 
-/// Puts the lines of an entry that was asked in this state, and leaves the state after it.
+/// Puts the lines of an entry that was asked in this state, with its reply where that is known, and leaves
+/// the state after it.
 #[tactic(auto, using(pw_plan::proofs::RequestBounds::bound_small, pw_model::proofs::Staying::request_has))]
 fn put_entry<K: Sink>(
     page: &mut Page,
@@ -104,9 +108,12 @@ fn put_entry<K: Sink>(
     ops: &mut Ops,
     number: u64,
     entry: &HistoryEntry,
+    known: Option<Reply>,
 ) -> Result<(), Failed>
     requires entry { StatesRequest plan.now entry.now }
     requires fits { IsState plan.now state.old }
+    requires known { IfSome known
+        (λ reply. entry.now.fault ≡ 0 → answer plan.now state.old (request_of entry.now) ≡ reply) }
     requires room { 256 ≤ ops.old.capacity }
     ensures text { PutsText K.Sink sink.old sink.new page.old page.new
         (text_of (entry_lines plan.now state.old number entry.now)) (is_ok result) }
@@ -117,7 +124,7 @@ fn put_entry<K: Sink>(
     let request = entry.request();
     ops.clear();
     if entry.fault == 0 {
-        let reply = state.step(plan.plan(), request, ops);
+        let reply = step(plan.plan(), state, request, known, ops);
         return put_answered(page, sink, plan, number, request, reply, ops.list());
     }
     state.operations(plan.plan(), request, ops);
@@ -133,7 +140,8 @@ fn put_entry<K: Sink>(
     )
 }
 
-/// Puts the lines of entries, numbered from 1, of which the first was asked in this state.
+/// Puts the lines of entries, numbered from 1, of which the first was asked in this state, with their
+/// replies where these are known.
 fn put_entries<K: Sink>(
     page: &mut Page,
     sink: &mut K,
@@ -141,19 +149,24 @@ fn put_entries<K: Sink>(
     state: &mut State,
     ops: &mut Ops,
     entries: &[HistoryEntry],
+    known: Option<&[Reply]>,
 ) -> Result<(), Failed>
     requires entries { AllByRecursion (StatesRequest plan.now) entries.now }
     requires fits { IsState plan.now state.old }
+    requires known { AreKnown plan.now state.old entries.now (option_copied known) }
     requires room { 256 ≤ ops.old.capacity }
     ensures { PutsText K.Sink sink.old sink.new page.old page.new
         (text_of (lines_from plan.now state.old 1 entries.now)) (is_ok result) }
 {
     let mut number = 1;
     let mut left = entries;
+    let mut replies = known;
     while let [entry, rest @ ..] = left {
-        put_entry(page, sink, plan, state, ops, number, entry)?;
+        let (reply, others) = first_known(entry, replies);
+        put_entry(page, sink, plan, state, ops, number, entry, reply)?;
         number += 1;
         left = rest;
+        replies = others;
     }
     Ok(())
 }
@@ -173,7 +186,8 @@ fn put_opening<K: Sink>(
     put_opened(page, sink, plan.paths(), opening, ops)
 }
 
-/// Puts the text of a history, by way of a page, and hands all of it to the sink.
+/// Puts the text of a history, with the replies that are known, by way of a page, and hands all of it to
+/// the sink.
 fn put_history<K: Sink>(
     page: &mut Page,
     sink: &mut K,
@@ -182,8 +196,10 @@ fn put_history<K: Sink>(
     ops: &mut Ops,
     opening: Option<u32>,
     entries: &[HistoryEntry],
+    known: Option<&[Reply]>,
 ) -> Result<(), Failed>
     requires entries { AllByRecursion (StatesRequest plan.now) entries.now }
+    requires known { AreKnown plan.now state.old entries.now (option_copied known) }
     requires opened { state.old ≡ opening_state plan.now }
     requires fits { IsState plan.now state.old }
     requires none { ops.old.elements ≡ [] }
@@ -195,8 +211,40 @@ fn put_history<K: Sink>(
 {
     state.opening(plan.plan(), ops);
     put_opening(page, sink, plan, opening, ops.list())?;
-    put_entries(page, sink, plan, state, ops, entries)?;
+    put_entries(page, sink, plan, state, ops, entries, known)?;
     page.flush(sink)
+}
+
+/// Prints the text of a history as `print_history` does, with the replies to its entries where they are
+/// known: then they aren't worked out again.
+#[tactic(auto, unfolding(pw_model::specs::History::replies))]
+pub fn print_known<K: Sink>(
+    alloc: Global,
+    plan: &Plan,
+    opening: Option<u32>,
+    entries: &[HistoryEntry],
+    known: Option<&[Reply]>,
+    out: &mut K,
+) -> Result<(), PrintFault>
+    requires entries { AllByRecursion (StatesRequest plan.now) entries.now }
+    requires known { IfSome known (λ told. told.now ≡ replies plan.now entries.now) }
+    ensures keeps { KeepsSink K.told K.faults out.old out.new }
+    ensures whole { OnOk result (K.told out.old ≡ true →
+        K.written out.new ≡ K.written out.old ++ history_text plan.now opening entries.now) }
+    // Whatever fails, the sink has a beginning of the text.
+    ensures part { K.told out.old ≡ true →
+        GrewByPart (K.written out.old) (K.written out.new) (history_text plan.now opening entries.now) }
+    ensures sink { result ≡ Err faults.Sink → Rose (K.faults out.old) (K.faults out.new) }
+    ensures memory { result ≡ Err faults.Memory → out.new ≡ out.old }
+{
+    let named = NamedPlan::new(alloc, plan)?;
+    let mut page = Page::new(alloc)?;
+    let mut state = State::open(alloc, plan)?;
+    let mut ops = Ops::new(alloc, plan.opening_bound().max(MOST_OF_A_REQUEST))?;
+    put_history(
+        &mut page, out, &named, &mut state, &mut ops, opening, entries, known,
+    )?;
+    Ok(())
 }
 
 /// Prints the text of a history: the opening with its operations, and each entry with its reply and its
@@ -219,12 +267,5 @@ pub fn print_history<K: Sink>(
     ensures sink { result ≡ Err faults.Sink → Rose (K.faults out.old) (K.faults out.new) }
     ensures memory { result ≡ Err faults.Memory → out.new ≡ out.old }
 {
-    let named = NamedPlan::new(alloc, plan)?;
-    let mut page = Page::new(alloc)?;
-    let mut state = State::open(alloc, plan)?;
-    let mut ops = Ops::new(alloc, plan.opening_bound().max(MOST_OF_A_REQUEST))?;
-    put_history(
-        &mut page, out, &named, &mut state, &mut ops, opening, entries,
-    )?;
-    Ok(())
+    print_known(alloc, plan, opening, entries, None, out)
 }
