@@ -1,5 +1,5 @@
 -- One more entry in a history.
-use Rattle.std.proofs.Common.{◌≡◌, ◌≤◌, ◌<◌, ◌+◌, ◌-◌, ◌==◌, ◌++◌, ◌∷◌, ◌∙◌, ℕ, true, false, List, [], length, take, Some, refl, inl, inr, arith}
+use Rattle.std.proofs.Common.{◌≡◌, ◌≤◌, ◌<◌, ◌+◌, ◌-◌, ◌==◌, ◌++◌, ◌∷◌, ◌∙◌, ℕ, true, false, List, [], length, take, Some, refl, inl, inr, arith, append-nil, ap}
 use Rattle.std.proofs.lemmas.Bool.Decides.{nat_tests}
 use Rattle.pw_plan.specs.declared.plan.Plan.{Plan}
 use Rattle.pw_plan.specs.declared.request.Request.{Request}
@@ -8,10 +8,10 @@ use Rattle.pw_plan.specs.Requests.{Has}
 use Rattle.pw_plan.proofs.Lists.{each_append}
 use Rattle.pw_model.specs.declared.entry.HistoryEntry.{HistoryEntry}
 use Rattle.pw_model.specs.declared.state.State.{State}
-use Rattle.pw_model.specs.Answers.{after}
-use Rattle.pw_model.specs.History.{Faultless, IsEntry, Legal, entry_of, entry_ops, fault_at, replay, request_of}
+use Rattle.pw_model.specs.Answers.{after, answer}
+use Rattle.pw_model.specs.History.{Faultless, IsEntry, Legal, entry_of, entry_ops, fault_at, replay, replies, request_of}
 use Rattle.pw_model.specs.Operations.{ops_of}
-use Rattle.pw_model.proofs.Joining.{entry_is, legal-more, replay-append, request_of-entry}
+use Rattle.pw_model.proofs.Joining.{entry_is, legal-more, replay-append, replies-append, request_of-entry}
 use Rattle.pw_journal.specs.Entries.{fault_entry}
 
 pub seat_of-entry : (seat : ℕ) (q : Request) → (entry_of seat q).seat ≡ seat
@@ -76,3 +76,14 @@ pub ops_stopped : (P : Plan) (S : State) (q : Request) (k : ℕ) → entry_ops P
 ops_stopped P S q k =
     let same : (k + 1) - 1 ≡ k = omega arith in
     rw (some_is k, same, request_of-entry 0 q) refl
+
+-- it has one reply more, and a fault has none
+pub replies_done : (P : Plan) (es : List HistoryEntry) (q : Request) → replies P (es ++ entry_of 0 q ∷ []) ≡ replies P es ++ answer P (replay P es) q ∷ []
+replies_done P es q = replies-append P es (entry_of 0 q ∷ []) ∙ rw (none_is (entry_of 0 q).fault (fault_of-entry 0 q), request_of-entry 0 q) refl
+
+pub replies_stopped : (P : Plan) (es : List HistoryEntry) (q : Request) (k : ℕ) → replies P (es ++ fault_entry 0 q k ∷ []) ≡ replies P es
+replies_stopped P es q k = replies-append P es (fault_entry 0 q k ∷ []) ∙ rw (some_is k) (append-nil (replies P es))
+
+pub replies_none : (P : Plan) → replies P [] ≡ []
+unfolding replies
+replies_none P = refl

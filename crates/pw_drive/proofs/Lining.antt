@@ -1,6 +1,6 @@
 -- A run over lines, one line further.
 use Rattle.std.proofs.Common.{◌≡◌, ◌≤◌, ◌<◌, ◌+◌, ◌++◌, ◌∷◌, ◌∙◌, ℕ, true, false, List, [], length, map, take, drop, get_or, None, Result, Ok, Err, refl, ap, sym, subst, append-nil, take-append-drop}
-use Rattle.std.specs.Prelude.{is_err, is_some, OnErr, OnOk}
+use Rattle.std.specs.Prelude.{is_err, is_some, OnOk}
 use Rattle.std.specs.List.{AllByRecursion}
 use Rattle.std.proofs.lemmas.List.{length-map, map-append, take_more}
 use Rattle.std.proofs.lemmas.List.Sums.{sum_by-take-le, sum_by_push}
@@ -101,10 +101,6 @@ module _ (P : Plan) (lines : List line) (i : ℕ) (d : line) (lt : i < length li
       stopped
 
 -- # How a call ended
-
-pub where_err : {T E X : Type 0} (r : Result T E) → is_err r ≡ true → OnErr r X → X
-where_err (Ok x) e h = cc
-where_err (Err k) e h = h
 
 pub where_ok : {T E X : Type 0} (r : Result T E) → is_err r ≡ false → OnOk r X → X
 where_ok (Ok x) e h = h

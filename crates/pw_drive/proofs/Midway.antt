@@ -8,7 +8,7 @@ use Rattle.pw_plan.specs.Requests.{Has}
 use Rattle.pw_model.specs.declared.reply.Reply.{Reply}
 use Rattle.pw_model.specs.declared.entry.HistoryEntry.{HistoryEntry}
 use Rattle.pw_model.specs.declared.state.State.{State}
-use Rattle.pw_model.specs.Answers.{after}
+use Rattle.pw_model.specs.Answers.{after, answer}
 use Rattle.pw_model.specs.Locality.{AllTold}
 use Rattle.pw_model.specs.Operations.{ops_of}
 use Rattle.pw_model.specs.Records.{IsRecord, Part, Record, is_record, number_of, part_of}
@@ -153,12 +153,18 @@ module _ (P : Plan) (S : State) (q : Request) (state : IsState P S) (has : Has P
   over_ops : (r s : Reply) (xs ys : List Op) → over r xs ≡ over s ys → xs ≡ ys
   over_ops r s xs ys e = cc
 
+  over_reply : (r s : Reply) (xs ys : List Op) → over r xs ≡ over s ys → r ≡ s
+  over_reply r s xs ys e = cc
+
   module _ (reply : Reply) (ops : List Op) (F : Record → Part) (m : IsMidway P S q (over reply ops) F) where
     whole : turns_of m.held ≡ way P S q
     whole = tells_end P q m.held has S state m.noted m.front (ap (next_turn P) m.at)
 
     pub ops_are : ops ≡ ops_of P S q
     ops_are = over_ops _ _ _ _ (sym m.at ∙ tells_answer P q m.held has S state m.noted whole)
+
+    pub reply_is : reply ≡ answer P S q
+    reply_is = over_reply _ _ _ _ (sym m.at ∙ tells_answer P q m.held has S state m.noted whole)
 
     -- the records hold what the state after the request does
     pub told_after : AllTold P (after P S q) F

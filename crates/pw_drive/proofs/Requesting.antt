@@ -7,8 +7,9 @@ use Rattle.pw_plan.specs.declared.plan.Plan.{Plan}
 use Rattle.pw_plan.specs.declared.request.Request.{Request}
 use Rattle.pw_plan.specs.Requests.{Has, opening_bound, ops_bound}
 use Rattle.pw_model.specs.declared.entry.HistoryEntry.{HistoryEntry}
-use Rattle.pw_model.specs.Answers.{after}
-use Rattle.pw_model.specs.History.{Faultless, Legal, entry_of, entry_ops, fault_at, replay}
+use Rattle.pw_model.specs.declared.reply.Reply.{Reply}
+use Rattle.pw_model.specs.Answers.{after, answer}
+use Rattle.pw_model.specs.History.{Faultless, Legal, entry_of, entry_ops, fault_at, replay, replies}
 use Rattle.pw_model.specs.Operations.{opening_ops, ops_of}
 use Rattle.pw_model.proofs.Bounds.{opening_ops-length, ops_of-le}
 use Rattle.pw_model.proofs.Joining.{faultless_none, legal-empty, request_of-entry}
@@ -23,7 +24,7 @@ use Rattle.pw_regs.specs.Doing.{Did}
 use Rattle.pw_drive.specs.Keeping.{AreRecordsOf, part_in}
 use Rattle.pw_drive.specs.inner.Running.{Keeps, Stands, Turned, opening_done}
 use Rattle.pw_drive.specs.inner.Midway.{Undone}
-use Rattle.pw_drive.proofs.Entering.{faultless_done, legal_done, legal_stopped, ops_done, ops_stopped, replay_done, replay_stopped, seat_of-entry, stopped_last}
+use Rattle.pw_drive.proofs.Entering.{faultless_done, legal_done, legal_stopped, ops_done, ops_stopped, replay_done, replay_stopped, replies_done, replies_stopped, seat_of-entry, stopped_last}
 use Rattle.pw_regs.proofs.Operating.{did_as, did_within, ops_by}
 
 module _ (P : Plan) (q : Request) (es : List HistoryEntry) (has : Has P q) (legal : Legal P es) (faultless : Faultless es) where
@@ -83,6 +84,13 @@ module _ (P : Plan) (q : Request) (es : List HistoryEntry) (has : Has P q) (lega
       state = ap (replay P) fault ∙ replay_stopped P es q k;
       stopped = rw (fault, stopped_last es q k faultless) refl;
     }
+
+-- the reply, where the journal's call ended well, and none where it didn't
+pub replied_done : (P : Plan) (es fs : List HistoryEntry) (q : Request) (reply : Reply) → fs ≡ es ++ entry_of 0 q ∷ [] → reply ≡ answer P (replay P es) q → replies P fs ≡ replies P es ++ reply ∷ []
+replied_done P es fs q reply entry is = ap (replies P) entry ∙ replies_done P es q ∙ ap (λ r. replies P es ++ r ∷ []) (sym is)
+
+pub replied_stopped : (P : Plan) (es fs : List HistoryEntry) (q : Request) (k : ℕ) → fs ≡ es ++ fault_entry 0 q k ∷ [] → replies P fs ≡ replies P es
+replied_stopped P es fs q k entry = ap (replies P) entry ∙ replies_stopped P es q k
 
 -- what the records keep, however a request ended
 pub keeps_after : {T E : Type 0} (P : Plan) (es fs : List HistoryEntry) (was now : Records) (result : Result T E) → Keeps P es was

@@ -1,16 +1,17 @@
-ghost use Rattle.std.specs.Prelude.{◌≡◌, ◌≤◌, ◌<◌, ◌^◌, [], true, length, is_some, OnOk, OnErr};
+ghost use Rattle.std.specs.Prelude.{◌≡◌, ◌≤◌, ◌<◌, ◌^◌, [], true, length, is_some, vec_capacity, OnOk, OnErr};
 ghost use Rattle.std.specs.List.{AllByRecursion};
 ghost use Rattle.pw_plan.specs.declared.request.Request.{Request as request};
 ghost use Rattle.pw_plan.specs.Requests.{Has, ops_bound, opening_bound};
-ghost use Rattle.pw_model.specs.History.{fault_at};
+ghost use Rattle.pw_model.specs.History.{fault_at, replies};
 ghost use Rattle.pw_regs.specs.Seen.{registers_seen};
 ghost use Rattle.pw_script.specs.declared.script.Line.{Line as asked};
-ghost use Rattle.pw_drive.specs.inner.Running.{Keeps, Ran, Stands, Turned};
+ghost use Rattle.pw_drive.specs.inner.Running.{Keeps, Ran, Replied, Stands, Turned};
 
 use crate::records::Records;
 use crate::walking::make_from;
 use pw_core::Ops;
 use pw_journal::Journal;
+use pw_model::Reply;
 use pw_plan::{MOST_OF_A_REQUEST, Plan, Request};
 use pw_regs::Registers;
 use pw_script::Line;
@@ -24,15 +25,15 @@ pub fn most_operations(plan: &Plan) -> u32
     plan.opening_bound().max(MOST_OF_A_REQUEST)
 }
 
-/// Makes a request: does its operations, and appends its entry. At a fault it sets back what the
-/// request changed, and answers how many of the operations were done.
+/// Makes a request: does its operations, appends its entry and says its reply. At a fault it sets back
+/// what the request changed, and answers how many of the operations were done.
 fn make<R: Registers>(
     plan: &Plan,
     records: &mut Records,
     request: Request,
     ops: &mut Ops,
     journal: &mut Journal<R>,
-) -> Result<(), u32>
+) -> Result<Reply, u32>
     requires has { Has plan.now request }
     requires stands { Stands plan.now journal.old.entries records.old }
     requires space { length journal.old.entries < journal.old.capacity }
@@ -42,6 +43,7 @@ fn make<R: Registers>(
     ensures room { ops.new.capacity ≡ ops.old.capacity }
     ensures turned { Turned plan.now request journal.old.entries journal.new.entries
         (registers_seen R.Registers journal.old.regs) (registers_seen R.Registers journal.new.regs) }
+    ensures replied { Replied plan.now journal.old.entries journal.new.entries result }
     ensures stands { OnOk result (Stands plan.now journal.new.entries records.new) }
     ensures keeps { Keeps plan.now journal.new.entries records.new }
     ensures stopped { OnErr result (is_some (fault_at journal.new.entries) ≡ true) }
@@ -51,13 +53,14 @@ fn make<R: Registers>(
     make_from(plan, records, &request, &place, ops, journal)
 }
 
-/// Makes the requests of the lines in their order, up to the first fault.
+/// Makes the requests of the lines in their order, up to the first fault, and keeps their replies.
 pub fn make_all<R: Registers>(
     plan: &Plan,
     records: &mut Records,
     lines: &[Line],
     ops: &mut Ops,
     journal: &mut Journal<R>,
+    kept: &mut Vec<Reply>,
 )
     requires has { AllByRecursion (λ (l : asked). Has plan.now l.request) lines.now }
     requires stands { Stands plan.now [] records.old }
@@ -65,14 +68,18 @@ pub fn make_all<R: Registers>(
     requires space { journal.old.capacity ≡ length lines.now }
     requires room { (q : request) → ops_bound plan.now q ≤ ops.old.capacity }
     requires few { ops.old.capacity < 2 ^ 32 }
+    requires unanswered { kept.old.items ≡ [] }
+    requires spare { length lines.now ≤ vec_capacity kept.old }
+    ensures replies { kept.new.items ≡ replies plan.now journal.new.entries }
     ensures space { journal.new.capacity ≡ journal.old.capacity }
     ensures keeps { Keeps plan.now journal.new.entries records.new }
     ensures ran { Ran plan.now lines.now journal.new.entries
         (registers_seen R.Registers journal.old.regs) (registers_seen R.Registers journal.new.regs) }
 {
     for line in lines {
-        if make(plan, records, line.request, ops, journal).is_err() {
-            return;
+        match make(plan, records, line.request, ops, journal) {
+            Ok(reply) => kept.push_reserved(reply),
+            Err(_) => return,
         }
     }
 }

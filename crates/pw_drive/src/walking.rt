@@ -4,12 +4,13 @@ ghost use Rattle.pw_model.specs.History.{Faultless, Legal, replay};
 ghost use Rattle.pw_regs.specs.Seen.{registers_seen};
 ghost use Rattle.pw_walker.specs.Places.{IsPlace, walk_of};
 ghost use Rattle.pw_drive.specs.Keeping.{AreRecordsOf, part_in};
-ghost use Rattle.pw_drive.specs.inner.Running.{Stands, Turned};
+ghost use Rattle.pw_drive.specs.inner.Running.{Replied, Stands, Turned};
 ghost use Rattle.pw_drive.specs.inner.Midway.{IsMidway, Undone};
 
 use crate::records::Records;
 use pw_core::Ops;
 use pw_journal::Journal;
+use pw_model::Reply;
 use pw_plan::{Plan, Request};
 use pw_regs::Registers;
 use pw_walker::{
@@ -17,8 +18,8 @@ use pw_walker::{
 };
 
 /// Makes a request from this place on: steps the records that come next, each where it lies, does the
-/// operations and appends the entry. At a fault it sets back what each record had, from the last to the
-/// first, and answers how many of the operations were done.
+/// operations, appends the entry and says the reply. At a fault it sets back what each record had, from the
+/// last to the first, and answers how many of the operations were done.
 pub fn make_from<R: Registers>(
     plan: &Plan,
     records: &mut Records,
@@ -26,7 +27,7 @@ pub fn make_from<R: Registers>(
     place: &Place,
     ops: &mut Ops,
     journal: &mut Journal<R>,
-) -> Result<(), u32>
+) -> Result<Reply, u32>
     requires legal { Legal plan.now journal.old.entries }
     requires faultless { Faultless journal.old.entries }
     requires of { AreRecordsOf plan.now records.old }
@@ -40,38 +41,48 @@ pub fn make_from<R: Registers>(
     ensures room { ops.new.capacity ≡ ops.old.capacity }
     ensures turned { Turned plan.now request.now journal.old.entries journal.new.entries
         (registers_seen R.Registers journal.old.regs) (registers_seen R.Registers journal.new.regs) }
+    ensures replied { Replied plan.now journal.old.entries journal.new.entries result }
     ensures stands { OnOk result (Stands plan.now journal.new.entries records.new) }
     ensures undone { OnErr result
         (Undone plan.now journal.old.entries journal.new.entries records.old records.new) }
 {
     match *place {
-        Place::Over { .. } => journal.append(0, *request, ops.list()),
+        Place::Over { reply } => match journal.append(0, *request, ops.list()) {
+            Ok(()) => Ok(reply),
+            Err(done) => Err(done),
+        },
         Place::Scaled { domain } => {
             let held = &mut records.domains[domain as usize];
             let (next, old) = step_domain(plan, request, held, ops);
-            if let Err(done) = make_from(plan, records, request, &next, ops, journal) {
-                unstep_domain(plan, &mut records.domains[domain as usize], old);
-                return Err(done);
+            match make_from(plan, records, request, &next, ops, journal) {
+                Ok(reply) => Ok(reply),
+                Err(done) => {
+                    unstep_domain(plan, &mut records.domains[domain as usize], old);
+                    Err(done)
+                }
             }
-            Ok(())
         }
         Place::Grouped { group } => {
             let held = &mut records.groups[group as usize];
             let (next, old) = step_group(plan, request, held, ops);
-            if let Err(done) = make_from(plan, records, request, &next, ops, journal) {
-                unstep_group(plan, &mut records.groups[group as usize], old);
-                return Err(done);
+            match make_from(plan, records, request, &next, ops, journal) {
+                Ok(reply) => Ok(reply),
+                Err(done) => {
+                    unstep_group(plan, &mut records.groups[group as usize], old);
+                    Err(done)
+                }
             }
-            Ok(())
         }
         Place::Climbing { node, climb } => {
             let held = &mut records.nodes[node as usize];
             let (next, old) = step_node(plan, request, node, climb, held, ops);
-            if let Err(done) = make_from(plan, records, request, &next, ops, journal) {
-                unstep_node(plan, &mut records.nodes[node as usize], old);
-                return Err(done);
+            match make_from(plan, records, request, &next, ops, journal) {
+                Ok(reply) => Ok(reply),
+                Err(done) => {
+                    unstep_node(plan, &mut records.nodes[node as usize], old);
+                    Err(done)
+                }
             }
-            Ok(())
         }
     }
 }

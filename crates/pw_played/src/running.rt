@@ -73,6 +73,7 @@ pub fn play_alone(
         opening,
         entries,
         regs,
+        ..
     } = serial(alloc, plan, script, regs).ok()?;
     told(alloc, &plan, opening, entries.as_slice(), &regs)
 }

@@ -1,34 +1,40 @@
-use Rattle.std.proofs.Common.{◌≤◌, ◌∙◌, arith, length, refl, sym, take_all}
+use Rattle.std.proofs.Common.{◌≡◌, ◌≤◌, ◌+◌, ◌++◌, ◌∷◌, ◌∙◌, [], List, ap, arith, length, refl, sym, take_all}
+use Rattle.pw_model.specs.declared.reply.Reply.{Reply}
+use Rattle.pw_model.specs.History.{replies}
 use Rattle.pw_regs.specs.Seen.{registers_seen}
-use Rattle.pw_drive.proofs.Lining.{ran_all, ran_so_far, runs_further, runs_none, where_err, where_ok}
+use Rattle.pw_drive.proofs.Entering.{replies_none}
+use Rattle.pw_drive.proofs.Lining.{ran_all, ran_so_far, runs_further, runs_none}
 use Rattle.pw_drive.proofs.running.make_all.Goals as goal
 
 pub loop-line-init : goal.loop-line-init
 loop-line-init g c = record {
   runs = rw c.requires.empty (runs_none c.args.plan.now c.args.records.now (registers_seen g.R.Registers c.args.journal.now.regs) c.requires.stands);
   space = c.requires.space;
+  answered = c.requires.unanswered ∙ sym (ap (replies c.args.plan.now) c.requires.empty ∙ replies_none c.args.plan.now);
+  count = let none : length c.args.kept.now.items ≡ 0 = ap length c.requires.unanswered in let size = c.args.kept.now.ok.0 in omega (arith, size, none);
+  spare = refl;
   room = refl;
 }
 
-pub returns-then-is_err-clause-ran : goal.returns-then-is_err-clause-ran
-returns-then-is_err-clause-ran g c =
+pub returns-in-Err-clause-ran : goal.returns-in-Err-clause-ran
+returns-in-Err-clause-ran g c =
     let seen = registers_seen g.R.Registers in
     let l = c.loop-line in
-    let fails = sym c.is_err.ensures.value ∙ c.if-is_err.true in
     ran_so_far c.args.plan.now c.args.lines.now l.line-index _ c.loop-line-test.true l.journal.entries c.make.new.journal.entries l.records
-    (seen c.args.journal.now.regs) (seen l.journal.regs) (seen c.make.new.journal.regs) l.invariant.runs c.make.ensures.turned
-    (where_err c.make.result fails c.make.ensures.stopped)
+    (seen c.args.journal.now.regs) (seen l.journal.regs) (seen c.make.new.journal.regs) l.invariant.runs c.make.ensures.turned c.in-Err.ensures.stopped
 
 pub loop-line-preserved : goal.loop-line-preserved
 loop-line-preserved g c =
     let seen = registers_seen g.R.Registers in
     let l = c.loop-line in
-    let goes = sym c.is_err.ensures.value ∙ c.if-is_err.false in
     record {
       runs = runs_further c.args.plan.now c.args.lines.now l.line-index _ c.loop-line-test.true l.journal.entries c.make.new.journal.entries l.records
           (seen c.args.journal.now.regs) (seen l.journal.regs) (seen c.make.new.journal.regs) l.invariant.runs c.make.ensures.turned
-          c.make.new.records (where_ok c.make.result goes c.make.ensures.stands);
+          c.make.new.records c.in-Ok.ensures.stands;
       space = c.make.ensures.space ∙ l.invariant.space;
+      answered = c.push_reserved.ensures.items ∙ ap (λ (rs : List Reply). rs ++ c.in-Ok.reply ∷ []) l.invariant.answered ∙ sym c.in-Ok.ensures.replied;
+      count = c.push_reserved.ensures.len ∙ ap (λ n. n + 1) l.invariant.count;
+      spare = c.push_reserved.ensures.capacity ∙ l.invariant.spare;
       room = c.make.ensures.room ∙ l.invariant.room;
     }
 
