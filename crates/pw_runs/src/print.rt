@@ -1,8 +1,8 @@
-ghost use Rattle.std.specs.Prelude.{◌≡◌, []};
+ghost use Rattle.std.specs.Prelude.{◌≡◌, [], IfSome};
 ghost use Rattle.std.specs.List.{AllByRecursion};
 ghost use Rattle.pw_base.specs.Outside.{KeepsSink};
 ghost use Rattle.pw_base.specs.Seen.{sink_seen, GrewByLine};
-ghost use Rattle.pw_model.specs.History.{StatesRequest, fault_at};
+ghost use Rattle.pw_model.specs.History.{StatesRequest, fault_at, replies};
 ghost use Rattle.pw_drive.specs.Driven.{stopped_at};
 ghost use Rattle.pw_load.specs.Seen.{outputs_seen};
 ghost use Rattle.pw_load.specs.Ends.{Ended};
@@ -12,9 +12,9 @@ ghost use Rattle.pw_runs.specs.Runs.{PrintsRun};
 use crate::refusal::say_register;
 use pw_base::Sink;
 use pw_load::{printed, without_memory};
-use pw_model::HistoryEntry;
+use pw_model::{HistoryEntry, Reply};
 use pw_plan::Plan;
-use pw_script::print_history;
+use pw_script::print_known;
 use pw_text::{Page, PrintFault};
 use std::alloc::Global;
 
@@ -63,26 +63,28 @@ pub fn end_failed<K: Sink>(
     5
 }
 
-/// Prints the history of a run on the output, and where a register failed, a line on the error output,
-/// by way of an empty page. It says the status.
+/// Prints the history of a run on the output, with its replies where they are known, and where a register
+/// failed, a line on the error output, by way of an empty page. It says the status.
 pub fn print_run<K: Sink>(
     alloc: Global,
     plan: &Plan,
     opening: Option<u32>,
     entries: &[HistoryEntry],
+    known: Option<&[Reply]>,
     page: &mut Page,
     out: &mut K,
     err: &mut K,
 ) -> u8
     requires empty { page.old ≡ [] }
     requires entries { AllByRecursion (StatesRequest plan.now) entries.now }
+    requires known { IfSome known (λ told. told.now ≡ replies plan.now entries.now) }
     ensures keeps_out { KeepsSink K.told K.faults out.old out.new }
     ensures keeps_err { KeepsSink K.told K.faults err.old err.new }
     ensures printed { Ended (PrintsRun plan.now opening entries.now
         (outputs_seen K.Sink out.old err.old) (outputs_seen K.Sink out.new err.new))
         (outputs_seen K.Sink out.old err.old) (outputs_seen K.Sink out.new err.new) result }
 {
-    let outcome = print_history(alloc, plan, opening, entries, out);
+    let outcome = print_known(alloc, plan, opening, entries, known, out);
     match failed_after(opening, entries) {
         None => printed(err, outcome),
         Some(done) => end_failed(page, err, done, outcome),

@@ -55,9 +55,13 @@ fn run<K: Sink, R: Registers>(
                 plan,
                 opening,
                 entries,
+                replies,
                 regs,
             } = driven;
-            let status = print_run(alloc, &plan, opening, entries.as_slice(), page, out, err);
+            let entries = entries.as_slice();
+            let replies = replies.as_slice();
+            let known = Some(replies);
+            let status = print_run(alloc, &plan, opening, entries, known, page, out, err);
             Outcome {
                 status,
                 regs,

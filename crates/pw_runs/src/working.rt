@@ -56,13 +56,22 @@ fn work<T: Threads + Wait + Sync, K: Sink, R: Registers + Send, G: Gate + Sync>(
             sealed: None,
         },
         Ok(Drove::Opening { done, plan, regs }) => Outcome {
-            status: print_run(alloc, &plan, Some(done), &[], page, out, err),
+            status: print_run(alloc, &plan, Some(done), &[], None, page, out, err),
             regs,
             sealed: None,
         },
         Ok(Drove::Closed(closed)) => {
             let (sealed, regs) = closed.into_parts();
-            let status = print_run(alloc, sealed.plan(), None, sealed.entries(), page, out, err);
+            let status = print_run(
+                alloc,
+                sealed.plan(),
+                None,
+                sealed.entries(),
+                None,
+                page,
+                out,
+                err,
+            );
             Outcome {
                 status,
                 regs,

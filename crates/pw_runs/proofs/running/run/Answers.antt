@@ -12,8 +12,12 @@ pub print_run-status-requires-clause-entries : goal.print_run-status-requires-cl
 print_run-status-requires-clause-entries g c =
     let driven = c.in-Ok.driven in
     let asked = requests_of c.args.script.now.lines in
-    rw (c.in-Ok.ensures.plan, c.as_slice.ensures) (entries_state c.args.plan asked driven.opening driven.entries
+    rw (c.in-Ok.ensures.plan, c.as_slice-entries.ensures) (entries_state c.args.plan asked driven.opening driven.entries
     (serial_lawful c.args.plan asked driven.opening driven.entries c.in-Ok.ensures.lawful))
+
+pub print_run-status-requires-clause-known : goal.print_run-status-requires-clause-known
+print_run-status-requires-clause-known g c =
+    rw (c.in-Ok.ensures.plan, c.as_slice-entries.ensures, c.as_slice-replies.ensures) c.in-Ok.ensures.replies
 
 pub returns-in-Err-clause-ran : goal.returns-in-Err-clause-ran
 returns-in-Err-clause-ran g c =
@@ -22,7 +26,7 @@ returns-in-Err-clause-ran g c =
 
 pub returns-in-Ok-clause-ran : goal.returns-in-Ok-clause-ran
 returns-in-Ok-clause-ran g c =
-    let printed = rw (c.in-Ok.ensures.plan, c.as_slice.ensures) at c.print_run-status.ensures.printed in
+    let printed = rw (c.in-Ok.ensures.plan, c.as_slice-entries.ensures) at c.print_run-status.ensures.printed in
     let driven = c.in-Ok.driven in
     let before = registers_seen g.R.Registers c.args.regs in
     let run : IsSerialRun c.args.plan c.args.script.now.lines driven.opening driven.entries before (registers_seen g.R.Registers driven.regs) =
