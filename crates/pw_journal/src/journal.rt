@@ -9,6 +9,7 @@ ghost use Rattle.pw_journal.specs.Journaled.{KeepsEntries};
 use crate::operating::operate_all;
 use crate::past::Past;
 use crate::recording::record_of;
+use crate::reported::ReportedRegisters;
 use acpi_values::Op;
 use pw_model::HistoryEntry;
 use pw_plan::Request;
@@ -207,5 +208,39 @@ impl<R: Registers> Journal<R> {
         ensures left { R.room self.old.regs ≤ R.room self.new.regs + length ops.now }
     {
         operate_all(&mut self.regs, ops)
+    }
+}
+
+impl Journal<ReportedRegisters> {
+    /// Takes the caller's word for the operations of a request that a seat made, and appends its entry:
+    /// all were done, or a register failed after so many that were. It takes no memory.
+    pub fn report(&mut self, seat: u32, request: Request, ops: &[Op], done: Result<(), u32>)
+        requires room { length self.old.entries < self.old.capacity }
+        requires faultless { Faultless self.old.entries }
+        requires few { length ops.now < 2 ^ 32 }
+        requires within { IfErr done (λ k. k < length ops.now) }
+        ensures capacity { self.new.capacity ≡ self.old.capacity }
+        ensures count { self.old.regs.faults ≤ self.new.regs.faults }
+        ensures done { OnOk done (self.new.regs ≡ record self.old.regs {
+          log = self.old.regs.log ++ ops.now;
+        }) }
+        ensures entry { OnOk done (
+            self.new.entries ≡ self.old.entries ++ entry_of seat request ∷ []) }
+        ensures part { IfErr done (λ k.
+            self.new.regs.log ≡ self.old.regs.log ++ take k ops.now) }
+        ensures fault { IfErr done (λ k.
+            self.new.entries ≡ self.old.entries ++ fault_entry seat request k ∷ []) }
+        ensures failed { OnErr done (Rose self.old.regs.faults self.new.regs.faults) }
+    {
+        match done {
+            Ok(()) => {
+                self.regs.report_done(ops);
+                self.note(seat, request, 0)
+            }
+            Err(k) => {
+                self.regs.report_failed(&ops[..k as usize]);
+                self.note(seat, request, k + 1)
+            }
+        }
     }
 }

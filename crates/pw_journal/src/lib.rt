@@ -6,7 +6,9 @@ mod journal;
 mod operating;
 mod past;
 mod recording;
+mod reported;
 
 pub use journal::Journal;
 pub use operating::operate_all;
 pub use pw_model::HistoryEntry;
+pub use reported::ReportedRegisters;

@@ -47,4 +47,13 @@ impl<T> Past<T> {
     {
         *self = self.with(element);
     }
+
+    /// Appends elements.
+    pub fn extend(&mut self, elements: &[T])
+        ensures { self.new.items ≡ self.old.items ++ elements.now }
+    {
+        for element in elements {
+            self.push(element);
+        }
+    }
 }

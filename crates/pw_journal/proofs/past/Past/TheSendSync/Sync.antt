@@ -1,7 +1,7 @@
 -- And threads may share it.
 use denote.RattleType.{RattleType}
-use denote.Param.Send.{IsSend, IsSync, owning_send, part_keyless, sendable}
-use Rattle.pw_journal.specs.contracts.past.Past.{the_row, the_type}
+use denote.Param.Send.{IsSend, IsSync, part_keyless}
+use Rattle.pw_journal.specs.contracts.past.Past.{the_row}
 
 keyless : (T : RattleType) → IsSend (the_row T)
 keyless T = record { owned = λ d vs. ((λ vss. (tt, ((λ uss. (tt, tt)), tt))), tt); leaving = λ k f vs. tt }
