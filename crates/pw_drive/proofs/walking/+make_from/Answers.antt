@@ -12,7 +12,8 @@ use Rattle.pw_walker.specs.declared.place.Place.TheVariants.{Scaled, Grouped, Cl
 use Rattle.pw_walker.specs.Places.{walk_of}
 use Rattle.pw_walker.specs.Records.{IsNode}
 use Rattle.pw_walker.specs.Undoing.{FitsLevel, FitsState, FitsVote, level_back, state_back, vote_back}
-use Rattle.pw_turns.proofs.Frames.{falls, rank}
+use Rattle.pw_turns.specs.HeldRecords.{rank}
+use Rattle.pw_turns.proofs.Frames.{falls}
 use Rattle.pw_drive.specs.Keeping.{part_in}
 use Rattle.pw_drive.proofs.Midway.{midway_on, ops_are, reply_is, told_after, undone_too}
 use Rattle.pw_drive.proofs.Requesting.{few_ops, replied_done, replied_stopped, stands_after, turned, undone_after}

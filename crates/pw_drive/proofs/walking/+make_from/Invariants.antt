@@ -1,4 +1,4 @@
-use Rattle.pw_turns.proofs.Frames.{rank}
+use Rattle.pw_turns.specs.HeldRecords.{rank}
 use Rattle.pw_drive.proofs.walking.+make_from.Given as goal
 
 abbrev pub decreases-make_from : goal.decreases-make_from
