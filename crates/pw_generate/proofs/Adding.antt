@@ -19,9 +19,9 @@ use Rattle.pw_model.specs.declared.reply.Reply.{Reply}
 use Rattle.pw_model.specs.declared.reply.Reply.TheVariants.{Entered, Running, Stands, NoState, Disabled, AboveLimit, NoTable, Unfit, TooSlow}
 use Rattle.pw_model.specs.declared.state.State.{State}
 use Rattle.pw_model.specs.States.{limit_of, opening}
-use Rattle.pw_model.specs.Answers.{accepted, after, answer, changed, if_accepted}
+use Rattle.pw_model.specs.Answers.{accepted, after, answer, changed}
 use Rattle.pw_model.specs.History.{Faultless, replay, replies, replies_from, request_of}
-use Rattle.pw_model.specs.Refusals.{above_limit, ask_refusal, domain_refusal, fixed_refusal, idle_refusal}
+use Rattle.pw_model.specs.Refusals.{ask_refusal, domain_refusal, fixed_refusal, idle_refusal}
 use Rattle.pw_model.specs.Refusals.{is_absent, is_unfit, refusal, refuse_if, state_refusal, ◌or_else◌}
 use Rattle.pw_generate.specs.Summary.{AddsUp, accepted_kind, container_states, is_entered, is_refused, is_running, is_stands, labelled, standings, summary_text}
 

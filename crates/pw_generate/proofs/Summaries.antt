@@ -6,7 +6,7 @@ use Rattle.std.proofs.lemmas.List.{length-map}
 use Rattle.std.proofs.lemmas.List.Sums.{sum_by-cons}
 use Rattle.pw_plan.specs.declared.plan.Plan.{Plan}
 use Rattle.pw_plan.specs.declared.request.Request.{Request}
-use Rattle.pw_plan.specs.declared.request.Request.TheVariants.{Idle, Wake, Perf, Throttle, PerfLimit, ThrottleLimit}
+use Rattle.pw_plan.specs.declared.request.Request.TheVariants.{Idle}
 use Rattle.pw_plan.specs.Requests.{Has}
 use Rattle.pw_model.specs.declared.entry.HistoryEntry.{HistoryEntry}
 use Rattle.pw_model.specs.declared.reply.Reply.{Reply}
@@ -18,7 +18,7 @@ use Rattle.pw_notice.specs.Limits.{made_from, own, requests}
 use Rattle.pw_script.specs.Lawful.{Lawful}
 use Rattle.pw_script.specs.Completing.{IsStart}
 use Rattle.pw_script.proofs.Firsts.{own-past}
-use Rattle.pw_script.proofs.Completions.{completed-run, entry_faultless, faultless}
+use Rattle.pw_script.proofs.Completions.{completed-run, faultless}
 use Rattle.pw_generate.specs.Summary.{is_entered, is_refused, is_running, is_stands, script_summary, summary_text}
 use Rattle.pw_generate.proofs.Apart.{IsOfKind, answer-kept}
 use Rattle.pw_generate.proofs.Orders.{SameOwn, same-made, same-total, total}

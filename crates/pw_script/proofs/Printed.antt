@@ -1,34 +1,23 @@
 -- The text of a history in its parts.
-use Rattle.std.proofs.Common.{◌≡◌, ◌∙◌, ◌≤◌, ◌+◌, ℕ, List, [], ◌∷◌, ◌++◌, map, take, drop, length, get_or, ap, sym, append_assoc, codes, decimal, arith, inl, inr, Option, Some, None, Bool, true, false, cond}
-use Rattle.std.specs.Prelude.{nat_lt}
+use Rattle.std.proofs.Common.{◌≡◌, ◌∙◌, ◌≤◌, ◌+◌, ℕ, List, [], ◌∷◌, ◌++◌, map, take, drop, length, get_or, ap, sym, append_assoc, codes, decimal, arith, Option, Some, None}
 use Rattle.std.specs.List.{AllByRecursion, flat_map}
-use Rattle.std.proofs.lemmas.Bool.{cases_lt}
-use Rattle.std.proofs.lemmas.List.{append-nil, get_or_past}
+use Rattle.std.proofs.lemmas.List.{append-nil}
 use Rattle.std.proofs.lemmas.List.Folds.{flat_map-map}
 use Rattle.std.proofs.lemmas.Grind.{flat_map-append}
-use Rattle.acpi_values.specs.declared.dependency.Coord.{Coord}
-use Rattle.acpi_values.specs.declared.dependency.Coord.TheVariants.{SwAll, SwAny, HwAll}
 use Rattle.acpi_values.specs.declared.operation.Op.{Op}
-use Rattle.pw_plan.specs.declared.domain.DomainKind.{DomainKind}
-use Rattle.pw_plan.specs.declared.domain.DomainKind.TheVariants as kinds
 use Rattle.pw_plan.specs.declared.plan.Plan.{Plan}
 use Rattle.pw_plan.specs.declared.request.Request.{Request}
-use Rattle.pw_plan.specs.declared.request.Request.TheVariants.{Idle, Wake, Perf, Throttle, PerfLimit, ThrottleLimit}
-use Rattle.pw_plan.specs.Groups.{no_domain, no_group}
-use Rattle.pw_plan.specs.Places.{domain_at, domain_of, group_at, group_of}
-use Rattle.pw_plan.specs.Requests.{Has, cpu_of, domain_bound, group_bound, ops_bound, set_count}
+use Rattle.pw_plan.specs.Requests.{cpu_of}
 use Rattle.pw_model.specs.declared.entry.HistoryEntry.{HistoryEntry}
 use Rattle.pw_model.specs.declared.state.State.{State}
 use Rattle.pw_model.specs.States.{opening}
-use Rattle.pw_model.specs.History.{StatesRequest, after_entry, request_of}
-use Rattle.pw_model.proofs.Staying.{request_has}
+use Rattle.pw_model.specs.History.{StatesRequest, after_entry}
 use Rattle.pw_text.specs.Lines.{text_of}
 use Rattle.pw_script.specs.Behind.{asked_head, behind}
 use Rattle.pw_script.specs.HistoryText.{asked_line, entry_lines, history_lines, history_text, lines_from, op_line, opened_lines, opening_lines, path_of, request_line, request_words}
 use Rattle.pw_script.specs.Openings.{opened, opening_line}
 use Rattle.pw_script.specs.inner.Behind.{head_text}
 use Rattle.pw_script.proofs.Spacing.{behind_append, behind_more, spaced_behind}
-use Rattle.pw_plan.proofs.RequestBounds.{members_few, set_few, domain_few, group_few}
 
 -- # Entries
 

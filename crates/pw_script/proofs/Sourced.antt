@@ -1,5 +1,5 @@
 -- Where an entry comes from.
-use Rattle.std.proofs.Common.{◌≡◌, ◌∙◌, ◌++◌, ◌∷◌, ◌<◌, ◌==◌, ℕ, suc, List, [], true, false, None, Option, Some, Result, Ok, Err, ap, ap₂}
+use Rattle.std.proofs.Common.{◌≡◌, ◌∙◌, ◌++◌, ◌∷◌, ◌==◌, ℕ, suc, List, [], true, false, None, Option, Some, Result, Ok, Err, ap, ap₂}
 use Rattle.std.proofs.Common.{append-nil, append_assoc, arith, drop, eq-eqb, get_or, length, length-append, ne_eqb, refl, subst, sym}
 use Rattle.std.specs.List.{AllByRecursion}
 use Rattle.acpi_values.specs.declared.idle.IdleTable.{IdleTable}

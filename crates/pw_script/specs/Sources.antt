@@ -1,5 +1,5 @@
 -- Which line of a script's text an entry of a history comes from.
-use Rattle.std.specs.Prelude.{◌≡◌, ◌<◌, ◌++◌, ◌∷◌, ℕ, List, [], length, Option, Some, None, Ok}
+use Rattle.std.specs.Prelude.{◌≡◌, ◌<◌, ◌++◌, ◌∷◌, ℕ, List, [], length, Some, None, Ok}
 use Rattle.acpi_values.specs.declared.idle.IdleTable.{IdleTable}
 use Rattle.pw_plan.specs.declared.domain.DomainKind.{DomainKind}
 use Rattle.pw_plan.specs.declared.domain.DomainKind.TheVariants as kinds

@@ -1,6 +1,5 @@
 use Rattle.std.proofs.Common.{◌≤◌, ◌∙◌, ◌++◌, List, length, ap, arith, sym}
 use Rattle.acpi_values.specs.declared.operation.Op.{Op}
-use Rattle.pw_base.specs.Room.{Bounded}
 use Rattle.pw_plan.specs.Places.{group_of}
 use Rattle.pw_plan.specs.Requests.{cpu_of}
 use Rattle.pw_script.proofs.Replied.{tells}

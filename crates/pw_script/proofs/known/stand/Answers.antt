@@ -1,9 +1,5 @@
-use Rattle.std.proofs.Common.{◌≡◌, ◌∙◌, ◌<◌, ◌++◌, ◌==◌, List, [], length, map, ap, arith, cond, sym}
+use Rattle.std.proofs.Common.{◌∙◌, ◌++◌, List, ap, arith, sym}
 use Rattle.acpi_values.specs.declared.operation.Op.{Op}
-use Rattle.pw_model.specs.Operations.{set_at, set_on}
-use Rattle.pw_plan.specs.Places.{domain_at, domain_of}
-use Rattle.pw_plan.specs.Requests.{cpu_of, domain_bound, ops_bound}
-use Rattle.pw_script.specs.inner.Known.{kind_of}
 use Rattle.pw_script.proofs.Replied.{tells_place}
 use Rattle.pw_script.proofs.known.stand.Goals as goal
 
