@@ -18,7 +18,7 @@ use Rattle.aml_block.specs.Written.{IsWritableBlock}
 use Rattle.acpi_space.specs.Lookup.{no_entry}
 use Rattle.acpi_space.specs.Namespace.{Entry, block_turn, entries_in, entries_of, width_among}
 use Rattle.acpi_space.specs.Places.{Place}
-use Rattle.acpi_space.specs.Steps.{Step, Sized, in_order, method_steps, steps_in, steps_of}
+use Rattle.acpi_space.specs.Steps.{Step, Sized, in_order, method_steps, passes, steps_in, steps_of}
 use Rattle.acpi_space.specs.inner.Naming.{named_by}
 use Rattle.acpi_space.proofs.TermSteps.{steps-layer}
 use Rattle.acpi_build.specs.Tables.{AreCountable, IsCountableThing}
@@ -41,9 +41,9 @@ method_counted : (width : Width) (scope : Place) (path : Option Path) → Counte
 method_counted width scope None = All-nil IsCountableStep
 method_counted width scope (Some path) = All-cons IsCountableStep _ [] tt (All-nil IsCountableStep)
 
-unread_counted : (width : Width) (scope : Place) (b : Bool) (path : Option Path) → Counted (cond b (method_steps width scope path) [])
-unread_counted width scope true path = method_counted width scope path
-unread_counted width scope false path = All-nil IsCountableStep
+unread_counted : (width : Width) (scope : Place) (b : Bool) (opcode : ℕ) (path : Option Path) → Counted (cond b (method_steps width scope path) (passes scope opcode ∷ []))
+unread_counted width scope true opcode path = method_counted width scope path
+unread_counted width scope false opcode path = All-cons IsCountableStep _ [] tt (All-nil IsCountableStep)
 
 layer_counted : (width : Width) (depth : ℕ) (t : Term) (l : Term-F Term) → out-Term t ≡ l → IsWritableLayer (AreWritable depth) l → Inside width depth → (scope : Place) (before : List Step)
     → Counted (steps_of width t scope before)
@@ -56,7 +56,7 @@ layer_counted width depth t (layer.Device path inner) is w inside scope before =
 layer_counted width depth t (layer.Processor path id block len inner) is w inside scope before =
     rw (steps-layer width t (layer.Processor path id block len inner) is) (All-cons IsCountableStep _ _ tt (inside inner w.3 _ _))
 layer_counted width depth t (layer.Unread opcode body) is w inside scope before =
-    rw (steps-layer width t (layer.Unread opcode body) is) (unread_counted width scope (opcode == METHOD_OP) (named_by body))
+    rw (steps-layer width t (layer.Unread opcode body) is) (unread_counted width scope (opcode == METHOD_OP) opcode (named_by body))
 layer_counted width depth t (layer.Alias source alias) is w inside scope before =
     rw (steps-layer width t (layer.Alias source alias) is) (All-cons IsCountableStep _ [] tt (All-nil IsCountableStep))
 layer_counted width depth t (layer.External path kind args) is w inside scope before = rw (steps-layer width t (layer.External path kind args) is) (All-nil IsCountableStep)
@@ -82,14 +82,14 @@ blocks_counted blocks (b ∷ bs) scope before w =
     let first = terms_counted (width_among blocks b) _ b.terms (All-head IsWritableBlock b bs w).terms (inside_counted (width_among blocks b) _) [] before in
     All-append IsCountableStep (block_turn blocks b scope before) _ first (blocks_counted blocks bs scope (before ++ block_turn blocks b scope before) (All-tail IsWritableBlock b bs w))
 
-one_counted : (place : Place) (o : Option Sized) (ss : List Step) → IsCountableGift o → All (λ (e : Entry). IsCountableThing e.object) (entries_of ss)
-    → All (λ (e : Entry). IsCountableThing e.object) (entries_of (record { place = place; given = o } ∷ ss))
-one_counted place None ss counted rest = rest
-one_counted place (Some x) ss counted rest = All-cons (λ (e : Entry). IsCountableThing e.object) _ (entries_of ss) counted rest
+one_counted : (place : Place) (o : Option Sized) (over : Option ℕ) (ss : List Step) → IsCountableGift o → All (λ (e : Entry). IsCountableThing e.object) (entries_of ss)
+    → All (λ (e : Entry). IsCountableThing e.object) (entries_of (record { place = place; given = o; passed = over } ∷ ss))
+one_counted place None over ss counted rest = rest
+one_counted place (Some x) over ss counted rest = All-cons (λ (e : Entry). IsCountableThing e.object) _ (entries_of ss) counted rest
 
 entries_counted : (steps : List Step) → Counted steps → All (λ (e : Entry). IsCountableThing e.object) (entries_of steps)
 entries_counted [] all = All-nil (λ (e : Entry). IsCountableThing e.object)
-entries_counted (s ∷ ss) all = one_counted s.place s.given ss (All-head IsCountableStep s ss all) (entries_counted ss (All-tail IsCountableStep s ss all))
+entries_counted (s ∷ ss) all = one_counted s.place s.given s.passed ss (All-head IsCountableStep s ss all) (entries_counted ss (All-tail IsCountableStep s ss all))
 
 pub blocks_countable : (blocks : List Block) → All IsWritableBlock blocks → AreCountable (entries_in blocks)
 unfolding no_entry

@@ -1,6 +1,7 @@
 pub mod Seen
 pub mod Trees
 pub mod Known
+pub mod Passing
 pub mod TermSteps
 pub mod Lookups
 mod Rising

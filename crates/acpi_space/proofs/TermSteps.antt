@@ -11,7 +11,7 @@ use Rattle.aml_block.specs.declared.term.Term.TheViews.{outs-Name, outs-Scope, o
 use Rattle.acpi_space.specs.Things.Thing.{data_object, device, processor, alias_of}
 use Rattle.acpi_space.specs.Places.{Place, place_of, opened}
 use Rattle.acpi_space.specs.inner.Naming.{named_by}
-use Rattle.acpi_space.specs.Steps.{Step, Turn, opens, gives, touched, method_steps, steps_layer, steps_of, steps_in}
+use Rattle.acpi_space.specs.Steps.{Step, Turn, opens, gives, passes, touched, method_steps, steps_layer, steps_of, steps_in}
 
 pub steps-layer : (width : Width) (t : Term) (l : Term-F Term) → out-Term t ≡ l → steps_of width t ≡ steps_layer width (map-Term Term Turn (steps_of width) l)
 unfolding steps_of
@@ -35,7 +35,7 @@ steps-Processor width path id block len terms scope before =
     ap (λ (t : Turn). t scope before) (steps-layer width (Processor path id block len terms) (layer.Processor path id block len terms) (outs-Processor path id block len terms))
 
 pub steps-Unread : (width : Width) (opcode : ℕ) (body : List ℕ) (scope : Place) (before : List Step) → steps_of width (Unread opcode body) scope before
-    ≡ (if opcode == 20 then method_steps width scope (named_by body) else [])
+    ≡ (if opcode == 20 then method_steps width scope (named_by body) else passes scope opcode ∷ [])
 steps-Unread width opcode body scope before = ap (λ (t : Turn). t scope before) (steps-layer width (Unread opcode body) (layer.Unread opcode body) (outs-Unread opcode body))
 
 pub steps-Alias : (width : Width) (source alias : Path) (scope : Place) (before : List Step)
@@ -55,7 +55,8 @@ pub steps-Region : (width : Width) (path : Path) (space offset len : ℕ) (scope
 steps-Region width path space offset len scope before =
     ap (λ (t : Turn). t scope before) (steps-layer width (Region path space offset len) (layer.Region path space offset len) (outs-Region path space offset len))
 
-pub unread_other : (width : Width) (opcode : ℕ) (body : List ℕ) (scope : Place) (before : List Step) → opcode ≢ 20 → steps_of width (Unread opcode body) scope before ≡ []
+pub unread_other : (width : Width) (opcode : ℕ) (body : List ℕ) (scope : Place) (before : List Step) → opcode ≢ 20
+    → steps_of width (Unread opcode body) scope before ≡ passes scope opcode ∷ []
 unread_other width opcode body scope before other = elim (eqb_tells opcode 20) [
   | inl same ↦ absurd (other same.1)
   | inr apart ↦ steps-Unread width opcode body scope before ∙ (rw apart.0 refl)

@@ -17,7 +17,7 @@ use Rattle.aml_block.specs.declared.term.Term.TheFolds.{fold-roll-Term, ind-Term
 use Rattle.aml_block.specs.Header.{own_width}
 use Rattle.acpi_space.specs.Namespace.{Entry, block_turn, dsdt_width, entries_in, entries_of, width_among}
 use Rattle.acpi_space.specs.Places.{Place}
-use Rattle.acpi_space.specs.Steps.{Sized, Step, Turn, in_order, method_steps, steps_in, steps_layer, steps_of}
+use Rattle.acpi_space.specs.Steps.{Sized, Step, Turn, in_order, method_steps, passes, steps_in, steps_layer, steps_of}
 use Rattle.acpi_space.specs.Widths.{AreOfWidthBy, HaveNoDsdt, IsWidthBy}
 use Rattle.acpi_space.specs.inner.Naming.{named_by}
 
@@ -46,9 +46,10 @@ method_gives : (P : Width → Type 0) (width : Width) (scope : Place) (path : Op
 method_gives P width scope None p = none_given P
 method_gives P width scope (Some path) p = All-cons (Gives P) _ [] p (none_given P)
 
-unread_gives : (P : Width → Type 0) (width : Width) (scope : Place) (b : Bool) (path : Option Path) → P width → AllGive P (cond b (method_steps width scope path) [])
-unread_gives P width scope true path p = method_gives P width scope path p
-unread_gives P width scope false path p = none_given P
+unread_gives : (P : Width → Type 0) (width : Width) (scope : Place) (b : Bool) (opcode : ℕ) (path : Option Path) → P width
+    → AllGive P (cond b (method_steps width scope path) (passes scope opcode ∷ []))
+unread_gives P width scope true opcode path p = method_gives P width scope path p
+unread_gives P width scope false opcode path p = All-cons (Gives P) _ [] tt (none_given P)
 
 layer_gives : (P : Width → Type 0) (width : Width) → P width → (y : Term-F ((t : Term) × TermGives P width t)) (scope : Place) (before : List Step)
     → AllGive P (steps_layer width (map-Term Term Turn (steps_of width) (map-Term ((t : Term) × TermGives P width t) Term (λ e. e.0) y)) scope before)
@@ -56,7 +57,7 @@ layer_gives P width p (layer.Name path value) scope before = All-cons (Gives P) 
 layer_gives P width p (layer.Scope path inner) scope before = All-cons (Gives P) _ _ tt (turns_give P width inner _ _)
 layer_gives P width p (layer.Device path inner) scope before = All-cons (Gives P) _ _ p (turns_give P width inner _ _)
 layer_gives P width p (layer.Processor path id block len inner) scope before = All-cons (Gives P) _ _ p (turns_give P width inner _ _)
-layer_gives P width p (layer.Unread opcode body) scope before = unread_gives P width scope (opcode == METHOD_OP) (named_by body) p
+layer_gives P width p (layer.Unread opcode body) scope before = unread_gives P width scope (opcode == METHOD_OP) opcode (named_by body) p
 layer_gives P width p (layer.Alias source alias) scope before = All-cons (Gives P) _ [] p (none_given P)
 layer_gives P width p (layer.External path kind args) scope before = none_given P
 layer_gives P width p (layer.Mutex path flags) scope before = none_given P
@@ -85,14 +86,14 @@ blocks_give P blocks [] p scope before = none_given P
 blocks_give P blocks (b ∷ bs) p scope before =
     All-append (Gives P) (block_turn blocks b scope before) _ (block_gives P blocks b (p b) scope before) (blocks_give P blocks bs p scope (before ++ block_turn blocks b scope before))
 
-one_entry : (P : Width → Type 0) (place : Place) (o : Option Sized) (ss : List Step) → IfSome o (λ (x : Sized). P x.width) → All (λ (e : Entry). P e.width) (entries_of ss)
-    → All (λ (e : Entry). P e.width) (entries_of (record { place = place; given = o } ∷ ss))
-one_entry P place None ss p rest = rest
-one_entry P place (Some x) ss p rest = All-cons (λ (e : Entry). P e.width) _ (entries_of ss) p rest
+one_entry : (P : Width → Type 0) (place : Place) (o : Option Sized) (over : Option ℕ) (ss : List Step) → IfSome o (λ (x : Sized). P x.width) → All (λ (e : Entry). P e.width) (entries_of ss)
+    → All (λ (e : Entry). P e.width) (entries_of (record { place = place; given = o; passed = over } ∷ ss))
+one_entry P place None over ss p rest = rest
+one_entry P place (Some x) over ss p rest = All-cons (λ (e : Entry). P e.width) _ (entries_of ss) p rest
 
 entries_give : (P : Width → Type 0) (steps : List Step) → AllGive P steps → All (λ (e : Entry). P e.width) (entries_of steps)
 entries_give P [] all = All-nil (λ (e : Entry). P e.width)
-entries_give P (s ∷ ss) all = one_entry P s.place s.given ss (All-head (Gives P) s ss all) (entries_give P ss (All-tail (Gives P) s ss all))
+entries_give P (s ∷ ss) all = one_entry P s.place s.given s.passed ss (All-head (Gives P) s ss all) (entries_give P ss (All-tail (Gives P) s ss all))
 
 -- # Widths
 

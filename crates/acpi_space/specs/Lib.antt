@@ -4,6 +4,7 @@ pub mod Things
 pub mod MethodNames
 pub mod Steps
 pub mod Namespace
+pub mod Passed
 pub mod Widths
 pub mod Standing
 pub mod Lookup

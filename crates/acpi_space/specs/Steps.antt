@@ -1,6 +1,6 @@
--- What terms do in the namespace, one step after the other: each step opens a place, or places an object at it
--- (ACPI 6.5, 5.3 and 20.2.5).
-use Rattle.std.specs.Prelude.{◌==◌, List, [], ◌∷◌, ◌++◌, map, Option, Some, None, if◌then◌else◌}
+-- What terms do in the namespace, one step after the other: each step opens a place, places an object at it, or passes over a
+-- term that stands in it (ACPI 6.5, 5.3 and 20.2.5).
+use Rattle.std.specs.Prelude.{◌==◌, ℕ, List, [], ◌∷◌, ◌++◌, map, Option, Some, None, if◌then◌else◌}
 use Rattle.aml_data.specs.declared.data.Width.{Width}
 use Rattle.aml_data.specs.declared.path.Path.{Path}
 use Rattle.aml_block.specs.declared.opcode.TheConstants.{METHOD_OP}
@@ -16,18 +16,23 @@ pub record Sized : Type 0 where
   pub object : Thing
   pub width : Width
 
--- a place, and what is placed there, or nothing where it is only opened
+-- a place, and what is placed there, or the opcode of a term that stands in it and is passed over; neither where it is only
+-- opened
 pub record Step : Type 0 where
   pub place : Place
   pub given : Option Sized
+  pub passed : Option ℕ
 
 abbrev pub opens : Place → Step
-opens place = record { place = place; given = None }
+opens place = record { place = place; given = None; passed = None }
 
 abbrev pub gives : Width → Place → Thing → Step
-gives width place object = record { place = place; given = Some (record { object = object; width = width }) }
+gives width place object = record { place = place; given = Some (record { object = object; width = width }); passed = None }
 
--- the places that were opened or given an object
+abbrev pub passes : Place → ℕ → Step
+passes place opcode = record { place = place; given = None; passed = Some opcode }
+
+-- the places that were opened or given an object; one in which a term is passed over is among them, or the root
 abbrev pub touched : List Step → List Place
 touched steps = map (λ (s : Step). s.place) steps
 
@@ -50,14 +55,16 @@ method_steps width scope None = []
 method_steps width scope (Some path) = gives width (place_of scope path) method ∷ []
 
 -- One layer of a term, the terms in which are turns already. Names, devices, processors, methods and aliases are placed,
--- a device or a processor before its content; a Scope opens a place; other terms do nothing.
+-- a device or a processor before its content; a Scope opens a place; a term whose body isn't read is passed over; other terms
+-- do nothing.
 abbrev pub steps_layer : Width → Term-F Turn → Turn
 steps_layer width (layer.Name path value) scope before = gives width (place_of scope path) (data_object value) ∷ []
 steps_layer width (layer.Scope path inside) scope before = then_inside (opens (opened (touched before) scope path)) inside before
 steps_layer width (layer.Device path inside) scope before = then_inside (gives width (place_of scope path) device) inside before
 steps_layer width (layer.Processor path id block len inside) scope before = then_inside (gives width (place_of scope path) processor) inside
     before
-steps_layer width (layer.Unread opcode body) scope before = if opcode == METHOD_OP then method_steps width scope (named_by body) else []
+steps_layer width (layer.Unread opcode body) scope before =
+    if opcode == METHOD_OP then method_steps width scope (named_by body) else passes scope opcode ∷ []
 steps_layer width (layer.Alias source alias) scope before = gives width (place_of scope alias) (alias_of source) ∷ []
 steps_layer width other scope before = []
 

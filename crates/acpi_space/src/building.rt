@@ -2,24 +2,26 @@
 
 ghost use Rattle.std.specs.Prelude.{◌≡◌, ◌<◌, [], ◌∷◌, ◌++◌, List, length, get_or, IfOk, OnOk};
 ghost use Rattle.acpi_space.specs.Places.{place_of, opened};
-ghost use Rattle.acpi_space.specs.Steps.{Step as step_of, opens, gives, touched};
+ghost use Rattle.acpi_space.specs.Steps.{Step as step_of, opens, gives, passes, touched};
 ghost use Rattle.acpi_space.specs.Things.{thing};
 ghost use Rattle.acpi_space.specs.inner.Trees.{IsAt, IsGrown};
 ghost use Rattle.acpi_space.specs.inner.Standing.{Does, IsNoted, StandsIn, told_at};
 
 use crate::fault::SpaceFault;
 use crate::object::{Object, Placed};
+use crate::passed::Passed;
 use crate::tree::Tree;
 use aml_data::{Path, Seg, Width};
 use pw_base::Memory;
 use std::alloc::Global;
 
-/// The places that are known, what is placed so far, and which object stands at a place.
+/// The places that are known, what is placed so far, which object stands at a place, and what was passed over.
 #[derive(Drop)]
 pub(crate) struct Building<'a> {
     pub(crate) tree: Tree,
     pub(crate) placed: Vec<Placed<'a>>,
     pub(crate) index: Vec<Option<usize>>,
+    pub(crate) passed: Vec<Passed>,
 }
 
 impl<'a> Building<'a> {
@@ -31,6 +33,7 @@ impl<'a> Building<'a> {
             tree: Tree::new(alloc),
             placed: Vec::new(alloc),
             index: Vec::new(alloc),
+            passed: Vec::new(alloc),
         }
     }
 
@@ -100,6 +103,21 @@ impl<'a> Building<'a> {
         let name = self.tree.open(scope, path)?;
         self.tree.facts();
         Ok(name)
+    }
+
+    /// Passes over a term of this opcode in a scope.
+    pub(crate) fn pass(&mut self, scope: usize, opcode: u16) -> Result<(), SpaceFault>
+        requires { scope < length self.old.tree }
+        ensures grown { OnOk result (IsGrown self.old.tree self.new.tree) }
+        ensures done { Does self.old result self.new
+            (λ _. passes (get_or self.old.tree scope []) opcode ∷ []) }
+    {
+        self.tree.facts();
+        self.passed.push(Passed {
+            name: scope,
+            opcode,
+        })?;
+        Ok(())
     }
 }
 

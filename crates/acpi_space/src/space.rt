@@ -1,19 +1,19 @@
 ghost use Rattle.std.specs.Prelude.{◌≡◌, ◌⊎◌, ◌≤◌, ◌<◌, [], ◌∷◌, ◌++◌, length, map, get_or, Contains, IfOk, IfErr, MatchOption};
 ghost use Rattle.std.specs.List.{All, Any};
 ghost use Rattle.acpi_space.specs.Distinct.{IsDistinct};
-ghost use Rattle.acpi_space.specs.Namespace.{Entry as entry_of, dsdt_width, entries_in, places_of};
+ghost use Rattle.acpi_space.specs.Namespace.{Entry as entry_of, entries_in, places_of};
 ghost use Rattle.acpi_space.specs.Lookup.{label_around};
 ghost use Rattle.acpi_space.specs.Standing.{AreObjects, IsFaultIn, IsFound};
 ghost use Rattle.acpi_space.specs.inner.Standing.{entries_at, IsIndex};
 
+use crate::blocks::place_blocks;
 use crate::building::{Building, number_at};
 use crate::fault::SpaceFault;
 use crate::labels::{around_places, at_objects};
 use crate::object::Placed;
-use crate::terms::place_terms;
 use crate::tree::Tree;
-use aml_block::{Block, Signature};
-use aml_data::{FullPath, Seg, Width};
+use aml_block::Block;
+use aml_data::{FullPath, Seg};
 use pw_base::{Memory, Room};
 use std::alloc::Global;
 use std::marker::Model;
@@ -47,18 +47,6 @@ impl<'a> Model for Space<'a> {
     ghost invariant = { λ s. IsIndex s.tree s.placed.items s.index.items };
 }
 
-/// The width of the first block that is a DSDT.
-fn dsdt_width(blocks: &[Block]) -> Option<Width>
-    ensures { result ≡ dsdt_width blocks.now }
-{
-    for block in blocks {
-        if block.header.signature == Signature::Dsdt {
-            return Some(block.own_width());
-        }
-    }
-    None
-}
-
 /// The object that stands at a place.
 fn object_at<'s, 'a>(
     tree: &Tree,
@@ -86,18 +74,12 @@ impl<'a> Space<'a> {
         ensures distinct { IfOk result (λ space. IsDistinct (places_of space)) }
         ensures fault { IfErr result (λ f. IsFaultIn f blocks.now) }
     {
-        let dsdt = dsdt_width(blocks);
-        let mut building = Building::new(alloc);
-        for block in blocks {
-            building.tree.facts();
-            let width = dsdt.unwrap_or(block.own_width());
-            place_terms(alloc, &mut building, block.terms.as_slice(), 0, width)?;
-        }
         let Building {
             tree,
             placed,
             index,
-        } = building;
+            passed: _passed,
+        } = place_blocks(alloc, blocks)?;
         Ok(Space {
             tree,
             placed,

@@ -166,7 +166,7 @@ fn place_term<'a>(
         }
         Term::Unread { opcode, body } => {
             if *opcode != METHOD_OP {
-                return Ok(());
+                return building.pass(scope, *opcode);
             }
             place_method(alloc, building, body.as_slice(), scope, width)
         }

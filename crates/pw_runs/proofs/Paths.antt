@@ -20,7 +20,7 @@ use Rattle.acpi_values.specs.declared.performance.Cpc.{Cpc}
 use Rattle.acpi_space.specs.Lookup.{entry_in, no_entry, path_in}
 use Rattle.acpi_space.specs.Namespace.{Entry, block_turn, entries_in, entries_of, width_among}
 use Rattle.acpi_space.specs.Places.{Place, found, is_known, is_single, opened, place_of, up}
-use Rattle.acpi_space.specs.Steps.{Step, Sized, in_order, method_steps, steps_in, steps_of, touched}
+use Rattle.acpi_space.specs.Steps.{Step, Sized, in_order, method_steps, passes, steps_in, steps_of, touched}
 use Rattle.acpi_space.specs.Things.{Thing}
 use Rattle.acpi_space.specs.Things.Thing.{data_object, device, processor, method, alias_of}
 use Rattle.acpi_space.specs.inner.Naming.{named_by}
@@ -103,9 +103,9 @@ method_placed : (width : Width) (scope : Place) (path : Option Path) → ArePlac
 method_placed width scope None = tt
 method_placed width scope (Some path) = (tt, tt)
 
-unread_placed : (width : Width) (scope : Place) (b : Bool) (path : Option Path) → ArePlaced (cond b (method_steps width scope path) [])
-unread_placed width scope true path = method_placed width scope path
-unread_placed width scope false path = tt
+unread_placed : (width : Width) (scope : Place) (b : Bool) (opcode : ℕ) (path : Option Path) → ArePlaced (cond b (method_steps width scope path) (passes scope opcode ∷ []))
+unread_placed width scope true opcode path = method_placed width scope path
+unread_placed width scope false opcode path = (tt, tt)
 
 layer_placed : (width : Width) (depth : ℕ) (t : Term) (l : Term-F Term) → out-Term t ≡ l → IsWritableLayer (AreWritable depth) l → Inside width depth
     → (scope : Place) → OfSegments scope → (before : List Step) → ArePlaced (steps_of width t scope before)
@@ -117,7 +117,7 @@ layer_placed width depth t (layer.Device path inner) is w inside scope a before 
 layer_placed width depth t (layer.Processor path id block len inner) is w inside scope a before =
     rw (steps-layer width t (layer.Processor path id block len inner) is) (led scope path a w.0.segments, inside inner w.3 _ (led scope path a w.0.segments) _)
 layer_placed width depth t (layer.Unread opcode body) is w inside scope a before =
-    rw (steps-layer width t (layer.Unread opcode body) is) (unread_placed width scope (opcode == METHOD_OP) (named_by body))
+    rw (steps-layer width t (layer.Unread opcode body) is) (unread_placed width scope (opcode == METHOD_OP) opcode (named_by body))
 layer_placed width depth t (layer.Alias source alias) is w inside scope a before = rw (steps-layer width t (layer.Alias source alias) is) (tt, tt)
 layer_placed width depth t (layer.External path kind args) is w inside scope a before = rw (steps-layer width t (layer.External path kind args) is) tt
 layer_placed width depth t (layer.Mutex path flags) is w inside scope a before = rw (steps-layer width t (layer.Mutex path flags) is) tt
@@ -145,14 +145,14 @@ blocks_placed blocks (b ∷ bs) before w =
 abbrev IsPlacedEntry : Entry → Type 0
 IsPlacedEntry e = IsPlaced e.path e.object
 
-one_placed : (place : Place) (o : Option Sized) (ss : List Step) → IsPlacedGift place o → AllByRecursion IsPlacedEntry (entries_of ss)
-    → AllByRecursion IsPlacedEntry (entries_of (record { place = place; given = o } ∷ ss))
-one_placed place None ss placed rest = rest
-one_placed place (Some x) ss placed rest = (placed, rest)
+one_placed : (place : Place) (o : Option Sized) (over : Option ℕ) (ss : List Step) → IsPlacedGift place o → AllByRecursion IsPlacedEntry (entries_of ss)
+    → AllByRecursion IsPlacedEntry (entries_of (record { place = place; given = o; passed = over } ∷ ss))
+one_placed place None over ss placed rest = rest
+one_placed place (Some x) over ss placed rest = (placed, rest)
 
 entries_placed : (steps : List Step) → ArePlaced steps → AllByRecursion IsPlacedEntry (entries_of steps)
 entries_placed [] all = tt
-entries_placed (s ∷ ss) all = one_placed s.place s.given ss all.0 (entries_placed ss all.1)
+entries_placed (s ∷ ss) all = one_placed s.place s.given s.passed ss all.0 (entries_placed ss all.1)
 
 entry_placed : (es : List Entry) → AllByRecursion IsPlacedEntry es → (k : ℕ) → IsPlacedEntry (entry_in es k)
 unfolding no_entry

@@ -1,13 +1,16 @@
--- What stands after steps: the places that are known, as a tree, and what is placed, by the number of its place.
+-- What stands after steps: the places that are known, as a tree, and what is placed or passed over, by the number of its place.
 use Rattle.std.specs.Prelude.{◌≡◌, ◌≢◌, ◌<◌, ℕ, List, [], ◌++◌, length, map, get_or, Option, Some, None, Result, MatchResult}
 use Rattle.acpi_space.specs.declared.object.Placed.{Placed}
 use Rattle.acpi_space.specs.declared.building.Building.{Building}
 use Rattle.acpi_space.specs.declared.fault.SpaceFault.{SpaceFault}
+use Rattle.acpi_space.specs.declared.passed.Passed.{Passed}
+use Rattle.acpi_space.specs.declared.passed.PassedOver.{PassedOver}
 use Rattle.acpi_space.specs.Distinct.{IsDistinct}
 use Rattle.acpi_space.specs.Places.{Place}
 use Rattle.acpi_space.specs.Things.{thing}
 use Rattle.acpi_space.specs.Steps.{Step, touched}
 use Rattle.acpi_space.specs.Namespace.{Entry, entries_of, places_of}
+use Rattle.acpi_space.specs.Passed.{passed_of}
 use Rattle.acpi_space.specs.Standing.{IsFaultOf}
 use Rattle.acpi_space.specs.inner.Trees.{Knows}
 
@@ -36,9 +39,21 @@ pub record Stands (places : List Place) (placed : List Placed) (index : List (Op
   pub indexed : IsIndex places placed index
   pub distinct : IsDistinct (places_of (entries_of steps))
 
+-- a term that was passed over, in the place of its number
+abbrev pub over_in : List Place → Passed → PassedOver
+over_in places p = record { path = record { segs = get_or places p.name [] }; opcode = p.opcode }
+
+abbrev pub over_at : List Place → List Passed → List PassedOver
+over_at places passed = map (over_in places) passed
+
+-- these terms are what the steps pass over
+pub record ArePassed (places : List Place) (passed : List Passed) (steps : List Step) : Type 0 where
+  pub within : (i : ℕ) (d : Passed) → i < length passed → (get_or passed i d).name < length places
+  pub told : over_at places passed ≡ passed_of steps
+
 -- this stands in what was built so far
 abbrev pub StandsIn : Building → List Step → Type 0
-StandsIn b steps = Stands b.tree b.placed.items b.index.items steps
+StandsIn b steps = Stands b.tree b.placed.items b.index.items steps × ArePassed b.tree b.passed.items steps
 
 -- what was done to what stood after any steps is a turn, or the fault of the turn
 abbrev pub Does : {A : Type 0} → Building → Result A SpaceFault → Building → (List Step → List Step) → Type 0

@@ -125,7 +125,7 @@ place_term-returns-in-Region-clause-done t c before stands =
 pub place_term-returns-then-opcode-ne-METHOD_OP-clause-done : goal.place_term-returns-then-opcode-ne-METHOD_OP-clause-done
 place_term-returns-then-opcode-ne-METHOD_OP-clause-done t c before stands =
     let scope = get_or c.args.building.now.tree c.args.scope [] in
-    rw (c.in-Unread.is, unread_other c.args.width c.in-Unread.opcode c.in-Unread.body scope before c.if-opcode-ne-METHOD_OP.true, append-nil before) stands
+    rw (c.in-Unread.is, unread_other c.args.width c.in-Unread.opcode c.in-Unread.body scope before c.if-opcode-ne-METHOD_OP.true) (c.pass.ensures.done before stands)
 
 pub place_term-returns-else-opcode-ne-METHOD_OP-clause-done : goal.place_term-returns-else-opcode-ne-METHOD_OP-clause-done
 place_term-returns-else-opcode-ne-METHOD_OP-clause-done t c before stands =

@@ -10,7 +10,7 @@ use Rattle.acpi_space.specs.Namespace.{dsdt_width, width_among, block_turn}
 use Rattle.acpi_space.specs.Standing.{IsFaultOf}
 use Rattle.acpi_space.specs.inner.Standing.{StandsIn}
 use Rattle.acpi_space.proofs.Known.{more_turns, turn_fault}
-use Rattle.acpi_space.proofs.space.Space.build.Goals as goal
+use Rattle.acpi_space.proofs.blocks.place_blocks.Goals as goal
 
 -- what was done is the turn of the block
 block_done : (blocks : List Block) (block : Block) (width : Width) (terms : List Term) (scope : Place) (before : List Step) → width ≡ width_among blocks block → terms ≡ block.terms → scope ≡ []
