@@ -164,7 +164,7 @@ impl<R: Registers, K: Keeps> Coordinator<R, K> {
     }
 
     /// Takes the journal for a request whose records are held; or gives up.
-    fn lead_in(
+    pub(crate) fn lead_in(
         &self,
         raw: &mut TableSeat<R>,
         seen: &mut u64,

@@ -13,7 +13,7 @@ ghost use Rattle.pw_turns.specs.Views.{is_met, view_in};
 ghost use Rattle.pw_turns.specs.Went.{Began, TurnedAt, Walked, Went, own_in};
 
 use crate::contents::step_content;
-use crate::coordinator::{Coordinator, Seat, TableSeat, out};
+use crate::coordinator::{Coordinator, Seat, TableSeat, out, seated};
 use crate::held_record::{HeldRecord, Reached};
 use crate::keeping::Keeps;
 use crate::two_steps::{Begun, NotBegun, RecordRoom};
@@ -76,7 +76,7 @@ impl<R: Registers, K: Keeps> Coordinator<R, K> {
     }
 
     /// Takes the journal for a request whose records are held, once no other seat has it; or gives up.
-    fn lead_on<W: Wait>(
+    pub(crate) fn lead_on<W: Wait>(
         &self,
         rt: &W,
         raw: &mut TableSeat<R>,
@@ -199,20 +199,12 @@ impl<R: Registers, K: Keeps> Coordinator<R, K> {
             mut met,
             mut ops,
         } = seat;
-        let RecordRoom { mut records } = room;
+        let RecordRoom { records: mut held } = room;
         let mut raw: TableSeat<R> = out(&mut badge);
         ops.clear();
         let place = begin(&self.plan, &request, &mut ops);
         match self.reach_on(
-            rt,
-            &mut raw,
-            &mut met,
-            &mut ops,
-            &mut records,
-            &mut seen,
-            number,
-            request,
-            place,
+            rt, &mut raw, &mut met, &mut ops, &mut held, &mut seen, number, request, place,
         ) {
             Ok(Reached { reply, journal }) => Ok(Begun {
                 raw,
@@ -221,27 +213,17 @@ impl<R: Registers, K: Keeps> Coordinator<R, K> {
                 seen,
                 met,
                 ops,
-                records,
+                records: held,
                 request,
                 reply,
                 journal,
             }),
             Err(told) => {
                 self.wake(self.counts.records as usize + 1);
-                self.give_back::<true>(&mut raw, &mut records, request, told.as_try());
-                let seat = Seat {
-                    badge: raw.into_badge(),
-                    number,
-                    parts,
-                    seen,
-                    met,
-                    ops,
-                };
-                Err(NotBegun {
-                    seat,
-                    room: RecordRoom { records },
-                    told,
-                })
+                self.give_back::<true>(&mut raw, &mut held, request, told.as_try());
+                let seat = seated(raw, number, parts, seen, met, ops);
+                let room = RecordRoom { records: held };
+                Err(NotBegun { seat, room, told })
             }
         }
     }

@@ -39,7 +39,8 @@ impl<R: Registers, K: Keeps> Coordinator<R, K> {
         requires number { (number ≡ raw.old.me.0.view.number) × (number < 65536) }
         ensures id { raw.new.table_id ≡ raw.old.table_id }
         ensures view { let given = given_of R.Registers self.now.table.shared.key in
-            MatchResult result (λ content. TookOut given _request (mine raw.old.me) turn content (mine raw.new.me))
+            MatchResult result
+            (λ content. TookOut given _request (mine raw.old.me) turn content (mine raw.new.me))
             (λ holder. MetRecord Q.gives_up given _request (mine raw.old.me) turn holder (mine raw.new.me)) }
         ensures own { MatchResult result (λ _. TookOne turn _request raw.old.me.0.own raw.new.me.0.own)
             (λ _. OneMore raw.old.me.0.own (find_record_held turn _request Q.gives_up) raw.new.me.0.own) }
@@ -74,7 +75,8 @@ impl<R: Registers, K: Keeps> Coordinator<R, K> {
         requires number { (number ≡ raw.old.me.0.view.number) × (number < 65536) }
         ensures id { raw.new.table_id ≡ raw.old.table_id }
         ensures view { let given = given_of R.Registers self.now.table.shared.key in
-            MatchResult result (λ content. TookOut given request (mine raw.old.me) turn content (mine raw.new.me))
+            MatchResult result
+            (λ content. TookOut given request (mine raw.old.me) turn content (mine raw.new.me))
             (λ holder. MetRecord true given request (mine raw.old.me) turn holder (mine raw.new.me)) }
         ensures own { MatchResult result (λ _. TookOne turn request raw.old.me.0.own raw.new.me.0.own)
             (λ _. OneMore raw.old.me.0.own (find_record_held turn request true) raw.new.me.0.own) }

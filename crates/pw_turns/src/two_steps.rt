@@ -9,7 +9,7 @@ ghost use Rattle.pw_journal.specs.Reported.{ReportedHeld};
 ghost use Rattle.pw_turns.specs.Views.{view_in};
 ghost use Rattle.pw_turns.specs.Went.{Began, Ended, OneMore, Went, own_in};
 
-use crate::coordinator::{Coordinator, Seat, TableSeat, out};
+use crate::coordinator::{Coordinator, Seat, TableSeat, out, seated};
 use crate::held_record::{HeldRecord, Reached};
 use crate::keeping::Keeps;
 use crate::requests::{Try, listed};
@@ -120,18 +120,12 @@ impl<R: Registers, K: Keeps> Coordinator<R, K> {
             mut met,
             mut ops,
         } = seat;
-        let RecordRoom { mut records } = room;
+        let RecordRoom { records: mut held } = room;
         let mut raw: TableSeat<R> = out(&mut badge);
         ops.clear();
         let place = begin(&self.plan, &request, &mut ops);
         match self.reach(
-            &mut raw,
-            &mut ops,
-            &mut records,
-            &mut seen,
-            number,
-            request,
-            place,
+            &mut raw, &mut ops, &mut held, &mut seen, number, request, place,
         ) {
             Ok(Reached { reply, journal }) => Ok(Begun {
                 raw,
@@ -140,29 +134,19 @@ impl<R: Registers, K: Keeps> Coordinator<R, K> {
                 seen,
                 met,
                 ops,
-                records,
+                records: held,
                 request,
                 reply,
                 journal,
             }),
             Err(told) => {
-                self.give_back::<false>(&mut raw, &mut records, request, told);
+                self.give_back::<false>(&mut raw, &mut held, request, told);
                 if let Try::Busy { turn, holder } = told {
                     met = Some((turn, holder));
                 }
-                let seat = Seat {
-                    badge: raw.into_badge(),
-                    number,
-                    parts,
-                    seen,
-                    met,
-                    ops,
-                };
-                Err(NotBegun {
-                    seat,
-                    room: RecordRoom { records },
-                    told,
-                })
+                let seat = seated(raw, number, parts, seen, met, ops);
+                let room = RecordRoom { records: held };
+                Err(NotBegun { seat, room, told })
             }
         }
     }
@@ -248,14 +232,7 @@ impl<K: Keeps> Coordinator<ReportedRegisters, K> {
         let told = self.enter(&mut raw, journal, list, number, request, reply, done);
         self.wake_if::<WAKES>(self.counts.records as usize + 1);
         self.give_back::<WAKES>(&mut raw, &mut records, request, told);
-        let seat = Seat {
-            badge: raw.into_badge(),
-            number,
-            parts,
-            seen: seen + 1,
-            met,
-            ops,
-        };
+        let seat = seated(raw, number, parts, seen + 1, met, ops);
         (seat, RecordRoom { records }, told)
     }
 

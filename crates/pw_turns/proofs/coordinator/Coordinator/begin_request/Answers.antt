@@ -74,21 +74,20 @@ give_back-requires-clause-told g c =
     let v = met_on e.pair e.count c.out-raw.result.me.0.view in
     (v, subst (λ (r : Try). IsReady given q v c.reach_on.new.records.items r (mine c.reach_on.new.raw.me)) (sym c.as_try.ensures) e.so)
 
-pub invariant_of-seat-in-Err : goal.invariant_of-seat-in-Err
-invariant_of-seat-in-Err g c =
+pub seated-seat-requires : goal.seated-seat-requires
+seated-seat-requires g c =
     let given = given_of g.R.Registers c.args.self.now.table.shared.key in let q = c.args.request in let e = c.in-Err.ensures.told in let seat = c.args.seat in
     let is = ap view_in c.out-raw.ensures.view in let v = met_on e.pair e.count c.out-raw.result.me.0.view in let w = c.give_back.new.raw.me.0.view in
-    let r = c.as_try.result in let rest : IsAtRest v = subst IsAtRest is seat.idle in
+    let r = c.as_try.result in let at_rest : IsAtRest v = subst IsAtRest is seat.idle in
     let climbs = c.give_back.ensures.told v
     (subst (λ (r : Try). IsReady given q v c.reach_on.new.records.items r (mine c.reach_on.new.raw.me)) (sym c.as_try.ensures) e.so) in
-    let views = c.into_badge.ensures.2 in let back = ap view_in views in let s = same given v q rest r w climbs in record {
-      one = ap length views;
-      numbered = (seat.numbered.0 ∙ ap (λ (v : View). v.number) is ∙ sym s.0 ∙ sym (ap (λ (v : View). v.number) back), seat.numbered.1);
-      shared = (seat.shared.0 ∙ ap (λ (v : View). v.parts) is ∙ sym s.1 ∙ sym (ap (λ (v : View). v.parts) back), seat.shared.1);
-      saw = c.in-Err.ensures.seen ∙ sym (ap length c.give_back.ensures.seen) ∙ sym (ap (λ (v : View). length v.seen) back);
-      found = subst (λ (w : View). is_met c.reach_on.new.met w ≡ true) (sym back)
-          (keeps_met c.reach_on.new.met c.reach_on.new.raw.me.0.view w c.reach_on.ensures.met c.give_back.ensures.met);
-      idle = subst IsAtRest (sym back) (rests given v q rest r w climbs);
+    let s = same given v q at_rest r w climbs in record {
+      none_in_hand = c.give_back.ensures.slots;
+      number = (seat.numbered.0 ∙ ap (λ (v : View). v.number) is ∙ sym s.0, seat.numbered.1);
+      parts = (seat.shared.0 ∙ ap (λ (v : View). v.parts) is ∙ sym s.1, seat.shared.1);
+      seen = c.in-Err.ensures.seen ∙ sym (ap length c.give_back.ensures.seen);
+      met = keeps_met c.reach_on.new.met c.reach_on.new.raw.me.0.view w c.reach_on.ensures.met c.give_back.ensures.met;
+      rest = rests given v q at_rest r w climbs;
     }
 
 pub returns-clause-told : goal.returns-clause-told
@@ -103,13 +102,13 @@ returns-clause-told g c =
       on = e.on;
       told = subst (λ (r : Try). Climbs given v q r w) c.as_try.ensures climbs;
     } in
-    subst (λ (w : View). Finished given (view_in seat.badge.views) q c.in-Err.told w) (sym (ap view_in c.into_badge.ensures.2))
+    subst (λ (w : View). Finished given (view_in seat.badge.views) q c.in-Err.told w) (sym (ap view_in c.seated-seat.ensures.view))
     (subst (λ (u : View). Finished given u q c.in-Err.told w) (sym is) (finishes given u q (subst IsAtRest is seat.idle) c.in-Err.told w on))
 
 pub returns-clause-steps : goal.returns-clause-steps
 returns-clause-steps g c =
     let v = view_in c.args.seat.badge.views in let last = record_count c.args.self.now.plan in let r = try_of c.in-Err.told in
     went_by true last c.args.request r c.args.seat.number v.number c.out-raw.result.me.0.own (own_in c.args.seat.badge.views)
-    c.give_back.new.raw.me.0.own (own_in c.into_badge.result.views) c.args.seat.numbered.0 (ap own_in c.out-raw.ensures.view) (ap own_in c.into_badge.ensures.2)
+    c.give_back.new.raw.me.0.own (own_in c.seated-seat.result.badge.views) c.args.seat.numbered.0 (ap own_in c.out-raw.ensures.view) (ap own_in c.seated-seat.ensures.view)
     (went_back true c.args.request last c.args.seat.number r c.out-raw.result.me.0.own c.reach_on.new.raw.me.0.own c.give_back.new.raw.me.0.own
     c.in-Err.ensures.own c.give_back.ensures.own)

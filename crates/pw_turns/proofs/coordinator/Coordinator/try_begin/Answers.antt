@@ -29,14 +29,14 @@ reach-requires-clause-records g c =
 pub returns-clause-told : goal.returns-clause-told
 returns-clause-told g c =
     let given = given_of g.R.Registers c.args.self.now.table.shared.key in let q = c.args.request in let v = view_in c.args.seat.badge.views in
-    let is = ap view_in c.out-raw.ensures.view in let back = ap view_in c.into_badge.ensures.2 in
+    let is = ap view_in c.out-raw.ensures.view in let back = ap view_in c.seated-seat.ensures.view in
     let same : c.match-told.told ≡ c.in-Err.told = elim c.match-told.branch [
       | in-Busy w ↦ let e = w.told-is in cc
       | in_default w ↦ let e = w.told-is in cc
     ] in
     let w = c.give_back.new.raw.me.0.view in
     let climbs = subst (λ (v : View). Climbs given v q c.in-Err.told w) (sym is) (c.give_back.ensures.told c.out-raw.result.me.0.view c.in-Err.ensures.told) in
-    subst (λ (r : Try). Told given v q r (view_in c.into_badge.result.views)) (sym same)
+    subst (λ (r : Try). Told given v q r (view_in c.seated-seat.result.badge.views)) (sym same)
     (subst (λ (w : View). Told given v q c.in-Err.told w) (sym back) (tells_it given v q c.args.seat.idle c.in-Err.told w climbs))
 
 pub returns-in-Ok-clause-asked : goal.returns-in-Ok-clause-asked
@@ -62,8 +62,8 @@ returns-clause-steps g c =
       | in-Busy w ↦ let e = w.told-is in cc
       | in_default w ↦ let e = w.told-is in cc
     ] in
-    subst (λ (r : Try). Went false last v.number c.args.request r (own_in c.args.seat.badge.views) (own_in c.into_badge.result.views)) (sym same)
+    subst (λ (r : Try). Went false last v.number c.args.request r (own_in c.args.seat.badge.views) (own_in c.seated-seat.result.badge.views)) (sym same)
     (went_by false last c.args.request c.in-Err.told c.args.seat.number v.number c.out-raw.result.me.0.own (own_in c.args.seat.badge.views)
-    c.give_back.new.raw.me.0.own (own_in c.into_badge.result.views) c.args.seat.numbered.0 (ap own_in c.out-raw.ensures.view) (ap own_in c.into_badge.ensures.2)
+    c.give_back.new.raw.me.0.own (own_in c.seated-seat.result.badge.views) c.args.seat.numbered.0 (ap own_in c.out-raw.ensures.view) (ap own_in c.seated-seat.ensures.view)
     (went_back false c.args.request last c.args.seat.number c.in-Err.told c.out-raw.result.me.0.own c.reach.new.raw.me.0.own c.give_back.new.raw.me.0.own
     c.in-Err.ensures.own c.give_back.ensures.own))
