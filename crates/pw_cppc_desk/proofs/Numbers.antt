@@ -165,7 +165,7 @@ module _ {R : Type 0} (by : Registers R) where
         kept = kept_joined o.run s.views o.kept id x me (o.own id x me idle.live) v other y there;
         home = home_after key mach s.homes (set (set mach.views id b) other spent_view) mach.made o.home (λ k u there mark. ⊎_elim
             (λ (t : (k ≡ other) × (spent_view ≡ u)). off false refl (ap (λ (x : View CppcEntry). x.mark) t.1 ∙ mark))
-            (λ (t : (k ≢ other) × (get_elem?
-            (set mach.views id b) k ≡ some u)). none_marked by key s o id v b at idle.live idle.unmarked k u t.1 mark)
+            (λ (t : (k ≢ other) × (get_elem? (set mach.views id b) k ≡ some u)).
+            none_marked by key s o id v b at idle.live idle.unmarked k u t.1 mark)
             (at_set (set mach.views id b) other k spent_view u there));
       }

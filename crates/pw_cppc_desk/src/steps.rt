@@ -30,7 +30,8 @@ impl<R: Registers> CppcDesk<R> {
         requires number { (number ≡ raw.old.me.0.view.number) × (number < 65536) }
         ensures id { raw.new.table_id ≡ raw.old.table_id }
         ensures view { let given = given_of R.Registers self.now.table.shared.key in
-            MatchResult result (λ ledger. LedOut R.Registers given (mine raw.old.me) ledger (mine raw.new.me))
+            MatchResult result
+            (λ ledger. LedOut R.Registers given (mine raw.old.me) ledger (mine raw.new.me))
             (λ holder. Met (mine raw.old.me) holder (mine raw.new.me)) }
         ensures own { MatchResult result (λ _. TookTurn (keeping raw.old.me.0) (keeping raw.new.me.0))
             (λ _. OneMore (keeping raw.old.me.0) find_held (keeping raw.new.me.0)) }
@@ -56,7 +57,8 @@ impl<R: Registers> CppcDesk<R> {
         requires number { (number ≡ raw.old.me.0.view.number) × (number < 65536) }
         ensures id { raw.new.table_id ≡ raw.old.table_id }
         ensures view { let given = given_of R.Registers self.now.table.shared.key in
-            MatchResult result (λ ledger. LedOut R.Registers given (mine raw.old.me) ledger (mine raw.new.me))
+            MatchResult result
+            (λ ledger. LedOut R.Registers given (mine raw.old.me) ledger (mine raw.new.me))
             (λ holder. Met (mine raw.old.me) holder (mine raw.new.me)) }
         ensures own { MatchResult result (λ _. TookTurn (keeping raw.old.me.0) (keeping raw.new.me.0))
             (λ _. OneMore (keeping raw.old.me.0) find_held (keeping raw.new.me.0)) }
@@ -125,7 +127,8 @@ impl<R: Registers> CppcDesk<R> {
         requires found { IsFound R.Registers (given_of R.Registers self.now.table.shared.key)
             raw.old.me.0.view ledger }
         ensures id { raw.new.table_id ≡ raw.old.table_id }
-        ensures view { mine raw.new.me ≡ (let_go (R.faults ledger.regs) raw.old.me.0.view, rest raw.old.me.1) }
+        ensures view { mine raw.new.me
+            ≡ (let_go (R.faults ledger.regs) raw.old.me.0.view, rest raw.old.me.1) }
         ensures own { OneMore (keeping raw.old.me.0) (release_without_entry (R.faults ledger.regs))
             (keeping raw.new.me.0) }
     {
@@ -142,7 +145,8 @@ impl<R: Registers> CppcDesk<R> {
         requires found { IsFound R.Registers (given_of R.Registers self.now.table.shared.key)
             raw.old.me.0.view ledger }
         ensures id { raw.new.table_id ≡ raw.old.table_id }
-        ensures view { mine raw.new.me ≡ (let_go (R.faults ledger.regs) raw.old.me.0.view, rest raw.old.me.1) }
+        ensures view { mine raw.new.me
+            ≡ (let_go (R.faults ledger.regs) raw.old.me.0.view, rest raw.old.me.1) }
         ensures own { OneMore (keeping raw.old.me.0) (release_without_entry (R.faults ledger.regs))
             (keeping raw.new.me.0) }
     {

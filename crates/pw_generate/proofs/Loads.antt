@@ -31,6 +31,7 @@ use Rattle.pw_plan.proofs.Lists.{and_first, and_second, or_left, or_right}
 use Rattle.pw_plan.proofs.Memberships.{covers_has}
 use Rattle.pw_plan.proofs.Rising.{rises_of}
 use Rattle.pw_script.specs.declared.script.Line.{Line}
+use Rattle.pw_script.specs.declared.script.TheConstants.{MOST_OPERATIONS}
 use Rattle.pw_script.specs.Reading.{operations}
 use Rattle.pw_generate.specs.Loads.{load_lines, machine_load}
 use Rattle.pw_generate.specs.Tables.{cpu_domain}
@@ -203,7 +204,7 @@ module _ (n : ℕ) (P : Plan) (cpus : P.cpus ≡ machine_cpus n) where
   request_few (PerfLimit p i) = perf_few p
   request_few (ThrottleLimit p i) = throttle_few p
 
-  pub load_bounded : n ≤ 32 → operations P (machine_load n).lines ≤ 1048576
+  pub load_bounded : n ≤ 32 → operations P (machine_load n).lines ≤ MOST_OPERATIONS
   load_bounded small =
       let lines = (machine_load n).lines in
       let opening : opening_bound P ≤ 131072 = P.sound.domains.opening in

@@ -177,3 +177,5 @@ replayed P (e ∷ es) S h =
 pub histories_own : (P : Plan) (kind : DomainKind) (p : ℕ) (es : List HistoryEntry) → Faultless es → limit_of kind (replay P es) p ≡ own_limit P kind p (requests es)
 unfolding replay
 histories_own P kind p es h = ap (λ (S : State). limit_of kind S p) (replayed P es (opening P) h) ∙ requests_own P kind p (requests es)
+
+pub ruleset limits_own = (requests_own, entries_own, histories_own)

@@ -9,7 +9,7 @@ ghost use Rattle.pw_notice.specs.Limits.{limit_after, own_entries, own_limit, re
 
 /// A processor's limits depend on its own requests alone: whatever others ask for in between, its limit is
 /// its own one.
-#[tactic(auto, using(crate::proofs::OwnLimits::requests_own, crate::proofs::OwnLimits::entries_own, crate::proofs::OwnLimits::histories_own))]
+#[tactic(auto, using(crate::proofs::OwnLimits::limits_own))]
 pub fn limits_are_own()
     ensures requests { (P : plan) (k : kind) (p : ℕ) (qs : List request)
         → limit_after P k p qs ≡ own_limit P k p qs }
