@@ -20,6 +20,7 @@ use crate::coordinator::{Coordinator, TableSeat};
 use crate::held_record::{HeldRecord, Reached};
 use crate::keeping::Keeps;
 use crate::requests::{Try, settle};
+use crate::sleeping::Wakes;
 use crate::waited::Done;
 use pw_core::Ops;
 use pw_journal::Journal;
@@ -80,7 +81,7 @@ impl<R: Registers, K: Keeps> Coordinator<R, K> {
 
     /// Puts the records back, the last first: changed where the request was answered, and else as they
     /// were. It wakes who waits for one where it is to.
-    pub(crate) fn give_back<const WAKES: bool>(
+    pub(crate) fn give_back<W: Wakes>(
         &self,
         raw: &mut TableSeat<R>,
         records: &mut Vec<HeldRecord<R>>,
@@ -112,8 +113,8 @@ impl<R: Registers, K: Keeps> Coordinator<R, K> {
         } = held;
         settle(&self.plan, told, &mut content, old);
         self.unlock_record(raw, turn, content);
-        self.wake_if::<WAKES>(turn as usize + 1);
-        self.give_back::<WAKES>(raw, records, _request, told);
+        W::wake(self, turn as usize + 1);
+        self.give_back::<W>(raw, records, _request, told);
     }
 
     /// The journal that the seat has, where its history has room and no fault; or it is given back.

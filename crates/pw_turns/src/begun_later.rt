@@ -16,6 +16,7 @@ use crate::contents::step_content;
 use crate::coordinator::{Coordinator, Seat, TableSeat, out, seated};
 use crate::held_record::{HeldRecord, Reached};
 use crate::keeping::Keeps;
+use crate::sleeping::Waking;
 use crate::two_steps::{Begun, NotBegun, RecordRoom};
 use crate::waited::Done;
 use pw_core::Ops;
@@ -220,7 +221,7 @@ impl<R: Registers, K: Keeps> Coordinator<R, K> {
             }),
             Err(told) => {
                 self.wake(self.counts.records as usize + 1);
-                self.give_back::<true>(&mut raw, &mut held, request, told.as_try());
+                self.give_back::<Waking>(&mut raw, &mut held, request, told.as_try());
                 let seat = seated(raw, number, parts, seen, met, ops);
                 let room = RecordRoom { records: held };
                 Err(NotBegun { seat, room, told })

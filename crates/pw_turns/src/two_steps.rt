@@ -13,6 +13,7 @@ use crate::coordinator::{Coordinator, Seat, TableSeat, out, seated};
 use crate::held_record::{HeldRecord, Reached};
 use crate::keeping::Keeps;
 use crate::requests::{Try, listed};
+use crate::sleeping::{Silent, Wakes, Waking};
 use acpi_values::Op;
 use pw_base::Memory;
 use pw_core::Ops;
@@ -140,7 +141,7 @@ impl<R: Registers, K: Keeps> Coordinator<R, K> {
                 journal,
             }),
             Err(told) => {
-                self.give_back::<false>(&mut raw, &mut held, request, told);
+                self.give_back::<Silent>(&mut raw, &mut held, request, told);
                 if let Try::Busy { turn, holder } = told {
                     met = Some((turn, holder));
                 }
@@ -204,7 +205,7 @@ impl<K: Keeps> Coordinator<ReportedRegisters, K> {
     }
 
     /// Ends a request, and wakes who waits for its turns where it is to.
-    fn end_begun<const WAKES: bool>(
+    fn end_begun<W: Wakes>(
         &self,
         begun: Begun<ReportedRegisters>,
         done: Result<(), u32>,
@@ -230,8 +231,8 @@ impl<K: Keeps> Coordinator<ReportedRegisters, K> {
         } = begun;
         let list = listed(&ops);
         let told = self.enter(&mut raw, journal, list, number, request, reply, done);
-        self.wake_if::<WAKES>(self.counts.records as usize + 1);
-        self.give_back::<WAKES>(&mut raw, &mut records, request, told);
+        W::wake(self, self.counts.records as usize + 1);
+        self.give_back::<W>(&mut raw, &mut records, request, told);
         let seat = seated(raw, number, parts, seen + 1, met, ops);
         (seat, RecordRoom { records }, told)
     }
@@ -251,7 +252,7 @@ impl<K: Keeps> Coordinator<ReportedRegisters, K> {
             Finishes ⟦<ReportedRegisters as Registers>⟧ shared.key shared.table_id begun done result.0
             result.1 result.2 }
     {
-        self.end_begun::<false>(begun, done)
+        self.end_begun::<Silent>(begun, done)
     }
 
     /// The same, and it wakes threads that wait for its turns.
@@ -267,6 +268,6 @@ impl<K: Keeps> Coordinator<ReportedRegisters, K> {
             Finishes ⟦<ReportedRegisters as Registers>⟧ shared.key shared.table_id begun done result.0
             result.1 result.2 }
     {
-        self.end_begun::<true>(begun, done)
+        self.end_begun::<Waking>(begun, done)
     }
 }

@@ -77,8 +77,8 @@ returns-clause-met g t c =
 pub returns-in_default-clause-own : goal.returns-in_default-clause-own
 returns-in_default-clause-own g t c = gave_none c.args.raw.now.me.0.own
 
-pub wake_if-requires : goal.wake_if-requires
-wake_if-requires g t c =
+pub wake-requires : goal.wake-requires
+wake-requires g t c =
     let self = c.args.self.now in let q = c.args._request in let given = given_of g.R.Registers self.table.shared.key in let h = c.in-Some.held in
     let has = subst (λ P. Has P q) (sym self.planned) c.requires.has in
     let l = last given q has c.requires.told.0 c.args.records.now.items c.pop.new.self.items h c.in-Some.ensures.items c.args.told (mine c.args.raw.now.me) c.requires.told.1 in
