@@ -1,4 +1,4 @@
-ghost use Rattle.std.specs.Prelude.{◌≡◌, ◌≤◌, ◌∷◌, ◌++◌, [], is_ok, map, true, Err, OnOk};
+ghost use Rattle.std.specs.Prelude.{◌≡◌, ◌≤◌, ◌∷◌, ◌++◌, [], is_ok, map, true, Err, IfOk, OnOk};
 ghost use Rattle.std.specs.List.{AllByRecursion, flat_map};
 ghost use Rattle.pw_base.specs.Outside.{GrewByPart, KeepsSink, Rose};
 ghost use Rattle.pw_text.specs.Lines.{text_of};
@@ -16,7 +16,7 @@ ghost use Rattle.pw_cppc_drive.specs.HistoryText.{path_of, reply_words, request_
 use crate::named::NamedPlan;
 use crate::words::{put_reply, put_request};
 use acpi_values::Op;
-use pw_base::{Failed, Sink};
+use pw_base::{Failed, Memory, Sink};
 use pw_cppc::{
     CppcEntry, CppcPlan, CppcReply, CppcRequest, CppcState, MOST_OF_A_REQUEST, open_all,
 };
@@ -200,6 +200,33 @@ fn put_history<K: Sink>(
     page.flush(sink)
 }
 
+/// What printing takes memory for.
+#[derive(Drop)]
+struct Held<'a> {
+    named: NamedPlan<'a>,
+    page: Page,
+    state: CppcState,
+    ops: Ops,
+}
+
+/// Takes it: the page is empty, the numbers are those of the opening, and no operation is listed.
+fn hold<'a>(alloc: Global, plan: &'a CppcPlan) -> Result<Held<'a>, Memory>
+    ensures named { IfOk result (λ h. h.named ≡ plan.now) }
+    ensures page { IfOk result (λ h. h.page ≡ []) }
+    ensures opened { IfOk result (λ h. h.state ≡ opening_numbers plan.now) }
+    ensures fits { IfOk result (λ h. AreNumbers plan.now h.state) }
+    ensures none { IfOk result (λ h. h.ops.elements ≡ []) }
+    ensures room { IfOk result (λ h. 257 ≤ h.ops.capacity) }
+    ensures opening { IfOk result (λ h. opening_bound plan.now ≤ h.ops.capacity) }
+{
+    Ok(Held {
+        named: NamedPlan::new(alloc, plan)?,
+        page: Page::new(alloc)?,
+        state: CppcState::open(alloc, plan)?,
+        ops: Ops::new(alloc, plan.opening_bound().max(MOST_OF_A_REQUEST))?,
+    })
+}
+
 /// Prints the text of a history: the opening with its operations, and each entry with its reply and
 /// its operations. `opening` is how many operations were done where the opening was ended by a fault.
 /// Memory is taken before the sink sees a byte.
@@ -220,10 +247,12 @@ pub fn cppc_print<K: Sink>(
     ensures sink { result ≡ Err faults.Sink → Rose (K.faults out.old) (K.faults out.new) }
     ensures memory { result ≡ Err faults.Memory → out.new ≡ out.old }
 {
-    let named = NamedPlan::new(alloc, plan)?;
-    let mut page = Page::new(alloc)?;
-    let mut state = CppcState::open(alloc, plan)?;
-    let mut ops = Ops::new(alloc, plan.opening_bound().max(MOST_OF_A_REQUEST))?;
+    let Held {
+        named,
+        mut page,
+        mut state,
+        mut ops,
+    } = hold(alloc, plan)?;
     put_history(
         &mut page, out, &named, &mut state, &mut ops, opening, entries,
     )?;

@@ -1,5 +1,5 @@
 ghost use Rattle.std.specs.Prelude.{◌≡◌, ◌≤◌, ◌∷◌, ◌++◌, [], is_ok, map, true};
-ghost use Rattle.std.specs.Prelude.{Err, IfSome, OnOk, option_copied};
+ghost use Rattle.std.specs.Prelude.{Err, IfOk, IfSome, OnOk, option_copied};
 ghost use Rattle.std.specs.List.{AllByRecursion, flat_map};
 ghost use Rattle.pw_base.specs.Outside.{GrewByPart, KeepsSink, Rose};
 ghost use Rattle.pw_text.specs.Lines.{text_of};
@@ -21,7 +21,7 @@ use crate::openings::{first_of, put_opened};
 use crate::operations::put_ops;
 use crate::words::{put_asker, put_fault, put_reply, put_request};
 use acpi_values::Op;
-use pw_base::{Failed, Sink};
+use pw_base::{Failed, Memory, Sink};
 use pw_core::{Ops, State};
 use pw_model::{HistoryEntry, Reply};
 use pw_plan::{MOST_OF_A_REQUEST, Plan, Request};
@@ -215,6 +215,33 @@ fn put_history<K: Sink>(
     page.flush(sink)
 }
 
+/// What printing takes memory for.
+#[derive(Drop)]
+struct Held<'a> {
+    named: NamedPlan<'a>,
+    page: Page,
+    state: State,
+    ops: Ops,
+}
+
+/// Takes it: the page is empty, the state is that of the opening, and no operation is listed.
+fn hold<'a>(alloc: Global, plan: &'a Plan) -> Result<Held<'a>, Memory>
+    ensures named { IfOk result (λ h. h.named ≡ plan.now) }
+    ensures page { IfOk result (λ h. h.page ≡ []) }
+    ensures opened { IfOk result (λ h. h.state ≡ opening_state plan.now) }
+    ensures fits { IfOk result (λ h. IsState plan.now h.state) }
+    ensures none { IfOk result (λ h. h.ops.elements ≡ []) }
+    ensures room { IfOk result (λ h. 256 ≤ h.ops.capacity) }
+    ensures opening { IfOk result (λ h. opening_bound plan.now ≤ h.ops.capacity) }
+{
+    Ok(Held {
+        named: NamedPlan::new(alloc, plan)?,
+        page: Page::new(alloc)?,
+        state: State::open(alloc, plan)?,
+        ops: Ops::new(alloc, plan.opening_bound().max(MOST_OF_A_REQUEST))?,
+    })
+}
+
 /// Prints the text of a history as `print_history` does, with the replies to its entries where they are
 /// known: then they aren't worked out again.
 #[tactic(auto, unfolding(pw_model::specs::History::replies))]
@@ -237,10 +264,12 @@ pub fn print_known<K: Sink>(
     ensures sink { result ≡ Err faults.Sink → Rose (K.faults out.old) (K.faults out.new) }
     ensures memory { result ≡ Err faults.Memory → out.new ≡ out.old }
 {
-    let named = NamedPlan::new(alloc, plan)?;
-    let mut page = Page::new(alloc)?;
-    let mut state = State::open(alloc, plan)?;
-    let mut ops = Ops::new(alloc, plan.opening_bound().max(MOST_OF_A_REQUEST))?;
+    let Held {
+        named,
+        mut page,
+        mut state,
+        mut ops,
+    } = hold(alloc, plan)?;
     put_history(
         &mut page, out, &named, &mut state, &mut ops, opening, entries, known,
     )?;

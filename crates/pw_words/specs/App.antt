@@ -66,18 +66,16 @@ bare_app = record {
   subs = [];
 }
 
--- all of it
-abbrev pub line_app : App
-line_app = with_subcommand
-    (with_subcommand
-    (with_subcommand
-    (with_subcommand
-    (with_subcommand
+-- those that run nothing
+abbrev pub reading_app : App
+reading_app = with_subcommand
     (with_subcommand
     (with_subcommand (with_subcommand bare_app show_app.top) (blocks_app (codes "rewrite")).top)
     (blocks_app (codes "check")).top)
-    (blocks_app (codes "lint")).top)
-    drive_app.top)
-    audit_app.top)
-    cppc_app.top)
+    (blocks_app (codes "lint")).top
+
+-- all of it
+abbrev pub line_app : App
+line_app = with_subcommand
+    (with_subcommand (with_subcommand (with_subcommand reading_app drive_app.top) audit_app.top) cppc_app.top)
     generate_app.top

@@ -3,7 +3,7 @@ ghost use Rattle.clap.specs.Words.{app_of, rule_of, with_subcommand};
 ghost use Rattle.clap.specs.declared.builder.command.Command.TheViews.{out-Command as fields_of};
 ghost use Rattle.pw_words.specs.App.{audit_app, bare_app, blocks_app, blocks_rule, cppc_app};
 ghost use Rattle.pw_words.specs.App.{drive_app, flag_rule, generate_app, line_app, serial_app};
-ghost use Rattle.pw_words.specs.App.{show_app, step_app, way_app, word_rule};
+ghost use Rattle.pw_words.specs.App.{reading_app, show_app, step_app, way_app, word_rule};
 
 use clap::{Arg, ArgAction, Command};
 use std::alloc::{AllocError, Global};
@@ -129,15 +129,21 @@ fn with<'a>(command: Command<'a>, sub: Command<'a>) -> Result<Command<'a>, Alloc
     command.subcommand(sub)
 }
 
-/// The command by which the words are read.
-pub(crate) fn line<'a>(alloc: Global) -> Result<Command<'a>, AllocError>
-    ensures { IfOk result (λ c. app_of c ≡ line_app) }
+/// The command with those that run nothing.
+fn reading<'a>(alloc: Global) -> Result<Command<'a>, AllocError>
+    ensures { IfOk result (λ c. (app_of c ≡ reading_app) × ((fields_of c).has_globals ≡ false)) }
 {
     let command = with(bare(alloc), show(alloc)?)?;
     let command = with(command, on_blocks(alloc, "rewrite")?)?;
     let command = with(command, on_blocks(alloc, "check")?)?;
-    let command = with(command, on_blocks(alloc, "lint")?)?;
-    let command = with(command, drive(alloc)?)?;
+    with(command, on_blocks(alloc, "lint")?)
+}
+
+/// The command by which the words are read.
+pub(crate) fn line<'a>(alloc: Global) -> Result<Command<'a>, AllocError>
+    ensures { IfOk result (λ c. app_of c ≡ line_app) }
+{
+    let command = with(reading(alloc)?, drive(alloc)?)?;
     let command = with(command, audit(alloc)?)?;
     let command = with(command, cppc(alloc)?)?;
     with(command, generate(alloc)?)
