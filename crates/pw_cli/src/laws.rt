@@ -24,9 +24,10 @@ use pw_governor::choices_are_deepest;
 /// refused exactly for the first reason that stands and else served, the machine where the standard
 /// says, and the registers set so (ACPI 6.5, 8.4.3.2, 8.4.4.4, 8.4.5.5).
 pub fn drives_keep_their_promise()
-    ensures { (words : List (List ℕ)) (how : way) (script : List ℕ) (names : List (List ℕ)) (s : Option sealed)
-        (before after : Seen) → AskFor words (drive how script names) → before.files.told ≡ true
-        → Ran words s before after 0 → KeepsDrive how.serial how.step script names before after }
+    ensures { (words : List (List ℕ)) (how : way) (script : List ℕ) (names : List (List ℕ))
+        (s : Option sealed) (before after : Seen) → AskFor words (drive how script names)
+        → before.files.told ≡ true → Ran words s before after 0
+        → KeepsDrive how.serial how.step script names before after }
 {
     processors_and_containers();
     parents_are_innermost();
@@ -38,9 +39,9 @@ pub fn drives_keep_their_promise()
 /// So it is of `cppc`: one history, each processor's requests in order, and the controls set to where the
 /// processors stand (8.4.6.1).
 pub fn runs_of_cppc_keep_their_promise()
-    ensures { (words : List (List ℕ)) (serial : Bool) (script : List ℕ) (names : List (List ℕ)) (s : Option sealed)
-        (before after : Seen) → AskFor words (cppc serial script names) → Ran words s before after 0
-        → KeepsCppc serial script names before after }
+    ensures { (words : List (List ℕ)) (serial : Bool) (script : List ℕ) (names : List (List ℕ))
+        (s : Option sealed) (before after : Seen) → AskFor words (cppc serial script names)
+        → Ran words s before after 0 → KeepsCppc serial script names before after }
 {}
 
 /// So it is of `generate`: one summary for every order of the load's requests.
@@ -67,14 +68,17 @@ pub fn audits_keep_their_promise()
     choices_are_deepest();
 }
 
-/// So it is of `show`, `rewrite`, `check` and `lint`: the one text of the only blocks that the files' bytes spell.
+/// So it is of `show`, `rewrite`, `check` and `lint`: the one text of the only blocks that the files' bytes
+/// spell.
 pub fn tasks_keep_their_promise()
-    ensures { (words : List (List ℕ)) (t : task) (names : List (List ℕ)) (s : Option sealed) (before after : Seen)
-        → AskFor words (on_blocks t names) → before.files.told ≡ true → Ran words s before after 0
+    ensures { (words : List (List ℕ)) (t : task) (names : List (List ℕ)) (s : Option sealed)
+        (before after : Seen) → AskFor words (on_blocks t names)
+        → before.files.told ≡ true → Ran words s before after 0
         → KeepsTask t names before after }
 {}
 
-/// `show` prints the objects that the only blocks of the files place, at their paths, with `--json` or without.
+/// `show` prints the objects that the only blocks of the files place, at their paths, with `--json` or
+/// without.
 pub fn shows_keep_their_promise()
     ensures plain { (words : List (List ℕ)) (names : List (List ℕ)) (s : Option sealed) (before after : Seen)
         → AskFor words (on_blocks Show names) → before.files.told ≡ true → Ran words s before after 0
@@ -91,8 +95,8 @@ pub fn rewrites_keep_their_promise()
         → KeepsRewrite names before after }
 {}
 
-/// `check` prints the machine that the blocks describe, as ACPI 6.5 means them (8.3, 8.4), with a note for each
-/// cause of one.
+/// `check` prints the machine that the blocks describe, as ACPI 6.5 means them (8.3, 8.4), with a note for
+/// each cause of one.
 pub fn checks_keep_their_promise()
     ensures { (words : List (List ℕ)) (names : List (List ℕ)) (s : Option sealed) (before after : Seen)
         → AskFor words (on_blocks Check names) → before.files.told ≡ true → Ran words s before after 0

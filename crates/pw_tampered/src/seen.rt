@@ -53,10 +53,11 @@ impl Seen {
             whole,
             other,
         } = *self;
-        writeln!(
+        write!(
             text,
-            "  {name}: {there} stopped there, {later} later, {ended} ended before, {whole} accepted, {other} otherwise"
+            "  {name}: {there} stopped there, {later} later, {ended} ended before, "
         )
-        .ok()
+        .ok()?;
+        writeln!(text, "{whole} accepted, {other} otherwise").ok()
     }
 }

@@ -90,9 +90,10 @@ pub(crate) fn put_runs<R: Threads + Wait + Sync>(
         whole = whole.saturating_add(u32::from(played.entries == lines));
         same = same.saturating_add(u32::from(has_summary(&played, summary.written())));
     }
+    write!(text, "{times} runs of {size} containers: {lawful} lawful, ").ok()?;
     writeln!(
         text,
-        "{times} runs of {size} containers: {lawful} lawful, {whole} with {lines} entries, {same} with one summary"
+        "{whole} with {lines} entries, {same} with one summary"
     )
     .ok()?;
     put_text(text, summary.written())
@@ -116,9 +117,10 @@ pub(crate) fn put_faults<R: Threads + Wait + Sync>(
         ended = ended.saturating_add(u32::from(ends));
     }
     let times = fails.len();
-    writeln!(
+    write!(
         text,
-        "{times} runs of {containers} containers with a register that fails: {lawful} lawful, {ended} ended there"
+        "{times} runs of {containers} containers with a register that fails: "
     )
-    .ok()
+    .ok()?;
+    writeln!(text, "{lawful} lawful, {ended} ended there").ok()
 }
