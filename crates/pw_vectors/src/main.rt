@@ -2,9 +2,11 @@
 //! object, the width of integers, its bytes, and what they are read as; where `=` stands between them,
 //! that is written as the same bytes. One line a vector says whether it came out so. `data/places.txt` lists
 //! good tables, and what is read of each where one place or two of it are changed; a line says of a table
-//! whether each came out so.
+//! whether each came out so. Tests call the crates below these, once each.
 #![tactic(auto)]
 
+#[cfg(test)]
+mod calls;
 mod fields;
 mod objects;
 mod places;
