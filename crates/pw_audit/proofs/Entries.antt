@@ -1,6 +1,6 @@
 -- The line of an entry, and the entries that may have it.
-use Rattle.std.proofs.Common.{◌≡◌, ◌≤◌, ◌==◌, ◌+◌, ◌-◌, ◌∙◌, ℕ, cond, List, [], ◌∷◌, ◌++◌, map, take, length, refl, ap, sym, subst, arith, append_assoc, append-nil}
-use Rattle.std.proofs.lemmas.List.{append_cancel_left, length-append, length-map}
+use Rattle.std.proofs.Common.{◌≡◌, ◌≤◌, ◌==◌, ◌+◌, ◌-◌, ◌∙◌, ℕ, cond, List, [], ◌∷◌, ◌++◌, take, length, refl, ap, sym, subst, arith, append_assoc, append-nil}
+use Rattle.std.proofs.lemmas.List.{append_cancel_left, length-append}
 use Rattle.acpi_values.specs.declared.operation.Op.{Op}
 use Rattle.pw_plan.specs.declared.plan.Plan.{Plan}
 use Rattle.pw_plan.specs.declared.request.Request.{Request}
@@ -13,14 +13,16 @@ use Rattle.pw_model.specs.Operations.{ops_of}
 use Rattle.pw_model.proofs.Joining.{entry_is}
 use Rattle.pw_model.proofs.Staying.{request_cpu, request_has}
 use Rattle.pw_text.specs.Lines.{text_of, with_feed}
-use Rattle.pw_script.specs.HistoryText.{entry_lines, op_line, outcome_words, request_line}
+use Rattle.pw_script.specs.HistoryText.{outcome_words, request_line}
 use Rattle.pw_script.specs.Lawful.{Begins}
 use Rattle.pw_script.specs.inner.Behind.{behind, head_text}
 use Rattle.pw_script.proofs.Printed.{entry_text}
 use Rattle.pw_script.specs.Wholes.{entry_line}
 use Rattle.pw_audit.specs.declared.answer.AuditFault.{AuditFault}
 use Rattle.pw_audit.specs.inner.Queues.{IsNext, Takes, left_of}
-use Rattle.pw_audit.specs.inner.Stopping.{FitsAt, MayCome, NoEntry, StopsBehind, StopsIn, entry_with, outcome_at}
+use Rattle.pw_audit.specs.declared.form.Form.{Form}
+use Rattle.pw_audit.specs.Traces.{TellsOps}
+use Rattle.pw_audit.specs.inner.Stopping.{EntryRead, FitsAt, MayCome, NoEntry, OpsRead, StopsBehind, StopsInOps, entry_with, outcome_at}
 
 -- # The entry of a request with a fault
 
@@ -99,21 +101,23 @@ module _ (P : Plan) (S : State) (n : ℕ) (queues : List (List Request)) (left :
           head ∙ ap (λ (l : List ℕ). head_text P n q ++ l) outcome ∙ sym (append_assoc (head_text P n q) (with_feed (behind (outcome_at P S q f))) rest)
           ∙ ap (λ (l : List ℕ). l ++ rest) (sym (with_line P S n q f))
 
-      pub lines_read : (done : List Op) (next : List ℕ) → done ≡ done_of (ops_of P S q) f → rest ≡ text_of (map (op_line P) done) ++ next
-          → left ≡ text_of (entry_lines P S n (entry_with q f)) ++ next
-      lines_read done next is goes =
+      pub entry_read : (form : Form) (done : List Op) (next : List ℕ) → done ≡ done_of (ops_of P S q) f → OpsRead form P done rest next → EntryRead form P S n (entry_with q f) left next
+      entry_read form done next is read =
           let first = with_feed (entry_line P S n (entry_with q f)) in
-          let ops = text_of (map (op_line P) (entry_ops P S (entry_with q f))) in
-          line_read ∙ ap (λ (l : List ℕ). first ++ l) (goes ∙ ap (λ (os : List Op). text_of (map (op_line P) os) ++ next) (is ∙ sym (with_ops P S q f))) ∙ sym (append_assoc first ops next)
+          record {
+            ops = read.lines;
+            tells = subst (λ (os : List Op). TellsOps form P os read.lines) (is ∙ sym (with_ops P S q f)) read.tells;
+            is = line_read ∙ ap (λ (l : List ℕ). first ++ l) read.is ∙ sym (append_assoc first (text_of read.lines) next);
+          }
 
-      pub stops_behind : (done : List Op) (before : ℕ) (fault : AuditFault) → done ≡ done_of (ops_of P S q) f → StopsIn (map (op_line P) done) (before + 1) rest fault
-          → StopsBehind P S n queues before left fault
-      stops_behind done before fault is stops = record {
+      pub stops_behind : (form : Form) (done : List Op) (before : ℕ) (fault : AuditFault) → done ≡ done_of (ops_of P S q) f → StopsInOps form P done (before + 1) rest fault
+          → StopsBehind form P S n queues before left fault
+      stops_behind form done before fault is stops = record {
         entry = entry_with q f;
         may = may_come;
         rest = rest;
         is = line_read;
-        stops = subst (λ (os : List Op). StopsIn (map (op_line P) os) (before + 1) rest fault) (is ∙ sym (with_ops P S q f)) stops;
+        stops = subst (λ (os : List Op). StopsInOps form P os (before + 1) rest fault) (is ∙ sym (with_ops P S q f)) stops;
       }
 
 -- # How many lines
@@ -126,17 +130,15 @@ lines_few (l ∷ ls) =
     let line : length (with_feed l) ≡ length l + 1 = length-append l (10 ∷ []) in
     omega arith
 
-pub counted : (left first rest next : List ℕ) (ls : List (List ℕ)) → left ≡ with_feed first ++ rest → rest ≡ text_of ls ++ next → length ls + 1 ≤ length left
-counted left first rest next ls head tail =
-    let few = lines_few ls in
+pub counted : (form : Form) (P : Plan) (left first rest next : List ℕ) (done : List Op) → left ≡ with_feed first ++ rest → (read : OpsRead form P done rest next) → length read.lines ≡ length done
+    → length done + 1 ≤ length left
+counted form P left first rest next done head read size =
+    let few = lines_few read.lines in
     let a : length left ≡ length (with_feed first) + length rest = ap length head ∙ length-append (with_feed first) rest in
     let b : length (with_feed first) ≡ length first + 1 = length-append first (10 ∷ []) in
-    let d : length rest ≡ length (text_of ls) + length next = ap length tail ∙ length-append (text_of ls) next in
+    let d : length rest ≡ length (text_of read.lines) + length next = ap length read.is ∙ length-append (text_of read.lines) next in
     omega arith
 
-pub lines_count : (P : Plan) (S : State) (n before : ℕ) (q : Request) (f : ℕ) (done : List Op) → done ≡ done_of (ops_of P S q) f
-    → before + 1 + length done ≡ before + length (entry_lines P S n (entry_with q f))
-lines_count P S n before q f done is =
-    let same : length done ≡ length (entry_ops P S (entry_with q f)) = ap (λ (os : List Op). length os) (is ∙ sym (with_ops P S q f)) in
-    let size : length (map (op_line P) (entry_ops P S (entry_with q f))) ≡ length (entry_ops P S (entry_with q f)) = length-map (entry_ops P S (entry_with q f)) (op_line P) in
-    omega arith
+pub ops_count : (P : Plan) (S : State) (before : ℕ) (q : Request) (f : ℕ) (done : List Op) → done ≡ done_of (ops_of P S q) f
+    → before + 1 + length done ≡ before + 1 + length (entry_ops P S (entry_with q f))
+ops_count P S before q f done is = ap (λ (os : List Op). before + 1 + length os) (is ∙ sym (with_ops P S q f))

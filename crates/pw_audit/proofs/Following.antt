@@ -1,5 +1,5 @@
 -- What follows the lines of a start.
-use Rattle.std.proofs.Common.{◌≡◌, ◌≢◌, ◌<◌, ◌+◌, ◌==◌, ◌∙◌, ℕ, Bool, true, false, cond, List, [], ◌∷◌, ◌++◌, map, take, drop, length, Option, Some, None, refl, ap, sym, subst, inl, inr, arith, append_assoc, append-nil, take-append-drop, eqb-true}
+use Rattle.std.proofs.Common.{◌≡◌, ◌≢◌, ◌<◌, ◌==◌, ◌∙◌, ℕ, Bool, true, false, cond, List, [], ◌∷◌, ◌++◌, map, length, Option, Some, None, refl, ap, sym, subst, inl, inr, arith, append_assoc, append-nil, eqb-true}
 use Rattle.std.specs.List.{AllByRecursion}
 use Rattle.std.proofs.lemmas.Bool.{cases_eq, cases_lt, eqb-false}
 use Rattle.std.proofs.lemmas.List.{append_cancel_left, get_or_past}
@@ -8,26 +8,19 @@ use Rattle.pw_plan.specs.declared.request.Request.{Request}
 use Rattle.pw_plan.specs.Requests.{cpu_of}
 use Rattle.pw_plan.proofs.Lists.{each_append}
 use Rattle.pw_model.specs.declared.entry.HistoryEntry.{HistoryEntry}
-use Rattle.pw_model.specs.States.{opening}
 use Rattle.pw_model.specs.History.{Faultless, after_entry, replay, request_of}
 use Rattle.pw_model.specs.Operations.{opening_ops}
 use Rattle.pw_model.proofs.Joining.{legal-empty, legal-follows, legal-more, replay-append}
 use Rattle.pw_model.proofs.Staying.{request_cpu}
 use Rattle.pw_notice.specs.Limits.{own, requests}
-use Rattle.pw_text.specs.Lines.{text_of}
-use Rattle.pw_script.specs.HistoryText.{entry_lines, history_lines, history_text, lines_from, op_line, opening_lines}
+use Rattle.pw_script.specs.HistoryText.{op_line, opening_lines}
 use Rattle.pw_script.specs.Lawful.{Begins}
 use Rattle.pw_script.specs.inner.Openings.{opened, opening_line}
 use Rattle.pw_script.specs.Completing.{IsStart}
-use Rattle.pw_script.specs.Wholes.{Starts, lines_within, next_line, next_op_lines}
-use Rattle.pw_script.proofs.Beginnings.{history_lines-append}
+use Rattle.pw_script.specs.Wholes.{Starts}
 use Rattle.pw_script.proofs.Firsts.{each_rest, own-append}
 use Rattle.pw_audit.specs.inner.Queues.{EachOwn, Leaves, Takes, left_of}
 use Rattle.pw_audit.specs.inner.Stopping.{MayCome, WithinOpening}
-use Rattle.pw_audit.proofs.Showing.{Shown}
-
-nothing : {x : List ℕ} {xs : List (List ℕ)} → x ∷ xs ≡ [] → ⊥
-nothing e = cc
 
 module _ (P : Plan) where
   -- # The lines of the opening
@@ -36,65 +29,18 @@ module _ (P : Plan) where
   opening_is None = refl
   opening_is (Some k) = refl
 
-  pub opening_whole : (o : Option ℕ) → history_lines P o [] ≡ opening_lines P o
-  unfolding history_lines
-  opening_whole o = append-nil (opening_lines P o)
-
-  pub text_is : (o : Option ℕ) (es : List HistoryEntry) → history_text P o es ≡ text_of (history_lines P o es)
-  unfolding history_text
-  text_is o es = refl
-
-  history_starts : (o : Option ℕ) (es : List HistoryEntry) → history_lines P o es ≡ opening_lines P o ++ lines_from P (opening P) 1 es
-  unfolding history_lines
-  history_starts o es = refl
-
   -- # One more entry
-
-  pub history_step : (H : List HistoryEntry) (e : HistoryEntry) → history_lines P None (H ++ e ∷ []) ≡ history_lines P None H ++ entry_lines P (replay P H) (1 + length H) e
-  history_step H e = history_lines-append P None H (e ∷ []) ∙ ap (λ (l : List (List ℕ)). history_lines P None H ++ l) (append-nil (entry_lines P (replay P H) (1 + length H) e))
 
   pub replay_step : (H : List HistoryEntry) (e : HistoryEntry) → replay P (H ++ e ∷ []) ≡ after_entry P (replay P H) e
   replay_step H e = replay-append P H (e ∷ [])
 
   module _ (L : List Request) where
-    starts_opening : (o : Option ℕ) → WithinOpening (length (opening_ops P)) o → Starts P L o []
+    pub starts_opening : (o : Option ℕ) → WithinOpening (length (opening_ops P)) o → Starts P L o []
     starts_opening None w = record { legal = legal-empty P; begins = λ p lt. record { rest = own p L; is = refl } }
     starts_opening (Some k) w = (w, refl)
 
     pub start_none : IsStart P L []
     start_none = starts_opening None tt
-
-    pub shown_none : Shown P L []
-    shown_none = record { opening = None; entries = []; starts = start_none; more = history_lines P None []; is = refl }
-
-    pub shown_opening : (o : Option ℕ) → WithinOpening (length (opening_ops P)) o → (k : ℕ) → Shown P L (opening_line o ∷ take k (map (op_line P) (opened o (opening_ops P))))
-    shown_opening o w k =
-        let ops = map (op_line P) (opened o (opening_ops P)) in
-        record {
-          opening = o;
-          entries = [];
-          starts = starts_opening o w;
-          more = drop k ops;
-          is = opening_whole o ∙ opening_is o ∙ ap (λ (l : List (List ℕ)). opening_line o ∷ l) (sym (take-append-drop k ops));
-        }
-
-    pub shown_lines : (o : Option ℕ) → WithinOpening (length (opening_ops P)) o → Shown P L (opening_lines P o)
-    shown_lines o w = record { opening = o; entries = []; starts = starts_opening o w; more = []; is = opening_whole o ∙ sym (append-nil (opening_lines P o)) }
-
-    pub shown_history : (H : List HistoryEntry) → IsStart P L H → Shown P L (history_lines P None H)
-    shown_history H start = record { opening = None; entries = H; starts = start; more = []; is = sym (append-nil (history_lines P None H)) }
-
-    pub shown_within : (H : List HistoryEntry) (e : HistoryEntry) → IsStart P L (H ++ e ∷ []) → (k : ℕ) → Shown P L (lines_within P H e k)
-    shown_within H e start k =
-        let ops = next_op_lines P H e in
-        let front = history_lines P None H in
-        record {
-          opening = None;
-          entries = H ++ e ∷ [];
-          starts = start;
-          more = drop k ops;
-          is = history_step H e ∙ ap (λ (l : List (List ℕ)). front ++ next_line P H e ∷ l) (sym (take-append-drop k ops)) ∙ sym (append_assoc front (next_line P H e ∷ take k ops) (drop k ops));
-        }
 
     -- # What may come goes on with a start
 

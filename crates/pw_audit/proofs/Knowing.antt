@@ -10,11 +10,11 @@ use Rattle.pw_model.specs.declared.entry.HistoryEntry.{HistoryEntry}
 use Rattle.pw_notice.specs.Limits.{own}
 use Rattle.pw_script.specs.Asking.{CanBeAsked, IsNarrowRequest}
 use Rattle.pw_script.specs.Lawful.{Lawful}
-use Rattle.pw_script.specs.Wholes.{BeginsWhole, IsWhole}
 use Rattle.pw_audit.specs.declared.answer.Audit.{Audit}
 use Rattle.pw_audit.specs.declared.answer.AuditFault.{AuditFault}
 use Rattle.pw_audit.specs.declared.answer.AuditFault.TheVariants.{TooLong, Wrong, Unfinished, Memory}
-use Rattle.pw_audit.specs.Audited.{Shows}
+use Rattle.pw_audit.specs.declared.form.Form.{Form}
+use Rattle.pw_audit.specs.Traces.{BeginsAs, IsWholeAs, ShowsAs}
 use Rattle.pw_audit.specs.inner.Stopping.{Refuses, known}
 
 module _ (P : Plan) where
@@ -55,7 +55,7 @@ module _ (P : Plan) where
               differ d = cc
           other false same = later
 
-  module _ (asked : List Request) where
+  module _ (form : Form) (asked : List Request) where
     lawful_to : (o : Option ℕ) (es : List HistoryEntry) → Lawful P (known P asked) o es → Lawful P asked o es
     lawful_to (Some k) es h = h
     lawful_to None es h = record {
@@ -72,23 +72,23 @@ module _ (P : Plan) where
       whole = λ none p lt. h.whole none p lt ∙ sym (own_known p asked lt);
     }
 
-    whole_to : (text : List ℕ) → IsWhole P (known P asked) text → IsWhole P asked text
-    whole_to text w = record { opening = w.opening; entries = w.entries; lawful = lawful_to w.opening w.entries w.lawful; is = w.is }
+    whole_to : (text : List ℕ) → IsWholeAs form P (known P asked) text → IsWholeAs form P asked text
+    whole_to text w = record { o = w.o; entries = w.entries; lawful = lawful_to w.o w.entries w.lawful; is = w.is }
 
-    whole_from : (text : List ℕ) → IsWhole P asked text → IsWhole P (known P asked) text
-    whole_from text w = record { opening = w.opening; entries = w.entries; lawful = lawful_from w.opening w.entries w.lawful; is = w.is }
+    whole_from : (text : List ℕ) → IsWholeAs form P asked text → IsWholeAs form P (known P asked) text
+    whole_from text w = record { o = w.o; entries = w.entries; lawful = lawful_from w.o w.entries w.lawful; is = w.is }
 
-    begins_to : (ls : List (List ℕ)) → BeginsWhole P (known P asked) ls → BeginsWhole P asked ls
+    begins_to : (ls : List (List ℕ)) → BeginsAs form P (known P asked) ls → BeginsAs form P asked ls
     begins_to ls b = record { text = b.text; whole = whole_to b.text b.whole; first = b.first }
 
-    begins_from : (ls : List (List ℕ)) → BeginsWhole P asked ls → BeginsWhole P (known P asked) ls
+    begins_from : (ls : List (List ℕ)) → BeginsAs form P asked ls → BeginsAs form P (known P asked) ls
     begins_from ls b = record { text = b.text; whole = whole_from b.text b.whole; first = b.first }
 
-    pub refuses_to : (text : List ℕ) (fault : AuditFault) → Refuses P (known P asked) text fault → Refuses P asked text fault
+    pub refuses_to : (text : List ℕ) (fault : AuditFault) → Refuses form P (known P asked) text fault → Refuses form P asked text fault
     refuses_to text (TooLong bound) h = h
     refuses_to text (Wrong line) h = record { some = h.some; within = h.within; wrong = λ b. h.wrong (begins_from _ b); least = λ j lt. begins_to _ (h.least j lt) }
     refuses_to text (Unfinished lines) h = (h.0, record { begins = begins_to _ h.1.begins; lacks = λ w. h.1.lacks (whole_from text w) })
     refuses_to text Memory h = tt
 
-    pub shows_to : (text : List ℕ) (a : Audit) → Shows P (known P asked) text a → Shows P asked text a
+    pub shows_to : (text : List ℕ) (a : Audit) → ShowsAs form P (known P asked) text a → ShowsAs form P asked text a
     shows_to text a h = record { lawful = lawful_to a.opening a.entries h.lawful; is = h.is; seats = h.seats }

@@ -6,11 +6,17 @@ pub mod Firsts
 pub mod Heads
 pub mod Outcomes
 pub mod Entries
+pub mod Orders
+pub mod Told
+pub mod Tracing
+pub mod Within
 pub mod Showing
 pub mod Following
+pub mod Coming
 pub mod Refusing
 pub mod Entering
 pub mod Knowing
 pub mod Walking
 pub mod Telling
 pub mod Verdicts
+pub mod Histories

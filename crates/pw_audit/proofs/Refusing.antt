@@ -1,6 +1,7 @@
--- What is told of texts that aren't whole is right.
-use Rattle.std.proofs.Common.{◌≡◌, ◌<◌, ◌≤◌, ◌+◌, ◌∙◌, ℕ, suc, List, [], ◌∷◌, ◌++◌, map, take, length, get_or, Option, Some, None, refl, ap, sym, subst, inl, inr, arith, append_assoc, append-nil, length-take}
-use Rattle.std.proofs.lemmas.List.{length-append}
+-- What is told of a text that should begin with the lines of an opening is right.
+use Rattle.std.proofs.Common.{◌≡◌, ◌⊎◌, ◌<◌, ◌+◌, ◌∙◌, ℕ, zero, suc, List, [], ◌∷◌, ◌++◌, map, take, drop, length, get_or, codes, Option, Some, None, refl, ap, sym, subst, inl, inr, arith, append_assoc, append-nil, length-take, take-append-drop}
+use Rattle.std.proofs.lemmas.List.{append_cancel_left, length-append, length-map}
+use Rattle.acpi_values.specs.declared.operation.Op.{Op}
 use Rattle.pw_plan.specs.declared.plan.Plan.{Plan}
 use Rattle.pw_plan.specs.declared.request.Request.{Request}
 use Rattle.pw_model.specs.declared.entry.HistoryEntry.{HistoryEntry}
@@ -8,28 +9,29 @@ use Rattle.pw_model.specs.States.{opening}
 use Rattle.pw_model.specs.Operations.{opening_ops}
 use Rattle.pw_text.specs.Lines.{text_of, with_feed}
 use Rattle.pw_script.specs.Asking.{CanBeAsked}
-use Rattle.pw_script.specs.HistoryText.{history_lines, lines_from, op_line, opening_lines}
-use Rattle.pw_script.specs.Lawful.{Begins}
+use Rattle.pw_script.specs.HistoryText.{op_line, opening_lines}
+use Rattle.pw_script.specs.Lawful.{Begins, Lawful}
 use Rattle.pw_script.specs.inner.Openings.{opened, opening_line}
 use Rattle.pw_script.specs.Telling.{HasSegments, IsNarrowFault}
-use Rattle.pw_script.specs.Wholes.{BeginsWhole, IsFirstLine, IsWhole}
-use Rattle.pw_script.proofs.Determined.{head-opening, head_of, heads-tell}
-use Rattle.pw_script.proofs.Ends.{first-line, opening-op}
+use Rattle.pw_script.proofs.Determined.{head_of, heads-tell, tail_of}
 use Rattle.pw_script.proofs.Narrow.{lawful-opening, opening-narrow}
+use Rattle.pw_script.proofs.Nexts.{taken}
 use Rattle.pw_audit.specs.declared.answer.AuditFault.{AuditFault}
 use Rattle.pw_audit.specs.declared.answer.AuditFault.TheVariants.{TooLong, Wrong, Unfinished, Memory}
-use Rattle.pw_audit.specs.Audited.{IsWrong}
-use Rattle.pw_audit.specs.inner.Stopping.{NoOpening, Refuses, StopsAtOpening, StopsIn, WithinOpening}
-use Rattle.pw_audit.proofs.Entries.{lines_few}
-use Rattle.pw_audit.proofs.Passing.{text_of-append}
-use Rattle.pw_audit.proofs.Showing.{Shown, ends_here, whole_lines, wrong_here}
-use Rattle.pw_audit.proofs.Following.{opening_is, shown_none, shown_opening, text_is}
+use Rattle.pw_audit.specs.declared.form.Form.{Form}
+use Rattle.pw_audit.specs.declared.form.Form.TheVariants.{History, Trace}
+use Rattle.pw_audit.specs.Traces.{IsWholeAs, IsWrongAs, Opens, Tells}
+use Rattle.pw_audit.specs.inner.Stopping.{HasFirst, LacksFirst, NoOpening, OpeningRead, Refuses, StopsAtOpening, StopsIn, WithinOpening}
+use Rattle.pw_audit.proofs.Passing.{text_of-append, text_of-one}
+use Rattle.pw_audit.proofs.Showing.{Shown, WholeHas, ends_here, wrong_here}
+use Rattle.pw_audit.proofs.Told.{head_opens, opens_listed, same_opening, told_not_first}
+use Rattle.pw_audit.proofs.Following.{opening_is, start_none, starts_opening}
 
 nothing : {x : List ℕ} {xs : List (List ℕ)} → x ∷ xs ≡ [] → ⊥
 nothing e = cc
 
 -- a text that has first lines, one more, and some of the lines behind it
-within : (front : List (List ℕ)) (first : List ℕ) (some : List (List ℕ)) (text rest later : List ℕ) → text ≡ text_of front ++ (with_feed first ++ rest) → rest ≡ text_of some ++ later
+pub within : (front : List (List ℕ)) (first : List ℕ) (some : List (List ℕ)) (text rest later : List ℕ) → text ≡ text_of front ++ (with_feed first ++ rest) → rest ≡ text_of some ++ later
     → text ≡ text_of (front ++ first ∷ some) ++ later
 within front first some text rest later is more =
     is ∙ ap (λ (l : List ℕ). text_of front ++ (with_feed first ++ l)) more ∙ regroup (text_of front) (with_feed first) (text_of some) later
@@ -38,106 +40,233 @@ within front first some text rest later is more =
     regroup : (a b c d : List ℕ) → a ++ (b ++ (c ++ d)) ≡ (a ++ (b ++ c)) ++ d
     regroup a b c d = simp append_assoc
 
-how_many : (front : List (List ℕ)) (first : List ℕ) (ls : List (List ℕ)) (k : ℕ) → k < length ls → length (front ++ first ∷ take k ls) ≡ length front + 1 + k
-how_many front first ls k lt =
-    let a : length (front ++ first ∷ take k ls) ≡ length front + length (first ∷ take k ls) = length-append front (first ∷ take k ls) in
-    let b = length-take k ls in
-    omega arith
+-- # Openings that were read
 
-module _ (P : Plan) (tell : HasSegments P) (L : List Request) (are : CanBeAsked P L) where
-  -- # Lines behind a first one
+-- a trace left its operations out
+pub opening_out : (form : Form) (P : Plan) (o : Option ℕ) (text rest : List ℕ) → form ≡ Trace → o ≡ None → LacksFirst P rest → text ≡ with_feed (opening_line o) ++ rest
+    → OpeningRead form P o text 1 rest
+opening_out form P o text rest trace none lacks is = record {
+  first = codes "open" ∷ [];
+  opens = subst (λ (f : Form). Opens f P o (codes "open" ∷ [])) (sym trace) (subst (λ (x : Option ℕ). Opens Trace P x (codes "open" ∷ [])) (sym none) (inl refl));
+  lines = refl;
+  is = is ∙ ap (λ (x : Option ℕ). with_feed (opening_line x) ++ rest) none ∙ ap (λ (l : List ℕ). l ++ rest) (sym (text_of-one (codes "open")));
+  out = λ t alone. lacks;
+}
 
-  pub stops_refuse : (front : List (List ℕ)) (first : List ℕ) (ls : List (List ℕ)) (text rest : List ℕ) (n : ℕ) (fault : AuditFault)
-      → text ≡ text_of front ++ (with_feed first ++ rest) → n ≡ length front + 1 → StopsIn ls n rest fault
-      → ((k : ℕ) → k < length ls → Shown P L (front ++ first ∷ take k ls))
-      → ((k : ℕ) (l : List ℕ) → k < length ls → BeginsWhole P L (map with_feed (front ++ first ∷ take k ls) ++ with_feed l ∷ []) → l ≡ get_or ls k [])
-      → ((k : ℕ) → k < length ls → text ≡ text_of (front ++ first ∷ take k ls) → IsWhole P L text → ⊥)
-      → Refuses P L text fault
-  stops_refuse front first ls text rest n (TooLong bound) is number stops shown next lacks = absurd stops
-  stops_refuse front first ls text rest n (Wrong line) is number (k, breaks, at) shown next lacks =
+listed_alone : (P : Plan) (o : Option ℕ) (rest : List ℕ) → opening_lines P o ≡ codes "open" ∷ [] → LacksFirst P rest
+listed_alone P None rest alone x os is b = nothing (ap (λ (ops : List Op). map (op_line P) ops) (sym is) ∙ ap (λ (ls : List (List ℕ)). tail_of ls) alone)
+listed_alone P (Some k) rest alone x os is b = let head = ap (λ (ls : List (List ℕ)). head_of ls) alone in absurd (not_open k head)
+  where
+    not_open : (j : ℕ) → opening_line (Some j) ≡ codes "open" → ⊥
+    not_open j e = cc
+
+pub opening_read : (form : Form) (P : Plan) (o : Option ℕ) (text rest next : List ℕ) (done : List Op) → done ≡ opened o (opening_ops P) → text ≡ with_feed (opening_line o) ++ rest
+    → rest ≡ text_of (map (op_line P) done) ++ next → OpeningRead form P o text (1 + length done) next
+opening_read form P o text rest next done all is goes =
+    let ops = map (op_line P) done in
+    let whole : opening_lines P o ≡ opening_line o ∷ ops = opening_is P o ∙ ap (λ (os : List Op). opening_line o ∷ map (op_line P) os) (sym all) in
+    let size = length-map done (op_line P) in
+    let lines : length (opening_lines P o) ≡ length (opening_line o ∷ ops) = ap (λ (ls : List (List ℕ)). length ls) whole in
+    record {
+      first = opening_lines P o;
+      opens = opens_listed form P o;
+      lines = omega arith;
+      is = is ∙ ap (λ (l : List ℕ). with_feed (opening_line o) ++ l) goes ∙ sym (append_assoc (with_feed (opening_line o)) (text_of ops) next)
+          ∙ ap (λ (ls : List (List ℕ)). text_of ls ++ next) (sym whole);
+      out = λ t alone. listed_alone P o next alone;
+    }
+
+-- # Lines behind a first one
+
+how_many : (first : List ℕ) (ls : List (List ℕ)) (k : ℕ) → k < length ls → length (first ∷ take k ls) ≡ 1 + k
+how_many first ls k lt = let b = length-take k ls in omega arith
+
+-- a trace that opens behind the first operation has that line
+shown_later : (P : Plan) (os : List Op) (rest later : List ℕ) (k : ℕ) → opening_ops P ≡ os → k < length (map (op_line P) os) → HasFirst P rest → rest ≡ text_of (take k (map (op_line P) os)) ++ later
+    → (Begins (with_feed (get_or (map (op_line P) os) k [])) later → ⊥) → 0 < k
+shown_later P [] rest later k is lt has e other = absurd (omega arith)
+shown_later P (o ∷ os) rest later zero is lt has e other = absurd (other (let b = has o os is in record { rest = b.rest; is = sym e ∙ b.is }))
+shown_later P (o ∷ os) rest later (suc k) is lt has e other = omega arith
+
+long_line : (l rest : List ℕ) → [] ≡ with_feed l ++ rest → ⊥
+long_line [] rest e = cc
+long_line (b ∷ l) rest e = cc
+
+module _ (form : Form) (P : Plan) (tell : HasSegments P) (L : List Request) (are : CanBeAsked P L) where
+  narrow_within : (o : Option ℕ) → WithinOpening (length (opening_ops P)) o → IsNarrowFault o
+  narrow_within None w = tt
+  narrow_within (Some k) w = opening-narrow P k w
+
+  listed_or : (f : Form) (o : Option ℕ) (first : List (List ℕ)) → Opens f P o first → (first ≡ opening_lines P o) ⊎ ((f ≡ Trace) × (o ≡ None) × (first ≡ codes "open" ∷ []))
+  listed_or History o first is = inl is
+  listed_or Trace None first (inl is) = inr (refl, refl, is)
+  listed_or Trace None first (inr is) = inl is
+  listed_or Trace (Some k) first is = inl is
+
+  shown_opening : (o : Option ℕ) → WithinOpening (length (opening_ops P)) o → (k : ℕ) → Shown form P L (opening_line o ∷ take k (map (op_line P) (opened o (opening_ops P))))
+  shown_opening o w k =
+      let ops = map (op_line P) (opened o (opening_ops P)) in
+      record {
+        o = o;
+        entries = [];
+        starts = starts_opening P L o w;
+        first = opening_lines P o;
+        later = [];
+        opens = opens_listed form P o;
+        tells = refl;
+        more = drop k ops;
+        is = append-nil (opening_lines P o) ∙ opening_is P o ∙ ap (λ (l : List (List ℕ)). opening_line o ∷ l) (sym (take-append-drop k ops));
+      }
+
+  shown_nothing : Shown form P L []
+  shown_nothing = record {
+    o = None;
+    entries = [];
+    starts = start_none P L;
+    first = opening_lines P None;
+    later = [];
+    opens = opens_listed form P None;
+    tells = refl;
+    more = opening_lines P None ++ [];
+    is = refl;
+  }
+
+  -- the operations of the opening, where a whole text has its line
+  module _ (o : Option ℕ) (w : WithinOpening (length (opening_ops P)) o) (k : ℕ) (lt : k < length (map (op_line P) (opened o (opening_ops P)))) (later : form ≡ Trace → o ≡ None → 0 < k)
+      (f : Option ℕ) (es : List HistoryEntry) (lawful : Lawful P L f es) (first Y : List (List ℕ)) (opens : Opens form P f first) (tells : Tells form P (opening P) 1 es Y) where
+    same_here : (Z : List (List ℕ)) → first ++ Y ≡ opening_line o ∷ Z → o ≡ f
+    same_here Z is =
+        heads-tell P tell o f (narrow_within o w) (lawful-opening P L f es lawful)
+        (ap (λ (ls : List (List ℕ)). head_of ls) (opening_is P o) ∙ ap (λ (ls : List (List ℕ)). head_of ls) (sym is) ∙ head_opens P tell form f first opens Y)
+
+    not_out : (os : List Op) → opening_ops P ≡ os → o ≡ None → 0 < k → (Z : List (List ℕ)) → Y ≡ take k (map (op_line P) os) ++ Z → k < length (map (op_line P) os) → ⊥
+    not_out [] is none some Z e within = absurd (omega arith)
+    not_out (x ∷ os) is none some Z e within = first_told k some e
+      where
+        first_told : (j : ℕ) → 0 < j → Y ≡ take j (map (op_line P) (x ∷ os)) ++ Z → ⊥
+        first_told zero gt same = absurd (omega arith)
+        first_told (suc j) gt same = told_not_first P tell form es (opening P) 1 Y tells x os (take j (map (op_line P) os) ++ Z) is same
+
+    behind_first : (Z : List (List ℕ)) → first ++ Y ≡ opening_line o ∷ (take k (map (op_line P) (opened o (opening_ops P))) ++ Z)
+        → take k (map (op_line P) (opened o (opening_ops P))) ++ Z ≡ map (op_line P) (opened o (opening_ops P)) ++ Y
+    behind_first Z is = step (listed_or form o first (subst (λ (x : Option ℕ). Opens form P x first) (sym same) opens))
+      where
+        ops : List (List ℕ)
+        ops = map (op_line P) (opened o (opening_ops P))
+
+        same : o ≡ f
+        same = same_here (take k (map (op_line P) (opened o (opening_ops P))) ++ Z) is
+
+        step : (first ≡ opening_lines P o) ⊎ ((form ≡ Trace) × (o ≡ None) × (first ≡ codes "open" ∷ []))
+            → take k (map (op_line P) (opened o (opening_ops P))) ++ Z ≡ map (op_line P) (opened o (opening_ops P)) ++ Y
+        step (inl listed) = ap (λ (ls : List (List ℕ)). tail_of ls) (sym is ∙ ap (λ (ls : List (List ℕ)). ls ++ Y) (listed ∙ opening_is P o))
+        step (inr (trace, none, alone)) =
+            let tails : Y ≡ take k (map (op_line P) (opened o (opening_ops P))) ++ Z = ap (λ (ls : List (List ℕ)). tail_of ls) (ap (λ (ls : List (List ℕ)). ls ++ Y) (sym alone) ∙ is) in
+            let all : opened o (opening_ops P) ≡ opening_ops P = ap (λ (x : Option ℕ). opened x (opening_ops P)) none in
+            absurd (not_out (opening_ops P) refl none (later trace none) Z (tails ∙ ap (λ (os : List Op). take k (map (op_line P) os) ++ Z) all)
+            (subst (λ (os : List Op). k < length (map (op_line P) os)) all lt))
+
+  -- a text that stops in the operations of the opening
+  stops_in_opening : (o : Option ℕ) → WithinOpening (length (opening_ops P)) o → (text rest : List ℕ) (fault : AuditFault) → text ≡ with_feed (opening_line o) ++ rest
+      → StopsIn (map (op_line P) (opened o (opening_ops P))) 1 rest fault → (form ≡ Trace → o ≡ None → HasFirst P rest) → Refuses form P L text fault
+  stops_in_opening o w text rest (TooLong bound) is stops has = absurd stops
+  stops_in_opening o w text rest (Wrong line) is (k, breaks, at) has =
+      let ops = map (op_line P) (opened o (opening_ops P)) in
       let lt = breaks.within in
-      let size = how_many front first ls k lt in
-      let line_is : length (front ++ first ∷ take k ls) + 1 ≡ line = omega arith in
-      subst (IsWrong P L text) line_is
-      (wrong_here P tell L are (front ++ first ∷ take k ls) (shown k lt) text breaks.rest (within front first (take k ls) text rest breaks.rest is breaks.is) breaks.some
-      (λ l b w. breaks.other (record { rest = b.rest; is = b.is ∙ ap (λ (x : List ℕ). with_feed x ++ b.rest) (next k l lt w) })))
-  stops_refuse front first ls text rest n (Unfinished lines) is number (k, ends, at) shown next lacks =
+      let size = how_many (opening_line o) ops k lt in
+      let number : length (opening_line o ∷ take k ops) + 1 ≡ line = omega arith in
+      subst (IsWrongAs form P L text) number
+      (wrong_here form P L tell are (opening_line o ∷ take k ops) (shown_opening o w k) text breaks.rest (within [] (opening_line o) (take k ops) text rest breaks.rest is breaks.is) breaks.some
+      (λ l b h.
+      let same = behind_first o w k lt later h.o h.entries h.lawful h.first h.later h.opens h.tells (l ∷ h.after) h.is in
+      breaks.other (record { rest = b.rest; is = b.is ∙ ap (λ (x : List ℕ). with_feed x ++ b.rest) (taken k ops h.later l h.after lt same) })))
+    where
+      later : form ≡ Trace → o ≡ None → 0 < k
+      later trace none = shown_later P (opening_ops P) rest breaks.rest k refl (subst (λ (x : Option ℕ). k < length (map (op_line P) (opened x (opening_ops P)))) none breaks.within) (has trace none)
+          (breaks.is ∙ ap (λ (x : Option ℕ). text_of (take k (map (op_line P) (opened x (opening_ops P)))) ++ breaks.rest) none)
+          (subst (λ (x : Option ℕ). Begins (with_feed (get_or (map (op_line P) (opened x (opening_ops P))) k [])) breaks.rest → ⊥) none breaks.other)
+  stops_in_opening o w text rest (Unfinished lines) is (k, ends, at) has =
+      let ops = map (op_line P) (opened o (opening_ops P)) in
       let lt = ends.within in
-      let size = how_many front first ls k lt in
-      let whole : text ≡ text_of (front ++ first ∷ take k ls) =
-      within front first (take k ls) text rest [] is (ends.is ∙ sym (append-nil (text_of (take k ls)))) ∙ append-nil (text_of (front ++ first ∷ take k ls)) in
-      let h = ends_here P tell L are (front ++ first ∷ take k ls) (shown k lt) text whole (lacks k lt whole) in
+      let size = how_many (opening_line o) ops k lt in
+      let whole : text ≡ text_of (opening_line o ∷ take k ops) =
+      within [] (opening_line o) (take k ops) text rest [] is (ends.is ∙ sym (append-nil (text_of (take k ops)))) ∙ append-nil (text_of (opening_line o ∷ take k ops)) in
+      let h = ends_here form P L tell are (opening_line o ∷ take k ops) (shown_opening o w k) text whole lacks in
       let pieces = h.0 in
       (omega arith, h.1)
-  stops_refuse front first ls text rest n Memory is number stops shown next lacks = tt
+    where
+      later : form ≡ Trace → o ≡ None → 0 < k
+      later trace none = shown_later P (opening_ops P) rest [] k refl (subst (λ (x : Option ℕ). k < length (map (op_line P) (opened x (opening_ops P)))) none ends.within) (has trace none)
+          (ends.is ∙ ap (λ (x : Option ℕ). text_of (take k (map (op_line P) (opened x (opening_ops P))))) none
+          ∙ sym (append-nil (text_of (take k (map (op_line P) (opened None (opening_ops P)))))))
+          (λ b. long_line (get_or (map (op_line P) (opened None (opening_ops P))) k []) b.rest b.is)
 
-  -- # The opening
+      lacks : (v : IsWholeAs form P L text) → opening_line o ∷ take k (map (op_line P) (opened o (opening_ops P))) ≡ v.is.first ++ v.is.later → ⊥
+      lacks v e =
+          let ops = map (op_line P) (opened o (opening_ops P)) in
+          let lt = ends.within in
+          let same : take k ops ++ [] ≡ ops ++ v.is.later =
+          behind_first o w k lt later v.o v.entries v.lawful v.is.first v.is.later v.is.opens v.is.tells []
+          (sym e ∙ ap (λ (ls : List (List ℕ)). opening_line o ∷ ls) (sym (append-nil (take k ops)))) in
+          let short = length-take k ops in
+          let front : length (take k ops ++ []) ≡ length (take k ops) = ap (λ (ls : List (List ℕ)). length ls) (append-nil (take k ops)) in
+          let long : length (take k ops ++ []) ≡ length ops + length v.is.later = ap (λ (ls : List (List ℕ)). length ls) same ∙ length-append ops v.is.later in
+          absurd (omega arith)
+  stops_in_opening o w text rest Memory is stops has = tt
 
-  opening_some : (o : Option ℕ) (es : List HistoryEntry) → 1 ≤ length (history_lines P o es)
-  unfolding history_lines
-  opening_some o es =
-      let whole : length (history_lines P o es) ≡ length (opening_lines P o) + length (lines_from P (opening P) 1 es) = length-append (opening_lines P o) (lines_from P (opening P) 1 es) in
-      let first : length (opening_lines P o) ≡ suc (length (map (op_line P) (opened o (opening_ops P)))) = ap (λ (ls : List (List ℕ)). length ls) (opening_is P o) in
-      omega arith
-
-  empty_lacks : (text : List ℕ) → length text ≡ 0 → IsWhole P L text → ⊥
-  empty_lacks text none w =
-      let some = opening_some w.opening w.entries in
-      let few = lines_few (history_lines P w.opening w.entries) in
-      let size : length text ≡ length (text_of (history_lines P w.opening w.entries)) = ap length (w.is ∙ text_is P w.opening w.entries) in
-      absurd (omega arith)
+  -- # The first line
 
   no_bytes : (text : List ℕ) → length text ≡ 0 → text ≡ []
   no_bytes [] e = refl
   no_bytes (b ∷ bs) e = absurd (omega arith)
 
-  narrow_within : (o : Option ℕ) → WithinOpening (length (opening_ops P)) o → IsNarrowFault o
-  narrow_within None w = tt
-  narrow_within (Some k) w = opening-narrow P k w
+  some_head : (o : Option ℕ) → [] ≡ opening_line o → ⊥
+  some_head None e = cc
+  some_head (Some k) e = cc
 
-  module _ (o : Option ℕ) (w : WithinOpening (length (opening_ops P)) o) where
-    ops : List (List ℕ)
-    ops = map (op_line P) (opened o (opening_ops P))
+  empty_lacks : (text : List ℕ) (v : IsWholeAs form P L text) → [] ≡ v.is.first ++ v.is.later → ⊥
+  empty_lacks text v e =
+      some_head v.o
+      (ap (λ (ls : List (List ℕ)). head_of ls) e ∙ head_opens P tell form v.o v.is.first v.is.opens v.is.later ∙ ap (λ (ls : List (List ℕ)). head_of ls) (opening_is P v.o))
 
-    opening_next : (k : ℕ) (l : List ℕ) → k < length ops → BeginsWhole P L (map with_feed (opening_line o ∷ take k ops) ++ with_feed l ∷ []) → l ≡ get_or ops k []
-    unfolding ops
-    opening_next k l lt b =
-        let size : length (opening_lines P o) ≡ suc (length ops) = ap (λ (ls : List (List ℕ)). length ls) (opening_is P o) in
-        let shown : opening_line o ∷ take k ops ≡ take (suc k) (opening_lines P o) = ap (take (suc k)) (sym (opening_is P o)) in
-        opening-op P tell L are o k l (narrow_within o w) (omega arith) (subst (λ (ls : List (List ℕ)). BeginsWhole P L (map with_feed ls ++ with_feed l ∷ [])) shown b)
-        ∙ ap (λ (ls : List (List ℕ)). get_or ls (suc k) []) (opening_is P o)
+  within_lawful : (o : Option ℕ) (es : List HistoryEntry) → Lawful P L o es → WithinOpening (length (opening_ops P)) o
+  within_lawful None es lawful = tt
+  within_lawful (Some k) es lawful = lawful.0
 
-    opening_lacks : (k : ℕ) (text : List ℕ) → k < length ops → text ≡ text_of (opening_line o ∷ take k ops) → IsWhole P L text → ⊥
-    unfolding ops history_lines
-    opening_lacks k text lt is whole =
-        let lines = whole_lines P tell L are (opening_line o ∷ take k ops) (shown_opening P L o w k) text is whole in
-        let other = whole.opening in
-        let later = lines_from P (opening P) 1 whole.entries in
-        let heads : head_of (opening_lines P o) ≡ head_of (opening_lines P other) =
-        ap (λ (ls : List (List ℕ)). head_of ls) (opening_is P o ∙ sym (ap (λ (l : List (List ℕ)). opening_line o ∷ ops) lines)) ∙ ap (λ (ls : List (List ℕ)). head_of ls) lines
-        ∙ head-opening P tell other later in
-        let same : o ≡ other = heads-tell P tell o other (narrow_within o w) (lawful-opening P L other whole.entries whole.lawful) heads in
-        let size : length (opening_lines P o) ≡ suc (length ops) = ap (λ (ls : List (List ℕ)). length ls) (opening_is P o) in
-        let short = length-take k ops in
-        let long : length (opening_line o ∷ take k ops) ≡ length (opening_lines P other) + length later = ap (λ (ls : List (List ℕ)). length ls) lines ∙ length-append (opening_lines P other) later in
-        let both : length (opening_lines P o) ≡ length (opening_lines P other) = ap (λ (x : Option ℕ). length (opening_lines P x)) same in
-        absurd (omega arith)
+  first_next : (text : List ℕ) → NoOpening P text → (l : List ℕ) → Begins (with_feed l) text → WholeHas form P L tell [] l → ⊥
+  first_next text none l b h =
+      let line : l ≡ opening_line h.o =
+      ap (λ (ls : List (List ℕ)). head_of ls) (sym h.is) ∙ head_opens P tell form h.o h.first h.opens h.later ∙ ap (λ (ls : List (List ℕ)). head_of ls) (opening_is P h.o) in
+      none h.o (within_lawful h.o h.entries h.lawful) (record { rest = b.rest; is = b.is ∙ ap (λ (x : List ℕ). with_feed x ++ b.rest) line })
 
-  first_next : (text : List ℕ) → NoOpening P text → (l : List ℕ) → Begins (with_feed l) text → BeginsWhole P L (with_feed l ∷ []) → ⊥
-  first_next text none l b w = step (first-line P tell L are l w)
-    where
-      step : IsFirstLine P l → ⊥
-      step (inl e) = none None tt (record { rest = b.rest; is = b.is ∙ ap (λ (x : List ℕ). with_feed x ++ b.rest) e })
-      step (inr (k, lt, e)) = none (Some k) lt (record { rest = b.rest; is = b.is ∙ ap (λ (x : List ℕ). with_feed x ++ b.rest) e })
-
-  pub at_opening : (text : List ℕ) (fault : AuditFault) → StopsAtOpening P text fault → Refuses P L text fault
-  unfolding ops
-  at_opening text fault (inl memory) = subst (Refuses P L text) (sym memory) tt
+  pub at_opening : (text : List ℕ) (fault : AuditFault) → StopsAtOpening form P text fault → Refuses form P L text fault
+  at_opening text fault (inl memory) = subst (Refuses form P L text) (sym memory) tt
   at_opening text fault (inr (inl h)) =
-      let ends = ends_here P tell L are [] (shown_none P L) text (no_bytes text h.1) (empty_lacks text h.1) in
-      subst (Refuses P L text) (sym h.0) ends
+      let ends = ends_here form P L tell are [] shown_nothing text (no_bytes text h.1) (empty_lacks text) in
+      subst (Refuses form P L text) (sym h.0) ends
   at_opening text fault (inr (inr (inl h))) =
-      subst (Refuses P L text) (sym h.0) (wrong_here P tell L are [] (shown_none P L) text text refl h.1 (first_next text h.2))
-  at_opening text fault (inr (inr (inr s))) =
-      stops_refuse [] (opening_line s.opening) (map (op_line P) (opened s.opening (opening_ops P))) text s.rest 1 fault s.is refl s.stops
-      (λ k lt. shown_opening P L s.opening s.within k) (opening_next s.opening s.within) (λ k lt is. opening_lacks s.opening s.within k text lt is)
+      subst (Refuses form P L text) (sym h.0) (wrong_here form P L tell are [] shown_nothing text text refl h.1 (first_next text h.2))
+  at_opening text fault (inr (inr (inr s))) = stops_in_opening s.opening s.within text s.rest fault s.is s.stops s.has
+
+  -- # Behind an opening that a fault ended
+
+  pub behind_opening : (k : ℕ) (text left : List ℕ) (first : List (List ℕ)) → k < length (opening_ops P) → Opens form P (Some k) first → text ≡ text_of first ++ left → 0 < length left
+      → IsWrongAs form P L text (length first + 1)
+  behind_opening k text left first lt opens is some =
+      wrong_here form P L tell are first
+      (record { o = Some k; entries = []; starts = (lt, refl); first = first; later = []; opens = opens; tells = refl; more = []; is = refl }) text left is some
+      (λ l b h. none h.o h.entries h.lawful h.first h.later h.opens h.tells l h.after h.is)
+    where
+      listed : (f : Form) (ls : List (List ℕ)) → Opens f P (Some k) ls → ls ≡ opening_lines P (Some k)
+      listed History ls e = e
+      listed Trace ls e = e
+
+      none : (f : Option ℕ) (es : List HistoryEntry) → Lawful P L f es → (other Y : List (List ℕ)) → Opens form P f other → Tells form P (opening P) 1 es Y → (l : List ℕ) (zs : List (List ℕ))
+          → other ++ Y ≡ first ++ l ∷ zs → ⊥
+      none f es lawful other Y opens_f tells l zs same =
+          let is_f : Some k ≡ f = same_opening P tell form (Some k) f first other opens opens_f (opening-narrow P k lt) (lawful-opening P L f es lawful) (l ∷ zs) Y same in
+          let opens_k : Opens form P (Some k) other = subst (λ (x : Option ℕ). Opens form P x other) (sym is_f) opens_f in
+          let no_entries : es ≡ [] = (subst (λ (x : Option ℕ). Lawful P L x es) (sym is_f) lawful).1 in
+          let no_lines : Y ≡ [] = subst (λ (x : List HistoryEntry). Tells form P (opening P) 1 x Y) no_entries tells in
+          let alike : other ≡ first = listed form other opens_k ∙ sym (listed form first opens) in
+          nothing (sym (append_cancel_left first [] (l ∷ zs) (ap (λ (ls : List (List ℕ)). first ++ ls) (sym no_lines) ∙ ap (λ (ls : List (List ℕ)). ls ++ Y) (sym alike) ∙ same)))

@@ -1,22 +1,33 @@
 -- Texts that begin with the lines of a start.
-use Rattle.std.proofs.Common.{◌≡◌, ◌<◌, ◌+◌, ◌==◌, ◌∙◌, ℕ, suc, Bool, true, false, List, [], ◌∷◌, ◌++◌, map, take, length, Option, refl, ap, sym, subst, arith, append_assoc, append-nil, eqb-true, ne_eqb}
+use Rattle.std.proofs.Common.{◌≡◌, ◌⊎◌, ◌<◌, ◌≤◌, ◌+◌, ◌==◌, ◌∙◌, ℕ, min, suc, Bool, true, false, List, [], ◌∷◌, ◌++◌, map, take, drop, length, length-take, Option, Some, None, refl, ap, ap₂, sym, subst, inl, inr, arith, append_assoc, append-nil, eqb-true, take-append-drop, take-take}
+use Rattle.std.specs.List.{AllByRecursion}
 use Rattle.std.proofs.Math.Seq.{take-append_seam}
-use Rattle.std.proofs.lemmas.List.{length-append, length-map, map-append, take-append-le}
+use Rattle.std.proofs.lemmas.Bool.{cases_eq}
+use Rattle.std.proofs.lemmas.List.{append_cancel_right, length-append, length-map, map-append, take-append-le, take-map, take_min}
 use Rattle.pw_plan.specs.declared.plan.Plan.{Plan}
 use Rattle.pw_plan.specs.declared.request.Request.{Request}
+use Rattle.pw_plan.proofs.Lists.{each_append, each_map}
 use Rattle.pw_model.specs.declared.entry.HistoryEntry.{HistoryEntry}
+use Rattle.pw_model.specs.States.{opening}
+use Rattle.pw_model.specs.History.{Faultless, entry_of, replay_from}
 use Rattle.pw_text.specs.Lines.{text_of, with_feed}
 use Rattle.pw_script.specs.Asking.{CanBeAsked}
-use Rattle.pw_script.specs.HistoryText.{history_lines, history_text}
-use Rattle.pw_script.specs.Lawful.{Begins}
+use Rattle.pw_script.specs.Completing.{IsStart, lines_left}
+use Rattle.pw_script.specs.HistoryText.{lines_from}
+use Rattle.pw_script.specs.Lawful.{Begins, IsRunOf, Lawful}
 use Rattle.pw_script.specs.Telling.{HasSegments}
-use Rattle.pw_script.specs.Wholes.{BeginsWhole, HasFeed, IsWhole, Starts, onto_first, pieces_of}
-use Rattle.pw_script.proofs.Beginnings.{begins-whole, one_line}
-use Rattle.pw_script.proofs.Cuts.{AllOver, Over, ended-same}
-use Rattle.pw_script.proofs.Determined.{lines-over}
-use Rattle.pw_script.proofs.Ends.{begins-shorter, each-feed}
+use Rattle.pw_script.specs.Wholes.{HasFeed, Starts, onto_first, pieces_of}
+use Rattle.pw_script.proofs.Beginnings.{one_line, pieces_of-text}
+use Rattle.pw_script.proofs.Completions.{completed-run}
+use Rattle.pw_script.proofs.Cuts.{AllOver, Over}
+use Rattle.pw_script.proofs.Determined.{head_of, tail_of}
 use Rattle.pw_script.proofs.Firsts.{each_first, each_rest}
-use Rattle.pw_audit.specs.Audited.{IsUnfinished, IsWrong}
+use Rattle.pw_audit.specs.declared.form.Form.{Form}
+use Rattle.pw_audit.specs.Traces.{BeginsAs, IsUnfinishedAs, IsWholeAs, IsWrongAs, Opens, Tells}
+use Rattle.pw_audit.proofs.Told.{opens_over, tells_append, tells_listed, tells_over}
+
+nothing : {x : List ℕ} {xs : List (List ℕ)} → x ∷ xs ≡ [] → ⊥
+nothing e = cc
 
 -- # Pieces
 
@@ -60,65 +71,179 @@ take_one (y ∷ xs) x more =
     let n : length (y ∷ xs) + 1 ≡ suc (length xs + 1) = omega arith in
     ap (λ (k : ℕ). take k (y ∷ (xs ++ x ∷ more))) n ∙ ap (λ (l : List (List ℕ)). y ∷ l) (take_one xs x more)
 
--- # Lines of a start
+-- # Lines of a text
 
-pub record Shown (P : Plan) (L : List Request) (ls : List (List ℕ)) : Type 0 where
-  pub opening : Option ℕ
-  pub entries : List HistoryEntry
-  pub starts : Starts P L opening entries
-  pub more : List (List ℕ)
-  pub is : history_lines P opening entries ≡ ls ++ more
+unfeed : (xs ys : List (List ℕ)) → map with_feed xs ≡ map with_feed ys → xs ≡ ys
+unfeed [] [] e = refl
+unfeed [] (y ∷ ys) e = absurd (nothing (sym e))
+unfeed (x ∷ xs) [] e = absurd (nothing e)
+unfeed (x ∷ xs) (y ∷ ys) e =
+    let first : x ≡ y = append_cancel_right x y (10 ∷ []) (ap (λ (ls : List (List ℕ)). head_of ls) e) in
+    ap₂ (λ (l : List ℕ) (ls : List (List ℕ)). l ∷ ls) first (unfeed xs ys (ap (λ (ls : List (List ℕ)). tail_of ls) e))
 
-module _ (P : Plan) (tell : HasSegments P) (L : List Request) (are : CanBeAsked P L) (ls : List (List ℕ)) (shown : Shown P L ls) where
-  pub shown_over : AllOver 10 ls
-  shown_over = each_first (Over 10) ls shown.more (subst (AllOver 10) shown.is (lines-over P tell shown.opening shown.entries))
+each_take : {X : Type 0} (T : X → Type 0) (n : ℕ) (xs : List X) → AllByRecursion T xs → AllByRecursion T (take n xs)
+each_take T n xs a = each_first T (take n xs) (drop n xs) (subst (AllByRecursion T) (sym (take-append-drop n xs)) a)
 
-  begins_here : BeginsWhole P L (map with_feed ls)
-  begins_here =
-      let all : map with_feed (history_lines P shown.opening shown.entries) ≡ map with_feed ls ++ map with_feed shown.more =
-      ap (map with_feed) shown.is ∙ map-append with_feed ls shown.more in
-      begins-whole P L tell are (map with_feed ls) (record {
-        opening = shown.opening;
-        entries = shown.entries;
-        starts = shown.starts;
-        first = ap (take (length (map with_feed ls))) all ∙ take-append_seam (map with_feed ls) (map with_feed shown.more);
-      })
+-- # A start goes on to a history of the whole script
 
-  -- a text with these lines, and something behind them that can't be
-  pub wrong_here : (text rest : List ℕ) → text ≡ text_of ls ++ rest → 0 < length rest
-      → ((l : List ℕ) → Begins (with_feed l) rest → BeginsWhole P L (map with_feed ls ++ with_feed l ∷ []) → ⊥)
-      → IsWrong P L text (length ls + 1)
-  wrong_here text rest is some none =
-      let A = map with_feed ls in
-      let first = first_piece rest some in
-      let size : length A ≡ length ls = length-map ls with_feed in
-      let pieces : pieces_of text ≡ A ++ first.piece ∷ first.more = ap pieces_of is ∙ pieces-append ls rest shown_over ∙ ap (λ (ps : List (List ℕ)). A ++ ps) first.pieces in
-      let long : length (pieces_of text) ≡ length A + length (first.piece ∷ first.more) = ap (λ (ps : List (List ℕ)). length ps) pieces ∙ length-append A (first.piece ∷ first.more) in
-      let one : take (length ls + 1) (pieces_of text) ≡ A ++ first.piece ∷ [] =
-      ap (take (length ls + 1)) pieces ∙ ap (λ (n : ℕ). take (n + 1) (A ++ first.piece ∷ first.more)) (sym size) ∙ take_one A first.piece first.more in
+faultless_or : (es : List HistoryEntry) → Faultless es ⊎ (Faultless es → ⊥)
+faultless_or [] = inl tt
+faultless_or (e ∷ es) = elim (cases_eq e.fault 0) [
+  | inl z ↦ elim (faultless_or es) [
+    | inl none ↦ inl (z, none)
+    | inr some ↦ inr (λ f. some f.1)
+  ]
+  | inr ne ↦ inr (λ f. ne f.0)
+]
+
+record Completed (P : Plan) (L : List Request) (es : List HistoryEntry) : Type 0 where
+  later : List HistoryEntry
+  run : IsRunOf P L (es ++ later)
+
+completes : (P : Plan) (L : List Request) (are : CanBeAsked P L) (es : List HistoryEntry) → IsStart P L es → Completed P L es
+completes P L are es start = elim (faultless_or es) [
+  | inl none ↦ record { later = map (entry_of 0) (lines_left L es); run = completed-run P L es are.has none start }
+  | inr some ↦ record {
+    later = [];
+    run = subst (IsRunOf P L) (sym (append-nil es)) (record { legal = start.legal; begins = start.begins; whole = λ none. absurd (some none) });
+  }
+]
+
+module _ (form : Form) (P : Plan) (L : List Request) where
+  -- the first lines of a start
+  pub record Shown (ls : List (List ℕ)) : Type 0 where
+    pub o : Option ℕ
+    pub entries : List HistoryEntry
+    pub starts : Starts P L o entries
+    pub first : List (List ℕ)
+    pub later : List (List ℕ)
+    pub opens : Opens form P o first
+    pub tells : Tells form P (opening P) 1 entries later
+    pub more : List (List ℕ)
+    pub is : first ++ later ≡ ls ++ more
+
+  -- fewer of the first lines are first lines too
+  pub begins_shorter : (lines : List (List ℕ)) (j : ℕ) → BeginsAs form P L lines → BeginsAs form P L (take j lines)
+  begins_shorter lines j b =
+      let n : length (take j lines) ≡ min j (length lines) = length-take j lines in
+      let le : min j (length lines) ≤ length lines = omega arith in
       record {
-        some = omega arith;
-        within = omega arith;
-        wrong = λ b. bad first (subst (BeginsWhole P L) one b);
-        least = λ j lt.
-            let front : take j (pieces_of text) ≡ take j A = ap (take j) pieces ∙ take-append-le j A (first.piece ∷ first.more) (omega arith) in
-            subst (BeginsWhole P L) (sym front) (begins-shorter P L A j begins_here);
+        text = b.text;
+        whole = b.whole;
+        first =
+            ap (λ m. take m (pieces_of b.text)) n
+            ∙ sym (take-take (min j (length lines)) (length lines) (pieces_of b.text) le)
+            ∙ ap (take (min j (length lines))) b.first
+            ∙ take_min j lines;
       }
-    where
-      bad : (first : FirstPiece rest) → BeginsWhole P L (map with_feed ls ++ first.piece ∷ []) → ⊥
-      bad first b =
-          let feed : HasFeed first.piece = (each_rest HasFeed (map with_feed ls) (first.piece ∷ []) (each-feed P tell L (map with_feed ls ++ first.piece ∷ []) b)).0 in
-          none feed.line (record { rest = first.tail; is = first.is ∙ ap (λ (l : List ℕ). l ++ first.tail) feed.is })
-          (subst (λ (l : List ℕ). BeginsWhole P L (map with_feed ls ++ l ∷ [])) feed.is b)
 
-  -- a text of these lines alone
-  pub ends_here : (text : List ℕ) → text ≡ text_of ls → (IsWhole P L text → ⊥) → (length ls ≡ length (pieces_of text)) × IsUnfinished P L text
-  ends_here text is lacks =
-      let pieces : pieces_of text ≡ map with_feed ls =
-      ap pieces_of (is ∙ sym (append-nil (text_of ls))) ∙ pieces-append ls [] shown_over ∙ append-nil (map with_feed ls) in
-      (sym (ap (λ (ps : List (List ℕ)). length ps) pieces ∙ length-map ls with_feed), record { begins = subst (BeginsWhole P L) (sym pieces) begins_here; lacks = lacks })
+  module _ (tell : HasSegments P) where
+    pub all_over : (o : Option ℕ) (es : List HistoryEntry) (first later : List (List ℕ)) → Opens form P o first → Tells form P (opening P) 1 es later → AllOver 10 (first ++ later)
+    all_over o es first later opens tells = each_append (Over 10) first later (opens_over P tell form o first opens) (tells_over P tell form es (opening P) 1 later tells)
 
-  -- such a text is whole where these lines are those of what may come
-  pub whole_lines : (text : List ℕ) → text ≡ text_of ls → (w : IsWhole P L text) → ls ≡ history_lines P w.opening w.entries
-  unfolding history_text
-  whole_lines text is w = ended-same 10 ls (history_lines P w.opening w.entries) shown_over (lines-over P tell w.opening w.entries) (sym is ∙ w.is)
+    pub text_lines : (text : List ℕ) (w : IsWholeAs form P L text) → pieces_of text ≡ map with_feed (w.is.first ++ w.is.later)
+    text_lines text w = ap pieces_of w.is.is ∙ pieces_of-text (w.is.first ++ w.is.later) (all_over w.o w.entries w.is.first w.is.later w.is.opens w.is.tells)
+
+    whole_begins : (o : Option ℕ) (es : List HistoryEntry) (first later ls more : List (List ℕ)) → Lawful P L o es → Opens form P o first → Tells form P (opening P) 1 es later
+        → first ++ later ≡ ls ++ more → BeginsAs form P L (map with_feed ls)
+    whole_begins o es first later ls more lawful opens tells is = record {
+      text = text_of (first ++ later);
+      whole = record { o = o; entries = es; lawful = lawful; is = record { first = first; later = later; opens = opens; tells = tells; is = refl } };
+      first =
+          ap (take (length (map with_feed ls))) (pieces_of-text (first ++ later) (all_over o es first later opens tells) ∙ ap (map with_feed) is ∙ map-append with_feed ls more)
+          ∙ take-append_seam (map with_feed ls) (map with_feed more);
+    }
+
+    start_begins : CanBeAsked P L → (o : Option ℕ) (es : List HistoryEntry) (first later ls more : List (List ℕ)) → Starts P L o es → Opens form P o first
+        → Tells form P (opening P) 1 es later → first ++ later ≡ ls ++ more → BeginsAs form P L (map with_feed ls)
+    start_begins are None es first later ls more starts opens tells is =
+        let done = completes P L are es starts in
+        let rest = lines_from P (replay_from P (opening P) es) (1 + length es) done.later in
+        whole_begins None (es ++ done.later) first (later ++ rest) ls (more ++ rest) done.run opens
+        (tells_append form P es done.later (opening P) 1 later rest tells (tells_listed form P done.later (replay_from P (opening P) es) (1 + length es)))
+        (sym (append_assoc first later rest) ∙ ap (λ (x : List (List ℕ)). x ++ rest) is ∙ append_assoc ls more rest)
+    start_begins are (Some k) es first later ls more starts opens tells is = whole_begins (Some k) es first later ls more starts opens tells is
+
+    -- a whole text whose lines begin so
+    pub record WholeHas (shown : List (List ℕ)) (l : List ℕ) : Type 0 where
+      pub o : Option ℕ
+      pub entries : List HistoryEntry
+      pub lawful : Lawful P L o entries
+      pub first : List (List ℕ)
+      pub later : List (List ℕ)
+      pub opens : Opens form P o first
+      pub tells : Tells form P (opening P) 1 entries later
+      pub after : List (List ℕ)
+      pub is : first ++ later ≡ shown ++ l ∷ after
+
+    pub whole_has : (shown : List (List ℕ)) (l : List ℕ) → BeginsAs form P L (map with_feed shown ++ with_feed l ∷ []) → WholeHas shown l
+    whole_has shown l b =
+        let w = b.whole in
+        let all = w.is.first ++ w.is.later in
+        let n = length (map with_feed shown ++ with_feed l ∷ []) in
+        let front : map with_feed (take n all) ≡ map with_feed (shown ++ l ∷ []) =
+        sym (take-map with_feed n all) ∙ ap (take n) (sym (text_lines b.text w)) ∙ b.first ∙ sym (map-append with_feed shown (l ∷ [])) in
+        let same : take n all ≡ shown ++ l ∷ [] = unfeed (take n all) (shown ++ l ∷ []) front in
+        record {
+          o = w.o;
+          entries = w.entries;
+          lawful = w.lawful;
+          first = w.is.first;
+          later = w.is.later;
+          opens = w.is.opens;
+          tells = w.is.tells;
+          after = drop n all;
+          is = sym (take-append-drop n all) ∙ ap (λ (x : List (List ℕ)). x ++ drop n all) same ∙ append_assoc shown (l ∷ []) (drop n all);
+        }
+
+    each_feed : (lines : List (List ℕ)) → BeginsAs form P L lines → AllByRecursion HasFeed lines
+    each_feed lines b =
+        let all = b.whole.is.first ++ b.whole.is.later in
+        subst (AllByRecursion HasFeed) (ap (take (length lines)) (sym (text_lines b.text b.whole)) ∙ b.first)
+        (each_take HasFeed (length lines) (map with_feed all) (each_map HasFeed with_feed all (λ l. record { line = l; is = refl })))
+
+    -- # Lines of a start
+
+    module _ (are : CanBeAsked P L) (ls : List (List ℕ)) (shown : Shown ls) where
+      shown_over : AllOver 10 ls
+      shown_over = each_first (Over 10) ls shown.more (subst (AllOver 10) shown.is (all_over shown.o shown.entries shown.first shown.later shown.opens shown.tells))
+
+      begins_here : BeginsAs form P L (map with_feed ls)
+      begins_here = start_begins are shown.o shown.entries shown.first shown.later ls shown.more shown.starts shown.opens shown.tells shown.is
+
+      -- a text with these lines, and something behind them that can't be
+      pub wrong_here : (text rest : List ℕ) → text ≡ text_of ls ++ rest → 0 < length rest
+          → ((l : List ℕ) → Begins (with_feed l) rest → WholeHas ls l → ⊥)
+          → IsWrongAs form P L text (length ls + 1)
+      wrong_here text rest is some none =
+          let A = map with_feed ls in
+          let first = first_piece rest some in
+          let size : length A ≡ length ls = length-map ls with_feed in
+          let pieces : pieces_of text ≡ A ++ first.piece ∷ first.more = ap pieces_of is ∙ pieces-append ls rest shown_over ∙ ap (λ (ps : List (List ℕ)). A ++ ps) first.pieces in
+          let long : length (pieces_of text) ≡ length A + length (first.piece ∷ first.more) = ap (λ (ps : List (List ℕ)). length ps) pieces ∙ length-append A (first.piece ∷ first.more) in
+          let one : take (length ls + 1) (pieces_of text) ≡ A ++ first.piece ∷ [] =
+          ap (take (length ls + 1)) pieces ∙ ap (λ (n : ℕ). take (n + 1) (A ++ first.piece ∷ first.more)) (sym size) ∙ take_one A first.piece first.more in
+          record {
+            some = omega arith;
+            within = omega arith;
+            wrong = λ b. bad first (subst (BeginsAs form P L) one b);
+            least = λ j lt.
+                let front : take j (pieces_of text) ≡ take j A = ap (take j) pieces ∙ take-append-le j A (first.piece ∷ first.more) (omega arith) in
+                subst (BeginsAs form P L) (sym front) (begins_shorter A j begins_here);
+          }
+        where
+          bad : (first : FirstPiece rest) → BeginsAs form P L (map with_feed ls ++ first.piece ∷ []) → ⊥
+          bad first b =
+              let feed : HasFeed first.piece = (each_rest HasFeed (map with_feed ls) (first.piece ∷ []) (each_feed (map with_feed ls ++ first.piece ∷ []) b)).0 in
+              none feed.line (record { rest = first.tail; is = first.is ∙ ap (λ (l : List ℕ). l ++ first.tail) feed.is })
+              (whole_has ls feed.line (subst (λ (l : List ℕ). BeginsAs form P L (map with_feed ls ++ l ∷ [])) feed.is b))
+
+      -- a text of these lines alone
+      pub ends_here : (text : List ℕ) → text ≡ text_of ls → ((w : IsWholeAs form P L text) → ls ≡ w.is.first ++ w.is.later → ⊥)
+          → (length ls ≡ length (pieces_of text)) × IsUnfinishedAs form P L text
+      ends_here text is lacks =
+          let pieces : pieces_of text ≡ map with_feed ls =
+          ap pieces_of (is ∙ sym (append-nil (text_of ls))) ∙ pieces-append ls [] shown_over ∙ append-nil (map with_feed ls) in (
+            sym (ap (λ (ps : List (List ℕ)). length ps) pieces ∙ length-map ls with_feed),
+            record { begins = subst (BeginsAs form P L) (sym pieces) begins_here; lacks = λ w. lacks w (unfeed ls (w.is.first ++ w.is.later) (sym pieces ∙ text_lines text w)) },
+          )

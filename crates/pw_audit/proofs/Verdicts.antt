@@ -5,25 +5,19 @@ use Rattle.std.proofs.lemmas.Bool.{cases_order}
 use Rattle.std.proofs.lemmas.List.{take_min}
 use Rattle.pw_plan.specs.declared.plan.Plan.{Plan}
 use Rattle.pw_plan.specs.declared.request.Request.{Request}
-use Rattle.pw_script.specs.Wholes.{BeginsWhole, IsWhole, pieces_of}
-use Rattle.pw_script.proofs.Ends.{begins-shorter}
+use Rattle.pw_script.specs.Wholes.{pieces_of}
 use Rattle.pw_audit.specs.declared.answer.Audit.{Audit}
 use Rattle.pw_audit.specs.declared.answer.AuditFault.{AuditFault}
 use Rattle.pw_audit.specs.declared.answer.AuditFault.TheVariants.{TooLong, Wrong, Unfinished, Memory}
 use Rattle.pw_audit.specs.declared.answer.TheConstants.{MOST_BYTES}
-use Rattle.pw_audit.specs.Audited.{IsShort, IsUnfinished, IsWrong, Shows}
-use Rattle.pw_audit.specs.inner.Stopping.{Refuses}
+use Rattle.pw_audit.specs.declared.form.Form.{Form}
+use Rattle.pw_audit.specs.Audited.{IsShort}
+use Rattle.pw_audit.specs.Traces.{BeginsAs, IsUnfinishedAs, IsWholeAs, IsWrongAs, ShowsAs}
+use Rattle.pw_audit.specs.inner.Stopping.{Refuses, Told}
+use Rattle.pw_audit.proofs.Showing.{begins_shorter}
 
-module _ (P : Plan) (asked : List Request) (text : List ℕ) where
-  -- the cause of an answer
-  abbrev pub Told : Result Audit AuditFault → Type 0
-  Told (Ok a) = IsShort text × Shows P asked text a
-  Told (Err (TooLong b)) = (b ≡ MOST_BYTES) × (MOST_BYTES < length text)
-  Told (Err (Wrong k)) = IsShort text × IsWrong P asked text k
-  Told (Err (Unfinished n)) = IsShort text × (n ≡ length (pieces_of text)) × IsUnfinished P asked text
-  Told (Err Memory) = Unit {0}
-
-  pub told_of : (r : Result Audit AuditFault) → IsShort text → IfOk r (λ a. Shows P asked text a) → IfErr r (Refuses P asked text) → Told r
+module _ (form : Form) (P : Plan) (asked : List Request) (text : List ℕ) where
+  pub told_of : (r : Result Audit AuditFault) → IsShort text → IfOk r (λ a. ShowsAs form P asked text a) → IfErr r (Refuses form P asked text) → Told form P asked text r
   told_of (Ok a) short shown refuses = (short, shown)
   told_of (Err (TooLong b)) short shown refuses = absurd refuses
   told_of (Err (Wrong k)) short shown refuses = (short, refuses)
@@ -32,23 +26,23 @@ module _ (P : Plan) (asked : List Request) (text : List ℕ) where
 
   -- # What excludes what
 
-  whole_begins : IsWhole P asked text → (k : ℕ) → BeginsWhole P asked (take k (pieces_of text))
+  whole_begins : IsWholeAs form P asked text → (k : ℕ) → BeginsAs form P asked (take k (pieces_of text))
   whole_begins w k = record {
     text = text;
     whole = w;
     first = ap (λ (n : ℕ). take n (pieces_of text)) (length-take k (pieces_of text)) ∙ take_min k (pieces_of text);
   }
 
-  shows_whole : (a : Audit) → Shows P asked text a → IsWhole P asked text
-  shows_whole a h = record { opening = a.opening; entries = a.entries; lawful = h.lawful; is = h.is }
+  shows_whole : (a : Audit) → ShowsAs form P asked text a → IsWholeAs form P asked text
+  shows_whole a h = record { o = a.opening; entries = a.entries; lawful = h.lawful; is = h.is }
 
-  wrong_whole : (k : ℕ) → IsWrong P asked text k → IsWhole P asked text → ⊥
+  wrong_whole : (k : ℕ) → IsWrongAs form P asked text k → IsWholeAs form P asked text → ⊥
   wrong_whole k h w = h.wrong (whole_begins w k)
 
-  wrong_unfinished : (k : ℕ) → IsWrong P asked text k → IsUnfinished P asked text → ⊥
-  wrong_unfinished k h u = h.wrong (begins-shorter P asked (pieces_of text) k u.begins)
+  wrong_unfinished : (k : ℕ) → IsWrongAs form P asked text k → IsUnfinishedAs form P asked text → ⊥
+  wrong_unfinished k h u = h.wrong (begins_shorter form P asked (pieces_of text) k u.begins)
 
-  one_wrong : (j k : ℕ) → IsWrong P asked text j → IsWrong P asked text k → j ≡ k
+  one_wrong : (j k : ℕ) → IsWrongAs form P asked text j → IsWrongAs form P asked text k → j ≡ k
   one_wrong j k g h = elim (cases_order j k) [
     | inl same ↦ same
     | inr order ↦ elim order [
@@ -63,32 +57,33 @@ module _ (P : Plan) (asked : List Request) (text : List ℕ) where
   differ : false ≡ true → ⊥
   differ e = cc
 
-  pub told_shown : (r : Result Audit AuditFault) → Told r → IfOk r (λ a. Shows P asked text a)
+  pub told_shown : (r : Result Audit AuditFault) → Told form P asked text r → IfOk r (λ a. ShowsAs form P asked text a)
   told_shown (Ok a) t = t.1
   told_shown (Err e) t = tt
 
-  pub told_whole : (r : Result Audit AuditFault) → Told r → r ≢ Err Memory → IsOk r ↔ (IsShort text × IsWhole P asked text)
+  pub told_whole : (r : Result Audit AuditFault) → Told form P asked text r → r ≢ Err Memory → IsOk r ↔ (IsShort text × IsWholeAs form P asked text)
   told_whole (Ok a) t m = (λ ok. (t.0, shows_whole a t.1), λ h. refl)
   told_whole (Err (TooLong b)) t m = (λ ok. absurd (differ ok), λ h. absurd (not_both h.0 t.1))
   told_whole (Err (Wrong k)) t m = (λ ok. absurd (differ ok), λ h. absurd (wrong_whole k t.1 h.1))
   told_whole (Err (Unfinished n)) t m = (λ ok. absurd (differ ok), λ h. absurd (t.2.lacks h.1))
   told_whole (Err Memory) t m = absurd (m refl)
 
-  pub told_long : (b : ℕ) (r : Result Audit AuditFault) → Told r → r ≢ Err Memory → r ≡ Err (TooLong b) ↔ ((b ≡ MOST_BYTES) × (MOST_BYTES < length text))
+  pub told_long : (b : ℕ) (r : Result Audit AuditFault) → Told form P asked text r → r ≢ Err Memory → r ≡ Err (TooLong b) ↔ ((b ≡ MOST_BYTES) × (MOST_BYTES < length text))
   told_long b (Ok a) t m = (λ e. cc, λ h. absurd (not_both t.0 h.1))
   told_long b (Err (TooLong d)) t m = (λ e. let same : d ≡ b = cc in (sym same ∙ t.0, t.1), λ h. ap (λ (x : ℕ). Err (TooLong x)) (t.0 ∙ sym h.0))
   told_long b (Err (Wrong k)) t m = (λ e. cc, λ h. absurd (not_both t.0 h.1))
   told_long b (Err (Unfinished n)) t m = (λ e. cc, λ h. absurd (not_both t.0 h.1))
   told_long b (Err Memory) t m = absurd (m refl)
 
-  pub told_wrong : (k : ℕ) (r : Result Audit AuditFault) → Told r → r ≢ Err Memory → r ≡ Err (Wrong k) ↔ (IsShort text × IsWrong P asked text k)
+  pub told_wrong : (k : ℕ) (r : Result Audit AuditFault) → Told form P asked text r → r ≢ Err Memory → r ≡ Err (Wrong k) ↔ (IsShort text × IsWrongAs form P asked text k)
   told_wrong k (Ok a) t m = (λ e. cc, λ h. absurd (wrong_whole k h.1 (shows_whole a t.1)))
   told_wrong k (Err (TooLong b)) t m = (λ e. cc, λ h. absurd (not_both h.0 t.1))
-  told_wrong k (Err (Wrong j)) t m = (λ e. let same : j ≡ k = cc in (t.0, subst (IsWrong P asked text) same t.1), λ h. ap (λ (x : ℕ). Err (Wrong x)) (one_wrong j k t.1 h.1))
+  told_wrong k (Err (Wrong j)) t m = (λ e. let same : j ≡ k = cc in (t.0, subst (IsWrongAs form P asked text) same t.1), λ h. ap (λ (x : ℕ). Err (Wrong x)) (one_wrong j k t.1 h.1))
   told_wrong k (Err (Unfinished n)) t m = (λ e. cc, λ h. absurd (wrong_unfinished k h.1 t.2))
   told_wrong k (Err Memory) t m = absurd (m refl)
 
-  pub told_unfinished : (n : ℕ) (r : Result Audit AuditFault) → Told r → r ≢ Err Memory → r ≡ Err (Unfinished n) ↔ (IsShort text × (n ≡ length (pieces_of text)) × IsUnfinished P asked text)
+  pub told_unfinished : (n : ℕ) (r : Result Audit AuditFault) → Told form P asked text r → r ≢ Err Memory
+      → r ≡ Err (Unfinished n) ↔ (IsShort text × (n ≡ length (pieces_of text)) × IsUnfinishedAs form P asked text)
   told_unfinished n (Ok a) t m = (λ e. cc, λ h. absurd (h.2.lacks (shows_whole a t.1)))
   told_unfinished n (Err (TooLong b)) t m = (λ e. cc, λ h. absurd (not_both h.0 t.1))
   told_unfinished n (Err (Wrong k)) t m = (λ e. cc, λ h. absurd (wrong_unfinished k t.1 h.2))

@@ -1,26 +1,27 @@
 //! The lines of an entry.
-ghost use Rattle.std.specs.Prelude.{◌≡◌, ◌<◌, ◌≤◌, ◌+◌, ◌^◌, ◌++◌, length, map, take, IfErr, IfOk, if◌then◌else◌, ◌==◌, ◌-◌};
-ghost use Rattle.pw_text.specs.Lines.{text_of};
+ghost use Rattle.std.specs.Prelude.{◌≡◌, ◌<◌, ◌≤◌, ◌+◌, ◌^◌, length, take, IfErr, IfOk, if◌then◌else◌, ◌==◌, ◌-◌};
 ghost use Rattle.pw_plan.specs.Requests.{cpu_of};
 ghost use Rattle.pw_model.specs.States.{IsState};
-ghost use Rattle.pw_model.specs.History.{after_entry, request_of};
-ghost use Rattle.pw_script.specs.HistoryText.{entry_lines};
+ghost use Rattle.pw_model.specs.History.{after_entry, entry_ops, request_of};
 ghost use Rattle.pw_script.specs.inner.Paths.{paths_of};
 ghost use Rattle.pw_script.specs.Telling.{HasSegments};
 ghost use Rattle.pw_audit.specs.inner.Looking.{LeadsTo};
-ghost use Rattle.pw_audit.specs.inner.Queues.{EachOwn, Takes};
-ghost use Rattle.pw_audit.specs.inner.Stopping.{MayCome, StopsAtEntry, entry_with};
+ghost use Rattle.pw_audit.specs.inner.Queues.{AreWithin, EachOwn, Takes};
+ghost use Rattle.pw_audit.specs.inner.Stopping.{EntryRead, MayCome, OpsRead, StopsAtEntry, StopsInOps, entry_with};
 
 use crate::answer::AuditFault;
-use crate::asked::Asked;
+use crate::form::Form;
 use crate::head::read_head;
 use crate::matching::pass_ops;
 use crate::names::Names;
 use crate::outcome::read_outcome;
+use crate::queues::Queues;
+use crate::traced::pass_traced;
 use acpi_values::Op;
 use pw_core::{Ops, State};
 use pw_model::HistoryEntry;
 use pw_plan::{ANY_LATENCY, Request};
+use std::alloc::Global;
 use std::collections::HashMap;
 
 /// An entry of seat 0, of a processor.
@@ -74,13 +75,39 @@ fn done_before(ops: &[Op], fault: u32) -> &[Op]
     &ops[..fault as usize - 1]
 }
 
-/// The entry that comes next in a text, asked in this state, and what stands behind its lines and how many
-/// lines stand before that. Leaves the state after the entry.
-pub(crate) fn read_entry<'a>(
+/// Passes over the lines of an entry's operations, which should come behind so many lines.
+fn pass_done<'a>(
+    form: Form,
+    alloc: Global,
     line: &mut Vec<u8>,
     names: &Names,
     index: &HashMap<Vec<u8>, u32>,
-    asked: &mut Asked,
+    done: &[Op],
+    before: u32,
+    left: &'a [u8],
+) -> Result<&'a [u8], AuditFault>
+    requires segments { HasSegments names.now }
+    requires index { LeadsTo 0 (paths_of names.now) index.now }
+    requires within { AreWithin (length names.now.cpus) done.now }
+    requires short { before + length left.now < 2 ^ 32 }
+    ensures ok { IfOk result (λ rest. OpsRead form names.now done.now left.now rest.now) }
+    ensures stops { IfErr result (StopsInOps form names.now done.now before left.now) }
+{
+    match form {
+        Form::History => pass_ops(line, names, done, before, left),
+        Form::Trace => pass_traced(alloc, line, names, index, done, before, left),
+    }
+}
+
+/// The entry that comes next in a text, asked in this state, and what stands behind its lines and how many
+/// lines stand before that. Leaves the state after the entry.
+pub(crate) fn read_entry<'a>(
+    form: Form,
+    alloc: Global,
+    line: &mut Vec<u8>,
+    names: &Names,
+    index: &HashMap<Vec<u8>, u32>,
+    asked: &mut Queues<Request>,
     state: &mut State,
     ops: &mut Ops,
     number: u64,
@@ -97,14 +124,15 @@ pub(crate) fn read_entry<'a>(
     requires short { before + length left.now < 2 ^ 32 }
     ensures may { IfOk result (λ r. MayCome names.now state.old asked.old r.0) }
     ensures seat { IfOk result (λ r. r.0.seat ≡ 0) }
-    ensures text { IfOk result (λ r. left.now ≡ text_of (entry_lines names.now state.old number r.0)
-        ++ r.2.now) }
-    ensures lines { IfOk result (λ r. r.1 ≡ before + length (entry_lines names.now state.old number r.0)) }
+    ensures read { IfOk result (λ r.
+        EntryRead form names.now state.old number r.0 left.now r.2.now) }
+    ensures lines { IfOk result (λ r. r.1 ≡ before + 1 + length (entry_ops names.now state.old r.0)) }
     ensures takes { IfOk result (λ r. Takes asked.old r.0.cpu (request_of r.0) asked.new) }
     ensures after { IfOk result (λ r. state.new ≡ after_entry names.now state.old r.0) }
     ensures fits { IsState names.now state.new }
     ensures room { ops.new.capacity ≡ ops.old.capacity }
-    ensures stops { IfErr result (StopsAtEntry names.now state.old number asked.old before left.now) }
+    ensures stops { IfErr result (
+        StopsAtEntry form names.now state.old number asked.old before left.now) }
 {
     let wrong = AuditFault::Wrong { line: before + 1 };
     let Some((request, behind)) = read_head(line, names, index, asked, number, left)? else {
@@ -114,7 +142,7 @@ pub(crate) fn read_entry<'a>(
         return Err(wrong);
     };
     let done = done_before(ops.list(), fault);
-    let next = pass_ops(line, names, done, before + 1, rest)?;
+    let next = pass_done(form, alloc, line, names, index, done, before + 1, rest)?;
     Ok((
         entry_with(request, fault),
         before + 1 + done.len() as u32,

@@ -9,9 +9,9 @@ ghost use Rattle.pw_script.specs.Telling.{HasSegments};
 ghost use Rattle.pw_audit.specs.inner.Looking.{LeadsTo};
 ghost use Rattle.pw_audit.specs.inner.Queues.{EachOwn, IsNext, Takes};
 
-use crate::asked::Asked;
 use crate::matching::{strip, word};
 use crate::names::{Names, find};
+use crate::queues::Queues;
 use crate::words::{push, push_decimal, push_request};
 use pw_base::Memory;
 use pw_plan::Request;
@@ -34,7 +34,7 @@ pub(crate) fn read_head<'a>(
     line: &mut Vec<u8>,
     names: &Names,
     index: &HashMap<Vec<u8>, u32>,
-    asked: &mut Asked,
+    asked: &mut Queues<Request>,
     number: u64,
     left: &'a [u8],
 ) -> Result<Option<(Request, &'a [u8])>, Memory>

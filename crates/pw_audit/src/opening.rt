@@ -1,15 +1,17 @@
 //! The lines of the opening.
-ghost use Rattle.std.specs.Prelude.{◌≡◌, ◌<◌, ◌+◌, ◌^◌, ◌++◌, ◌∷◌, [], ℕ, Option, length, IfErr, IfOk, MatchOption};
-ghost use Rattle.pw_text.specs.Lines.{text_of, with_feed};
+ghost use Rattle.std.specs.Prelude.{◌≡◌, ◌<◌, ◌+◌, ◌^◌, ◌++◌, ◌∷◌, [], ℕ, None, Option, false, length, true, IfErr, IfOk, MatchOption};
+ghost use Rattle.pw_text.specs.Lines.{with_feed};
 ghost use Rattle.pw_model.specs.Operations.{opening_ops};
-ghost use Rattle.pw_script.specs.HistoryText.{opening_lines};
 ghost use Rattle.pw_script.specs.Lawful.{Begins};
 ghost use Rattle.pw_script.specs.inner.Openings.{opened, opening_line};
-ghost use Rattle.pw_audit.specs.inner.Stopping.{StopsAtOpening, WithinOpening};
+ghost use Rattle.pw_audit.specs.declared.form.Form.TheVariants.{Trace};
+ghost use Rattle.pw_audit.specs.inner.Stopping.{HasFirst, LacksFirst, OpeningRead, StopsAtOpening, WithinOpening};
 
 use crate::answer::AuditFault;
+use crate::form::Form;
 use crate::matching::{pass_ops, strip};
 use crate::names::Names;
+use crate::operations::push_op_line;
 use crate::outcome::read_count;
 use acpi_values::Op;
 use pw_base::Memory;
@@ -48,9 +50,49 @@ fn opened(ops: &[Op], opening: Option<u32>) -> &[Op]
     }
 }
 
+/// Whether a text doesn't begin with the first of these operations of the opening, if there are any.
+fn lacks_first(line: &mut Vec<u8>, names: &Names, ops: &[Op], left: &[u8]) -> Result<bool, Memory>
+    requires ops { ops.now ≡ opening_ops names.now }
+    ensures lacks { IfOk result (λ b. b ≡ true → LacksFirst names.now left.now) }
+    ensures has { IfOk result (λ b. b ≡ false → HasFirst names.now left.now) }
+{
+    match ops.first() {
+        None => Ok(false),
+        Some(op) => {
+            line.clear();
+            push_op_line(line, names, op)?;
+            Ok(strip(left, line.as_slice()).is_none())
+        }
+    }
+}
+
+/// Whether a trace left out the operations of the opening, which are these.
+fn leaves_out(
+    form: Form,
+    opening: Option<u32>,
+    line: &mut Vec<u8>,
+    names: &Names,
+    ops: &[Op],
+    left: &[u8],
+) -> Result<bool, Memory>
+    requires ops { ops.now ≡ opening_ops names.now }
+    ensures out { IfOk result (λ b. b ≡ true →
+        (form ≡ Trace) × (opening ≡ None) × LacksFirst names.now left.now) }
+    ensures has { IfOk result (λ b. b ≡ false → form ≡ Trace → opening ≡ None → HasFirst names.now left.now) }
+{
+    match form {
+        Form::History => Ok(false),
+        Form::Trace => match opening {
+            None => lacks_first(line, names, ops, left),
+            Some(_) => Ok(false),
+        },
+    }
+}
+
 /// How the opening went, which has these operations, as a text says it, what stands behind its lines, and
 /// how many lines stand before that.
 pub(crate) fn read_opening<'a>(
+    form: Form,
     line: &mut Vec<u8>,
     names: &Names,
     ops: &[Op],
@@ -60,9 +102,8 @@ pub(crate) fn read_opening<'a>(
     requires few { length ops.now + 1 < 2 ^ 32 }
     requires short { length text.now + 1 < 2 ^ 32 }
     ensures within { IfOk result (λ r. WithinOpening (length (opening_ops names.now)) r.0) }
-    ensures text { IfOk result (λ r. text.now ≡ text_of (opening_lines names.now r.0) ++ r.2.now) }
-    ensures lines { IfOk result (λ r. r.1 ≡ length (opening_lines names.now r.0)) }
-    ensures stops { IfErr result (StopsAtOpening names.now text.now) }
+    ensures read { IfOk result (λ r. OpeningRead form names.now r.0 text.now r.1 r.2.now) }
+    ensures stops { IfErr result (StopsAtOpening form names.now text.now) }
 {
     if text.is_empty() {
         return Err(AuditFault::Unfinished { lines: 0 });
@@ -70,6 +111,9 @@ pub(crate) fn read_opening<'a>(
     let Some((opening, rest)) = read_first(line, ops.len() as u32, text)? else {
         return Err(AuditFault::Wrong { line: 1 });
     };
+    if leaves_out(form, opening, line, names, ops, rest)? {
+        return Ok((opening, 1, rest));
+    }
     let done = opened(ops, opening);
     let next = pass_ops(line, names, done, 1, rest)?;
     Ok((opening, 1 + done.len() as u32, next))

@@ -1,22 +1,22 @@
 //! The walk over a text, line by line, with the state of the plan at each line.
-ghost use Rattle.std.specs.Prelude.{◌≡◌, ◌<◌, ◌≤◌, ◌+◌, ◌^◌, ◌++◌, None, length, IfErr, IfOk};
+ghost use Rattle.std.specs.Prelude.{◌≡◌, ◌<◌, ◌≤◌, ◌^◌, None, length, IfErr, IfOk};
 ghost use Rattle.std.specs.List.{AllByRecursion};
-ghost use Rattle.pw_text.specs.Lines.{text_of};
 ghost use Rattle.pw_model.specs.declared.entry.HistoryEntry.{HistoryEntry as entry};
 ghost use Rattle.pw_model.specs.States.{IsState, opening};
 ghost use Rattle.pw_script.specs.Asking.{IsNarrowRequest};
-ghost use Rattle.pw_script.specs.HistoryText.{history_text, opening_lines};
 ghost use Rattle.pw_script.specs.Lawful.{Lawful};
 ghost use Rattle.pw_script.specs.Reading.{requests_of};
 ghost use Rattle.pw_script.specs.inner.Paths.{paths_of};
 ghost use Rattle.pw_script.specs.Telling.{HasSegments};
-ghost use Rattle.pw_audit.specs.Audited.{IsShort, Shows};
+ghost use Rattle.pw_audit.specs.Audited.{IsShort};
+ghost use Rattle.pw_audit.specs.Traces.{ShowsAs, TextTells};
 ghost use Rattle.pw_audit.specs.inner.Looking.{LeadsTo};
-ghost use Rattle.pw_audit.specs.inner.Stopping.{Refuses, known};
+ghost use Rattle.pw_audit.specs.inner.Stopping.{OpeningRead, Refuses, known};
 
 use crate::answer::{Audit, AuditFault};
-use crate::asked::Asked;
+use crate::asked::asked_by;
 use crate::entry::read_entry;
+use crate::form::Form;
 use crate::names::{Names, index_of};
 use crate::opening::read_opening;
 use pw_base::List;
@@ -54,38 +54,39 @@ fn lines_known(lines: &[Line])
 
 /// The entries of a text behind its opening, which has so many lines.
 fn read_entries(
+    form: Form,
     alloc: Global,
     line: &mut Vec<u8>,
     names: &Names,
     ops: &mut Ops,
     lines: &[Line],
-    before: u32,
     text: &[u8],
+    before: u32,
+    behind: &[u8],
 ) -> Result<Vec<HistoryEntry>, AuditFault>
     requires segments { HasSegments names.now }
     requires narrow { AllByRecursion IsNarrowRequest (requests_of lines.now) }
     requires room { 256 ≤ ops.old.capacity }
-    requires opened { before ≡ length (opening_lines names.now None) }
-    requires short { length (text_of (opening_lines names.now None)) + length text.now < 2 ^ 31 }
+    requires opened { OpeningRead form names.now None text.now before behind.now }
+    requires short { length text.now < 2 ^ 31 }
     ensures lawful { IfOk result
         (λ entries. Lawful names.now (known names.now (requests_of lines.now)) None entries.items) }
-    ensures text { IfOk result (λ entries. text_of (opening_lines names.now None) ++ text.now
-        ≡ history_text names.now None entries.items) }
+    ensures tells { IfOk result (λ entries. TextTells form names.now None entries.items text.now) }
     ensures seats { IfOk result (λ entries. AllByRecursion (λ (e : entry). e.seat ≡ 0) entries.items) }
-    ensures refuses { IfErr result (Refuses names.now (known names.now (requests_of lines.now))
-        (text_of (opening_lines names.now None) ++ text.now)) }
+    ensures refuses { IfErr result
+        (Refuses form names.now (known names.now (requests_of lines.now)) text.now) }
 {
     let plan = names.plan();
     let index = index_of(alloc, names)?;
-    let mut asked = Asked::new(alloc, plan.cpus.as_slice().len(), lines)?;
+    let mut asked = asked_by(alloc, plan.cpus.as_slice().len(), lines)?;
     let mut state = State::open(alloc, plan)?;
     let mut entries = Vec::new(alloc);
     let mut passed = before;
-    let mut left = text;
+    let mut left = behind;
     while !left.is_empty() {
         let number = entries.len() as u64 + 1;
         let (entry, next, rest) = read_entry(
-            line, names, &index, &mut asked, &mut state, ops, number, passed, left,
+            form, alloc, line, names, &index, &mut asked, &mut state, ops, number, passed, left,
         )?;
         entries.push(entry)?;
         if entry.fault != 0 {
@@ -105,14 +106,15 @@ fn read_entries(
 
 /// What a text shows, if it is whole.
 pub(crate) fn read_text(
+    form: Form,
     alloc: Global,
     plan: &Plan,
     lines: &[Line],
     text: &[u8],
 ) -> Result<Audit, AuditFault>
     requires { IsShort text.now }
-    ensures shown { IfOk result (λ a. Shows plan.now (requests_of lines.now) text.now a) }
-    ensures refuses { IfErr result (Refuses plan.now (requests_of lines.now) text.now) }
+    ensures shown { IfOk result (λ a. ShowsAs form plan.now (requests_of lines.now) text.now a) }
+    ensures refuses { IfErr result (Refuses form plan.now (requests_of lines.now) text.now) }
 {
     plans_have_segments(plan);
     lines_known(lines);
@@ -120,7 +122,7 @@ pub(crate) fn read_text(
     let mut line = Vec::new(alloc);
     let mut ops = Ops::new(alloc, plan.opening_bound().max(MOST_OF_A_REQUEST))?;
     open_all(plan, &mut ops);
-    let (opening, before, left) = read_opening(&mut line, &names, ops.list(), text)?;
+    let (opening, before, left) = read_opening(form, &mut line, &names, ops.list(), text)?;
     if let Some(_) = opening {
         if !left.is_empty() {
             return Err(AuditFault::Wrong { line: before + 1 });
@@ -130,7 +132,9 @@ pub(crate) fn read_text(
             entries: List::from_vec(Vec::new(alloc)),
         });
     }
-    let entries = read_entries(alloc, &mut line, &names, &mut ops, lines, before, left)?;
+    let entries = read_entries(
+        form, alloc, &mut line, &names, &mut ops, lines, text, before, left,
+    )?;
     Ok(Audit {
         opening,
         entries: List::from_vec(entries),

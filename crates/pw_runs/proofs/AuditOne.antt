@@ -13,7 +13,9 @@ use Rattle.pw_audit.specs.declared.answer.Audit.{Audit}
 use Rattle.pw_audit.specs.declared.answer.AuditFault.{AuditFault}
 use Rattle.pw_audit.specs.declared.answer.AuditFault.TheVariants.{Memory}
 use Rattle.pw_audit.specs.declared.answer.TheConstants.{MOST_BYTES}
-use Rattle.pw_audit.proofs.Verdicts.{Told, told_long, told_unfinished, told_whole, told_wrong}
+use Rattle.pw_audit.specs.declared.form.Form.TheVariants.{History}
+use Rattle.pw_audit.specs.inner.Stopping.{Told}
+use Rattle.pw_audit.proofs.Histories.{audited_long, audited_unfinished, audited_whole, audited_wrong, is_unfinished, is_wrong}
 use Rattle.pw_load.specs.Seen.{NoneFailed}
 use Rattle.pw_load.proofs.Completeness.{IsOne}
 use Rattle.pw_runs.specs.Runs.{AreGiven, IsRefusalOn}
@@ -32,10 +34,10 @@ abbrev Failed : AuditFault → Result Audit AuditFault
 Failed fault = Err fault
 
 module _ (P : Plan) (asked : List Request) (bytes : List ℕ) where
-  fault_told : (f : AuditFault) → IsNoHistory P asked bytes f → Told P asked bytes (Err f)
+  fault_told : (f : AuditFault) → IsNoHistory P asked bytes f → Told History P asked bytes (Err f)
   fault_told _ (too_long more) = (refl, more)
-  fault_told _ (wrong short is) = (short, is)
-  fault_told _ (unfinished short is) = (short, refl, is)
+  fault_told _ (wrong {line = k} short is) = (short, (is_wrong P asked bytes k).1 is)
+  fault_told _ (unfinished short is) = (short, refl, (is_unfinished P asked bytes).1 is)
 
   fault_own : (f : AuditFault) → IsNoHistory P asked bytes f → Failed f ≢ Failed Memory
   fault_own _ (too_long more) = λ e. absurd (cc)
@@ -43,14 +45,14 @@ module _ (P : Plan) (asked : List Request) (bytes : List ℕ) where
   fault_own _ (unfinished short is) = λ e. absurd (cc)
 
   one_fault : (f g : AuditFault) → IsNoHistory P asked bytes f → IsNoHistory P asked bytes g → f ≡ g
-  one_fault f _ p (too_long more) = let e = (told_long P asked bytes MOST_BYTES (Failed f) (fault_told f p) (fault_own f p)).1 (refl, more) in cc
-  one_fault f _ p (wrong {line = k} short is) = let e = (told_wrong P asked bytes k (Failed f) (fault_told f p) (fault_own f p)).1 (short, is) in cc
+  one_fault f _ p (too_long more) = let e = (audited_long P asked bytes MOST_BYTES (Failed f) (fault_told f p) (fault_own f p)).1 (refl, more) in cc
+  one_fault f _ p (wrong {line = k} short is) = let e = (audited_wrong P asked bytes k (Failed f) (fault_told f p) (fault_own f p)).1 (short, is) in cc
   one_fault f _ p (unfinished short is) =
-      let e = (told_unfinished P asked bytes (length (pieces_of bytes)) (Failed f) (fault_told f p) (fault_own f p)).1 (short, refl, is) in
+      let e = (audited_unfinished P asked bytes (length (pieces_of bytes)) (Failed f) (fault_told f p) (fault_own f p)).1 (short, refl, is) in
       cc
 
   not_both : (n : ℕ) (f : AuditFault) → IsHistory P asked bytes n → IsNoHistory P asked bytes f → ⊥
-  not_both n f h p = false≢true ((told_whole P asked bytes (Failed f) (fault_told f p) (fault_own f p)).1 (h.short, h.whole))
+  not_both n f h p = false≢true ((audited_whole P asked bytes (Failed f) (fault_told f p) (fault_own f p)).1 (h.short, h.whole))
 
   one_count : HasSegments P → (m n : ℕ) → IsHistory P asked bytes m → IsHistory P asked bytes n → m ≡ n
   one_count tell m n p q =

@@ -1,15 +1,16 @@
-use Rattle.std.proofs.Common.{◌≡◌, ◌∙◌, ◌+◌, ◌++◌, List, map, length, ap, sym, subst, inl, inr, refl, arith}
-use Rattle.std.proofs.lemmas.List.{length-map}
+use Rattle.std.proofs.Common.{◌≡◌, ◌∙◌, ◌+◌, List, length, ap, sym, subst, inl, inr, refl, arith}
 use Rattle.std.proofs.lemmas.Result.{err_from_is_err_and}
 use Rattle.acpi_values.specs.declared.operation.Op.{Op}
 use Rattle.pw_plan.specs.declared.plan.Plan.{Plan}
 use Rattle.pw_model.specs.declared.entry.HistoryEntry.{HistoryEntry}
+use Rattle.pw_model.specs.History.{entry_ops}
 use Rattle.pw_model.specs.Operations.{ops_of}
-use Rattle.pw_text.specs.Lines.{text_of}
-use Rattle.pw_script.specs.HistoryText.{entry_lines, op_line}
 use Rattle.pw_script.specs.Wholes.{entry_line}
-use Rattle.pw_audit.specs.inner.Stopping.{MayCome, entry_with}
-use Rattle.pw_audit.proofs.Entries.{counted, done_of, line_read, lines_count, lines_read, may_come, no_end, no_head, stops_behind}
+use Rattle.pw_audit.specs.inner.Queues.{AreWithin}
+use Rattle.pw_audit.specs.inner.Stopping.{EntryRead, MayCome, entry_with}
+use Rattle.pw_audit.proofs.Entries.{counted, done_of, entry_read, line_read, may_come, no_end, no_head, ops_count, stops_behind}
+use Rattle.pw_audit.proofs.Told.{ops_length}
+use Rattle.pw_audit.proofs.Within.{done_within}
 use Rattle.pw_audit.proofs.entry.read_entry.Goals as goal
 
 pub returns-in_default-clause-stops : goal.returns-in_default-clause-stops
@@ -38,7 +39,7 @@ returns-in_err-next-clause-stops c =
     let done : c.done_before-done.result.now ≡ done_of (ops_of P S q) f = c.done_before-done.ensures ∙ ap (λ (os : List Op). done_of os f) ops in
     rw (p.1, p.2)
     (inr (inr (stops_behind P S c.args.number c.args.asked.now c.args.left.now q c.in-Some.behind.now head.2 only f c.in-Some-2.rest.now head.0 c.read_head.new.asked head.1 end.0 end.1
-    c.done_before-done.result.now c.args.before c.in_err-next.field-0.0 done c.in_err-next.ensures.stops)))
+    c.args.form c.done_before-done.result.now c.args.before c.in_err-next.field-0.0 done c.in_err-next.ensures.stops)))
 
 pub overflow_cast-result : goal.overflow_cast-result
 overflow_cast-result c =
@@ -50,9 +51,9 @@ overflow_cast-result c =
     let only = rw c.in-Some.is at c.in_ok-request.ensures.only in
     let end = rw c.plan.ensures at (rw c.in-Some-2.is at c.in_ok-fault.ensures.read) in
     let first = line_read P S c.args.number c.args.asked.now c.args.left.now q c.in-Some.behind.now head.2 only f c.in-Some-2.rest.now head.0 c.read_head.new.asked head.1 end.0 end.1 in
-    let few =
-    counted c.args.left.now (entry_line P S c.args.number (entry_with q f)) c.in-Some-2.rest.now c.in_ok-next.next.now (map (op_line P) c.done_before-done.result.now) first c.in_ok-next.ensures.ok in
-    let size = length-map c.done_before-done.result.now (op_line P) in
+    let read = c.in_ok-next.ensures.ok in
+    let size = ops_length c.args.form P c.done_before-done.result.now read.lines read.tells in
+    let few = counted c.args.form P c.args.left.now (entry_line P S c.args.number (entry_with q f)) c.in-Some-2.rest.now c.in_ok-next.next.now c.done_before-done.result.now first read size in
     let short = c.requires.short in
     omega (arith, few, size, short)
 
@@ -66,9 +67,9 @@ overflow_add-result-2 c =
     let only = rw c.in-Some.is at c.in_ok-request.ensures.only in
     let end = rw c.plan.ensures at (rw c.in-Some-2.is at c.in_ok-fault.ensures.read) in
     let first = line_read P S c.args.number c.args.asked.now c.args.left.now q c.in-Some.behind.now head.2 only f c.in-Some-2.rest.now head.0 c.read_head.new.asked head.1 end.0 end.1 in
-    let few =
-    counted c.args.left.now (entry_line P S c.args.number (entry_with q f)) c.in-Some-2.rest.now c.in_ok-next.next.now (map (op_line P) c.done_before-done.result.now) first c.in_ok-next.ensures.ok in
-    let size = length-map c.done_before-done.result.now (op_line P) in
+    let read = c.in_ok-next.ensures.ok in
+    let size = ops_length c.args.form P c.done_before-done.result.now read.lines read.tells in
+    let few = counted c.args.form P c.args.left.now (entry_line P S c.args.number (entry_with q f)) c.in-Some-2.rest.now c.in_ok-next.next.now c.done_before-done.result.now first read size in
     let short = c.requires.short in
     omega (arith, few, size, short)
 
@@ -84,8 +85,19 @@ returns-clause-may c =
     subst (λ (e : HistoryEntry). MayCome P S c.args.asked.now e) (sym c.entry_with.ensures)
     (may_come P S c.args.number c.args.asked.now c.args.left.now q c.in-Some.behind.now head.2 only f c.in-Some-2.rest.now head.0 c.read_head.new.asked head.1 end.0 end.1)
 
-pub returns-clause-text : goal.returns-clause-text
-returns-clause-text c =
+pub pass_done-requires-clause-within : goal.pass_done-requires-clause-within
+pass_done-requires-clause-within c =
+    let P = c.args.names.now in
+    let S = c.args.state.now in
+    let q = c.in-Some.request in
+    let f = c.in-Some-2.fault in
+    let head = rw c.in-Some.is at c.in_ok-request.ensures.read in
+    let ops : c.list.result.now ≡ ops_of P S q = c.list.ensures ∙ c.in_ok-fault.ensures.ops ∙ ap (λ (p : Plan). ops_of p S q) c.plan.ensures in
+    let done : c.done_before-done.result.now ≡ done_of (ops_of P S q) f = c.done_before-done.ensures ∙ ap (λ (os : List Op). done_of os f) ops in
+    subst (AreWithin (length P.cpus)) (sym done) (done_within P S q f head.0)
+
+pub returns-clause-read : goal.returns-clause-read
+returns-clause-read c =
     let P = c.args.names.now in
     let S = c.args.state.now in
     let q = c.in-Some.request in
@@ -95,9 +107,9 @@ returns-clause-text c =
     let end = rw c.plan.ensures at (rw c.in-Some-2.is at c.in_ok-fault.ensures.read) in
     let ops : c.list.result.now ≡ ops_of P S q = c.list.ensures ∙ c.in_ok-fault.ensures.ops ∙ ap (λ (p : Plan). ops_of p S q) c.plan.ensures in
     let done : c.done_before-done.result.now ≡ done_of (ops_of P S q) f = c.done_before-done.ensures ∙ ap (λ (os : List Op). done_of os f) ops in
-    subst (λ (e : HistoryEntry). c.args.left.now ≡ text_of (entry_lines P S c.args.number e) ++ c.in_ok-next.next.now) (sym c.entry_with.ensures)
-    (lines_read P S c.args.number c.args.asked.now c.args.left.now q c.in-Some.behind.now head.2 only f c.in-Some-2.rest.now head.0 c.read_head.new.asked head.1 end.0 end.1
-    c.done_before-done.result.now c.in_ok-next.next.now done c.in_ok-next.ensures.ok)
+    subst (λ (e : HistoryEntry). EntryRead c.args.form P S c.args.number e c.args.left.now c.in_ok-next.next.now) (sym c.entry_with.ensures)
+    (entry_read P S c.args.number c.args.asked.now c.args.left.now q c.in-Some.behind.now head.2 only f c.in-Some-2.rest.now head.0 c.read_head.new.asked head.1 end.0 end.1
+    c.args.form c.done_before-done.result.now c.in_ok-next.next.now done c.in_ok-next.ensures.ok)
 
 pub returns-clause-lines : goal.returns-clause-lines
 returns-clause-lines c =
@@ -107,5 +119,5 @@ returns-clause-lines c =
     let f = c.in-Some-2.fault in
     let ops : c.list.result.now ≡ ops_of P S q = c.list.ensures ∙ c.in_ok-fault.ensures.ops ∙ ap (λ (p : Plan). ops_of p S q) c.plan.ensures in
     let done : c.done_before-done.result.now ≡ done_of (ops_of P S q) f = c.done_before-done.ensures ∙ ap (λ (os : List Op). done_of os f) ops in
-    subst (λ (e : HistoryEntry). c.args.before + 1 + length c.done_before-done.result.now ≡ c.args.before + length (entry_lines P S c.args.number e)) (sym c.entry_with.ensures)
-    (lines_count P S c.args.number c.args.before q f c.done_before-done.result.now done)
+    subst (λ (e : HistoryEntry). c.args.before + 1 + length c.done_before-done.result.now ≡ c.args.before + 1 + length (entry_ops P S e)) (sym c.entry_with.ensures)
+    (ops_count P S c.args.before q f c.done_before-done.result.now done)

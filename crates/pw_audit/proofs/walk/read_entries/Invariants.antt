@@ -1,6 +1,4 @@
-use Rattle.std.proofs.Common.{◌≤◌, ◌++◌, None, length}
-use Rattle.pw_text.specs.Lines.{text_of}
-use Rattle.pw_script.specs.HistoryText.{opening_lines}
+use Rattle.std.proofs.Common.{◌≤◌, length}
 use Rattle.pw_script.specs.Reading.{requests_of}
 use Rattle.pw_audit.specs.inner.Stopping.{known}
 use Rattle.pw_audit.proofs.Walking.{Walked}
@@ -8,7 +6,7 @@ use Rattle.pw_audit.proofs.walk.read_entries.Given as goal
 
 abbrev pub invariant-loop-left : goal.invariant-loop-left
 invariant-loop-left l = record {
-  walked : Walked l.names (known l.names (requests_of l.lines)) (text_of (opening_lines l.names None) ++ l.text) l.entries.items l.state l.asked l.passed l.left;
+  walked : Walked l.form l.names (known l.names (requests_of l.lines)) l.text l.entries.items l.state l.asked l.passed l.left;
   room : 256 ≤ l.ops.capacity;
 }
 

@@ -2,7 +2,7 @@ use Rattle.std.proofs.Common.{◌≡◌, ◌<◌, ◌≤◌, ◌++◌, ℕ, leng
 use Rattle.pw_notice.specs.Limits.{own}
 use Rattle.pw_script.specs.Reading.{requests_of}
 use Rattle.pw_audit.specs.inner.Queues.{left_of}
-use Rattle.pw_audit.proofs.asked.Asked.new.Given as goal
+use Rattle.pw_audit.proofs.asked.asked_by.Given as goal
 
 abbrev pub invariant-loop-at : goal.invariant-loop-at
 invariant-loop-at l = record {

@@ -6,7 +6,7 @@ use Rattle.pw_script.specs.declared.script.Line.{Line as line}
 use Rattle.pw_script.specs.Reading.{requests_of}
 use Rattle.pw_audit.specs.inner.Queues.{left_of}
 use Rattle.pw_audit.proofs.Queueing.{line_put}
-use Rattle.pw_audit.proofs.asked.Asked.new.Goals as goal
+use Rattle.pw_audit.proofs.asked.asked_by.Goals as goal
 
 pub loop-at-init : goal.loop-at-init
 loop-at-init c =
@@ -30,7 +30,7 @@ loop-at-preserved c =
     record {
       within = omega arith;
       size = c.in_ok-put.ensures.size ∙ c.loop-at.invariant.size;
-      each = λ p below. line_put p n lines _ (left_of c.loop-at.asked p) (left_of c.put.new.self p) lt
-          (ap (λ (k : ℕ). own p (requests_of (take k lines)) ++ left_of c.loop-at.asked p) next ∙ c.loop-at.invariant.each p below)
+      each = λ p below. line_put p n c.cpu.result lines _ (left_of c.loop-at.asked p) (left_of c.put.new.self p) lt
+          (ap (λ (k : ℕ). own p (requests_of (take k lines)) ++ left_of c.loop-at.asked p) next ∙ c.loop-at.invariant.each p below) c.cpu.ensures
           (c.in_ok-put.ensures.first p (omega (arith, below, c.loop-at.invariant.size)));
     }
