@@ -1,16 +1,17 @@
 /* Coordinators of ACPI processor power (ACPI 6.5, chapter 8), for callers in C11 and C++17.
  *
- * A coordinator that several callers share ends after 65,536 requests: its seats answer YEQ_FULL from then on.
- * A coordinator of one caller has no such end.
- *
  *     machine   reads definition blocks, makes the plan of their processors, and is the coordinator of one
  *               caller for idle, performance and throttling states
- *     seat      one caller's place at a coordinator that several callers share, for the same requests
+ *     endless   one caller's place at a coordinator that several callers share, for the same requests, each in
+ *               two steps: begun, and finished once its operations are done
+ *     seat      the same where each request is one call, and the history is kept. It ends after 65,536 requests:
+ *               its seats answer YEQ_FULL from then on
  *     cppc      the coordinator of one caller for desired performance, by _CPC
  *
- * A coordinator operates no register. Each request that is done leaves a list of operations, and the caller
- * does them, in order. Callers that share a coordinator do theirs in the order of the history's numbers, which
- * yeq_seat_ops tells.
+ * A coordinator operates no register. Each request leaves a list of operations, and the caller does them, in
+ * order. Callers by yeq_endless do theirs between the two steps of the request: nobody else has begun one then,
+ * and so they are done in the history's order. Callers by yeq_seat do theirs in the order of the history's
+ * numbers, which yeq_seat_ops tells.
  *
  * Each call answers a number of enum yeq_status. Where that isn't YEQ_DONE, all handles, and what the call would
  * have written, are as they were, but for what is said at YEQ_ROOM, at struct yeq_fault, and at yeq_seat_ops. A seat
@@ -27,7 +28,8 @@
  *     coordinator. Whatever hands a handle to another thread orders memory, as a lock does.
  *   - A pointer that is handed in isn't null, points to what its type says, and no two of a call overlap. One
  *     with a room or a length points to as many elements, and may be any pointer but null where these are 0.
- *   - Both handles of yeq_seat_join are seats of one coordinator.
+ *   - Both handles of yeq_seat_join, and of yeq_endless_join, are seats of one coordinator.
+ *   - What yeq_endless_finish is told of operations is true.
  *   - No call comes from a signal or interrupt handler that cut off another call, or the program's allocator.
  */
 #ifndef YEQORWAS_H
@@ -65,7 +67,9 @@ enum yeq_status {
     YEQ_FULL = 12,     /* The history has as many entries as it may have. */
     YEQ_SEATS = 13,    /* Other seats of the coordinator are out, or other calls still use it. */
     YEQ_NUMBERS = 14,  /* 65,536 seats were made, and there is no number for one more. */
-    YEQ_STOPPED = 15   /* The history ended at a register that failed. As the library operates none, it doesn't. */
+    YEQ_STOPPED = 15,  /* The history ended at a register that failed: yeq_endless_finish was told of it. */
+    YEQ_BEGUN = 16,    /* The seat has begun a request: finish it first. */
+    YEQ_NOT_BEGUN = 17 /* The seat has begun no request. */
 };
 
 /* The words of a status. */
@@ -88,6 +92,8 @@ static inline const char *yeq_status_name(int status)
     case YEQ_SEATS: return "other seats are out";
     case YEQ_NUMBERS: return "no number for one more seat";
     case YEQ_STOPPED: return "the history has ended";
+    case YEQ_BEGUN: return "a request has begun";
+    case YEQ_NOT_BEGUN: return "no request has begun";
     default: return "no status";
     }
 }
@@ -99,6 +105,11 @@ struct yeq_machine {
 };
 
 struct yeq_seat {
+    uint64_t mark;
+    void *at;
+};
+
+struct yeq_endless {
     uint64_t mark;
     void *at;
 };
@@ -391,6 +402,41 @@ int32_t yeq_seat_entry(struct yeq_seat *seat, uint32_t index, struct yeq_entry *
  * along: its coordinator can't be sealed then. */
 int32_t yeq_seat_close(struct yeq_seat *seat);
 
+/* ---- Seats of a coordinator without end, for requests in two steps. ---- */
+
+/* Opens a closed handle for the first seat of a new coordinator, whose history may have 2^64 - 1 entries and takes no
+ * memory. It makes the plan again as yeq_seat_open does. Its list has the operations at the start: they are done before
+ * the first request. By its contract it may also answer YEQ_STOPPED, which it never does. */
+int32_t yeq_endless_open(struct yeq_endless *endless, struct yeq_machine *machine);
+
+/* Opens another, closed handle for a new seat with so many parts of this one's: one at least, and fewer than it has.
+ * YEQ_BEGUN where this one has begun a request. */
+int32_t yeq_endless_split(struct yeq_endless *endless, struct yeq_endless *other, uint32_t parts);
+
+/* Begins a request, and tells what it is answered if all its operations are done. YEQ_BUSY where another seat has a
+ * record that it needs, or has begun a request; YEQ_STOPPED once a register failed; YEQ_BEGUN where this seat has begun
+ * one. It takes no memory and never waits. From YEQ_DONE to yeq_endless_finish no other seat begins one. */
+int32_t yeq_endless_begin(struct yeq_endless *endless, const struct yeq_request *request, struct yeq_reply *reply);
+
+/* Writes the operations of the request that has begun, and their count: 256 at most. It takes no memory. Where none has
+ * begun they are those at the start, on the first seat before its first request begins, or none. */
+int32_t yeq_endless_ops(struct yeq_endless *endless, struct yeq_op *ops, size_t room, uint32_t *count);
+
+/* Finishes the request that has begun, of whose operations so many were done, in order. All of them: it is made.
+ * Fewer: a register failed at the next one, the request isn't answered, and the history ends with it. More: YEQ_RANGE,
+ * and it isn't finished. YEQ_NOT_BEGUN where none has begun. It takes no memory and never waits. */
+int32_t yeq_endless_finish(struct yeq_endless *endless, uint32_t done);
+
+/* Tells what the seat knows. YEQ_BEGUN where it has begun a request. It takes no memory. */
+int32_t yeq_endless_tell(struct yeq_endless *endless, struct yeq_seat_facts *facts);
+
+/* Joins another seat of the same coordinator into this one, and closes the other handle. YEQ_BEGUN where one of them
+ * has begun a request. */
+int32_t yeq_endless_join(struct yeq_endless *endless, struct yeq_endless *other);
+
+/* Closes an open handle and gives back all that it alone has. YEQ_BEGUN where it has begun a request. */
+int32_t yeq_endless_close(struct yeq_endless *endless);
+
 /* ---- Desired performance (ACPI 6.5, 8.4.6.1), for one caller. ---- */
 
 /* Opens a closed handle for the coordinator by _CPC of a machine with a plan that isn't started, and leaves that as
@@ -431,10 +477,13 @@ void rattle_dealloc(void *at);
 
 /* The layouts that the library was built with. */
 YEQ_ASSERT(sizeof(struct yeq_machine) == 16 && sizeof(struct yeq_seat) == 16 && sizeof(struct yeq_cppc) == 16);
+YEQ_ASSERT(sizeof(struct yeq_endless) == 16);
 YEQ_AT(yeq_machine, mark, 0);
 YEQ_AT(yeq_machine, at, 8);
 YEQ_AT(yeq_seat, mark, 0);
 YEQ_AT(yeq_seat, at, 8);
+YEQ_AT(yeq_endless, mark, 0);
+YEQ_AT(yeq_endless, at, 8);
 YEQ_AT(yeq_cppc, mark, 0);
 YEQ_AT(yeq_cppc, at, 8);
 

@@ -1,7 +1,8 @@
 /* Wrong calls, and each allocation failing in turn: each ends with a status, changes nothing, and loses nothing. It has the
  * three functions that take memory itself, to count and to fail.
  *
- * usage: misuse BLOCK, a block whose processor 0 has an idle state, and whose opening has two operations at least */
+ * usage: misuse BLOCK, a block whose processor 0 has an idle state that operates a register, and whose opening has two operations at
+ * least */
 #include "tables.h"
 
 #include <stdio.h>
@@ -171,6 +172,69 @@ static void misuse_seats(void)
     yeq_machine_close(&m);
 }
 
+static void misuse_endless(void)
+{
+    struct yeq_machine m = YEQ_HANDLE;
+    struct yeq_endless seat = YEQ_HANDLE, other = YEQ_HANDLE, third = YEQ_HANDLE;
+    struct yeq_seat_facts facts;
+    struct yeq_reply reply;
+    struct yeq_request request = idle;
+    struct yeq_op ops[256];
+    uint32_t count;
+    want("request of no seat", yeq_endless_begin(&seat, &request, &reply), YEQ_CLOSED);
+    want("end of a request of no seat", yeq_endless_finish(&seat, 0), YEQ_CLOSED);
+    want("join of no seats", yeq_endless_join(&seat, &other), YEQ_CLOSED);
+    want("seat of a closed machine", yeq_endless_open(&seat, &m), YEQ_CLOSED);
+    want("open", yeq_machine_open(&m), YEQ_DONE);
+    want("seat of a machine without a plan", yeq_endless_open(&seat, &m), YEQ_KIND);
+    yeq_machine_close(&m);
+    want("plan", plan(&m), YEQ_DONE);
+    want("seat", yeq_endless_open(&seat, &m), YEQ_DONE);
+    want("seat in an open handle", yeq_endless_open(&seat, &m), YEQ_OPEN);
+    want("no room for operations", yeq_endless_ops(&seat, ops, 1, &count), YEQ_ROOM);
+    want("no parts", yeq_endless_split(&seat, &other, 0), YEQ_RANGE);
+    want("all parts", yeq_endless_split(&seat, &other, 65536), YEQ_RANGE);
+    want("split", yeq_endless_split(&seat, &other, 1), YEQ_DONE);
+    want("split into an open handle", yeq_endless_split(&seat, &other, 1), YEQ_OPEN);
+    want("operations at the start, of another seat", yeq_endless_ops(&other, ops, 0, &count), YEQ_DONE);
+    want("end of no request", yeq_endless_finish(&seat, 0), YEQ_NOT_BEGUN);
+    request.cpu = 256;
+    want("request of no processor", yeq_endless_begin(&seat, &request, &reply), YEQ_RANGE);
+    request = idle;
+    want("request", yeq_endless_begin(&seat, &request, &reply), YEQ_DONE);
+    reply.kind = 4711;
+    want("request of who has begun one", yeq_endless_begin(&seat, &request, &reply), YEQ_BEGUN);
+    want("request while another has begun", yeq_endless_begin(&other, &request, &reply), YEQ_BUSY);
+    want("no reply is written", (int32_t)reply.kind, 4711);
+    want("split of who has begun", yeq_endless_split(&seat, &third, 1), YEQ_BEGUN);
+    want("join of who has begun", yeq_endless_join(&seat, &other), YEQ_BEGUN);
+    want("join into another", yeq_endless_join(&other, &seat), YEQ_BEGUN);
+    want("what it knows", yeq_endless_tell(&seat, &facts), YEQ_BEGUN);
+    want("close of who has begun", yeq_endless_close(&seat), YEQ_BEGUN);
+    want("operations", yeq_endless_ops(&seat, ops, 256, &count), YEQ_DONE);
+    want("more operations than there are", yeq_endless_finish(&seat, count + 1), YEQ_RANGE);
+    want("all of them", yeq_endless_finish(&seat, count), YEQ_DONE);
+    want("end of what has ended", yeq_endless_finish(&seat, count), YEQ_NOT_BEGUN);
+    want("no operations", yeq_endless_ops(&seat, ops, 0, &count), YEQ_DONE);
+    want("what it knows", yeq_endless_tell(&seat, &facts), YEQ_DONE);
+    want("what it knows: its entry", (int32_t)facts.seen, 1);
+    request.kind = YEQ_REQUEST_WAKE;
+    request.state = 0;
+    want("wake", yeq_endless_begin(&seat, &request, &reply), YEQ_DONE);
+    want("wake: its operations", yeq_endless_ops(&seat, ops, 256, &count), YEQ_DONE);
+    want("wake: its end", yeq_endless_finish(&seat, count), YEQ_DONE);
+    request = idle;
+    want("a request whose register fails", yeq_endless_begin(&other, &request, &reply), YEQ_DONE);
+    want("none of its operations", yeq_endless_finish(&other, 0), YEQ_DONE);
+    want("request behind a fault", yeq_endless_begin(&seat, &request, &reply), YEQ_STOPPED);
+    want("what it knows", yeq_endless_tell(&seat, &facts), YEQ_DONE);
+    want("what it knows: all entries", (int32_t)facts.seen, 3);
+    want("join", yeq_endless_join(&seat, &other), YEQ_DONE);
+    want("close of what was joined", yeq_endless_close(&other), YEQ_CLOSED);
+    want("close", yeq_endless_close(&seat), YEQ_DONE);
+    yeq_machine_close(&m);
+}
+
 static void misuse_cppc(void)
 {
     struct yeq_machine m = YEQ_HANDLE;
@@ -209,6 +273,7 @@ static int use(void)
 {
     struct yeq_machine m = YEQ_HANDLE;
     struct yeq_seat first = YEQ_HANDLE, second = YEQ_HANDLE;
+    struct yeq_endless third = YEQ_HANDLE, fourth = YEQ_HANDLE;
     struct yeq_cppc cppc = YEQ_HANDLE;
     struct yeq_fault fault;
     struct yeq_reply reply;
@@ -224,12 +289,19 @@ static int use(void)
     ONCE(yeq_seat_ask(&second, &idle, &reply));
     ONCE(yeq_seat_join(&first, &second));
     ONCE(yeq_seat_seal(&first));
+    ONCE(yeq_endless_open(&third, &m));
+    ONCE(yeq_endless_split(&third, &fourth, 1000));
+    ONCE(yeq_endless_begin(&fourth, &idle, &reply));
+    ONCE(yeq_endless_ops(&fourth, ops, 256, &count));
+    ONCE(yeq_endless_finish(&fourth, count));
+    ONCE(yeq_endless_join(&third, &fourth));
     ONCE(yeq_cppc_open(&cppc, &m));
     ONCE(yeq_machine_start(&m));
     ONCE(yeq_machine_ops(&m, ops, 256, &count));
     ONCE(yeq_machine_ask(&m, &idle, &reply));
     yeq_machine_close(&m);
     yeq_seat_close(&first);
+    yeq_endless_close(&third);
     yeq_cppc_close(&cppc);
     return lacked;
 }
@@ -245,6 +317,7 @@ int main(int argc, char **argv)
     fclose(file);
     misuse_machines();
     misuse_seats();
+    misuse_endless();
     misuse_cppc();
     int calls_tried = tried;
     unsigned long failed = 0;

@@ -27,6 +27,7 @@ int main(int argc, char **argv)
 {
     struct yeq_machine machine = YEQ_HANDLE;
     struct yeq_seat small = YEQ_HANDLE, large = YEQ_HANDLE, other = YEQ_HANDLE;
+    struct yeq_endless endless = YEQ_HANDLE, further = YEQ_HANDLE;
     struct yeq_cppc cppc = YEQ_HANDLE;
     void *memory = malloc(MEMORY);
     if (argc < 2 || memory == NULL) {
@@ -39,11 +40,15 @@ int main(int argc, char **argv)
     tell("a shared coordinator without entries", yeq_seat_open(&small, &machine, 0));
     tell("a shared coordinator of 65,536 entries", yeq_seat_open(&large, &machine, 65536));
     tell("a further seat", yeq_seat_split(&large, &other, 1));
+    tell("a shared coordinator without end", yeq_endless_open(&endless, &machine));
+    tell("a further seat of it", yeq_endless_split(&endless, &further, 1));
     tell("a coordinator by _CPC", yeq_cppc_open(&cppc, &machine));
     tell("what the start of one caller's coordinator adds", yeq_machine_start(&machine));
     yeq_seat_close(&small);
     yeq_seat_close(&other);
     yeq_seat_close(&large);
+    yeq_endless_close(&further);
+    yeq_endless_close(&endless);
     yeq_cppc_close(&cppc);
     yeq_machine_close(&machine);
     if (heap_used() != 0) {

@@ -24,6 +24,7 @@ static void *use(void *given)
 {
     struct yeq_machine machine = YEQ_HANDLE;
     struct yeq_seat first = YEQ_HANDLE, second = YEQ_HANDLE;
+    struct yeq_endless third = YEQ_HANDLE, fourth = YEQ_HANDLE;
     struct yeq_cppc cppc = YEQ_HANDLE;
     struct yeq_request idle = { YEQ_REQUEST_IDLE, 0, { 1 }, YEQ_ANY_LATENCY };
     struct yeq_request perf = { YEQ_REQUEST_PERF, 0, { 1 }, 0 };
@@ -31,6 +32,8 @@ static void *use(void *given)
     struct yeq_cppc_reply performance;
     struct yeq_fault fault;
     struct yeq_reply reply;
+    static struct yeq_op ops[256];
+    uint32_t count = 0;
     uint8_t path[64];
     int32_t calls[] = {
         yeq_machine_open(&machine),
@@ -43,6 +46,13 @@ static void *use(void *given)
         yeq_seat_join(&first, &second),
         yeq_seat_seal(&first),
         yeq_seat_close(&first),
+        yeq_endless_open(&third, &machine),
+        yeq_endless_split(&third, &fourth, 1),
+        yeq_endless_begin(&fourth, &idle, &reply),
+        yeq_endless_ops(&fourth, ops, 256, &count),
+        yeq_endless_finish(&fourth, count),
+        yeq_endless_join(&third, &fourth),
+        yeq_endless_close(&third),
         yeq_cppc_open(&cppc, &machine),
         yeq_cppc_ask(&cppc, &desired, &performance),
         yeq_cppc_close(&cppc),

@@ -7,12 +7,15 @@ ghost use Rattle.std.specs.Prelude.{◌≡◌, []};
 ghost use Rattle.pw_embed.specs.declared.machine.Machine.TheVariants.{Blocks};
 ghost use Rattle.pw_embed.specs.Cppc.{Asked};
 ghost use Rattle.pw_embed.specs.Machines.{AddsBlock, Asks, Counts as Counted, Lists, Plans, Starts, TellsCpu};
+ghost use Rattle.pw_embed.specs.Endless.{BeginsAt, EndsAt, Shows as EndlessShows, listed};
 ghost use Rattle.pw_embed.specs.Operations.{Listed};
 ghost use Rattle.pw_embed.specs.Statuses.{Tells};
 ghost use Rattle.pw_embed.specs.Seats.{Asks as SeatAsks, Counts as SeatCounts, Lists as SeatLists};
 ghost use Rattle.pw_embed.specs.Seats.{Seals, Shows, TellsEntry};
 ghost use Rattle.pw_handles.specs.declared.kept.Kept.TheVariants.{Machine as machine};
 ghost use Rattle.pw_handles.specs.Handled.{Closes, KeptSo, OnCppc, OnMachine, Opens, OpensCppc};
+ghost use Rattle.pw_handles.specs.Endless.{JoinsEndless, OnEndless, OpensEndlessOf};
+ghost use Rattle.pw_handles.specs.Endless.{OweOneEndless, SplitsEndless};
 ghost use Rattle.pw_handles.specs.Seated.{JoinsTo, OnSeat, OpensSeatOf, OweOneCoordinator, SplitsTo};
 
 use pw_embed::{
@@ -239,6 +242,90 @@ pub extern "C" fn yeq_seat_entry(
 /// Closes an open handle.
 #[unsafe(no_mangle)]
 pub extern "C" fn yeq_seat_close(alloc: Global, h: &mut Handle) -> i32
+    ensures { Tells result (Closes h.old h.new) }
+{
+    h.close(alloc).code()
+}
+
+/// Opens a closed handle for the first seat of a new coordinator without end of a machine.
+#[unsafe(no_mangle)]
+pub extern "C" fn yeq_endless_open(alloc: Global, h: &mut Handle, machine: &mut Handle) -> i32
+    ensures kept { KeptSo machine.old machine.new }
+    ensures opened { Tells result (OpensEndlessOf h.old machine.old h.new) }
+{
+    h.open_endless(alloc, machine).code()
+}
+
+/// Opens another, closed handle for a new seat, with so many of this one's parts.
+#[unsafe(no_mangle)]
+pub extern "C" fn yeq_endless_split(
+    alloc: Global,
+    h: &mut Handle,
+    other: &mut Handle,
+    parts: u32,
+) -> i32
+    ensures { Tells result (SplitsEndless h.old other.old parts h.new other.new) }
+{
+    h.split_endless(alloc, other, parts).code()
+}
+
+/// Begins a request by a seat, or gives up where another seat has what it needs.
+#[unsafe(no_mangle)]
+pub extern "C" fn yeq_endless_begin(
+    alloc: Global,
+    h: &mut Handle,
+    asked: &RequestNumbers,
+    reply: &mut ReplyNumbers,
+) -> i32
+    ensures { Tells result (λ s. OnEndless h.old h.new s (reply.new ≡ reply.old)
+        (λ t u st. BeginsAt t asked.now reply.old u reply.new st)) }
+{
+    h.begin_endless(alloc, asked, reply).code()
+}
+
+/// Tells the operations of the request that a seat has begun, or those at the start.
+#[unsafe(no_mangle)]
+pub extern "C" fn yeq_endless_ops(
+    alloc: Global,
+    h: &mut Handle,
+    out: &mut [OpNumbers],
+    count: &mut u32,
+) -> i32
+    ensures { Tells result (λ s. OnEndless h.old h.new s ((out.new ≡ out.old) × (count.new ≡ count.old))
+        (λ t u st. (u ≡ t) × Listed (listed t) out.old out.new count.new st)) }
+{
+    h.endless_ops(alloc, out, count).code()
+}
+
+/// Finishes the request that a seat has begun, with so many of its operations done.
+#[unsafe(no_mangle)]
+pub extern "C" fn yeq_endless_finish(alloc: Global, h: &mut Handle, done: u32) -> i32
+    ensures { Tells result (λ s. OnEndless h.old h.new s (Unit {0}) (λ t u st. EndsAt t done u st)) }
+{
+    h.finish_endless(alloc, done).code()
+}
+
+/// Tells what a seat knows that has begun no request.
+#[unsafe(no_mangle)]
+pub extern "C" fn yeq_endless_tell(alloc: Global, h: &mut Handle, facts: &mut SeatFacts) -> i32
+    ensures { Tells result (λ s. OnEndless h.old h.new s (facts.new ≡ facts.old)
+        (λ t u st. (u ≡ t) × EndlessShows t facts.old facts.new st)) }
+{
+    h.tell_endless(alloc, facts).code()
+}
+
+/// Joins another seat of the same coordinator into this one, and closes the other handle.
+#[unsafe(no_mangle)]
+pub extern "C" fn yeq_endless_join(alloc: Global, h: &mut Handle, other: &mut Handle) -> i32
+    requires { OweOneEndless h.old other.old }
+    ensures { Tells result (JoinsEndless h.old other.old h.new other.new) }
+{
+    h.join_endless(alloc, other).code()
+}
+
+/// Closes an open handle, unless its seat has begun a request.
+#[unsafe(no_mangle)]
+pub extern "C" fn yeq_endless_close(alloc: Global, h: &mut Handle) -> i32
     ensures { Tells result (Closes h.old h.new) }
 {
     h.close(alloc).code()

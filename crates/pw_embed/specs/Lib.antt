@@ -16,3 +16,6 @@ pub mod Registers
 pub mod Told
 pub mod Shared
 pub mod Seats
+pub mod Reporting
+pub mod Resting
+pub mod Endless

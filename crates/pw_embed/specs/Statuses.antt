@@ -20,6 +20,8 @@ code_of statuses.Full = 12
 code_of statuses.Seats = 13
 code_of statuses.Numbers = 14
 code_of statuses.Stopped = 15
+code_of statuses.Begun = 16
+code_of statuses.NotBegun = 17
 
 -- a number stands for a status of which this holds
 abbrev pub Tells : ℤ → (Status → Type 0) → Type 0

@@ -36,6 +36,10 @@ pub enum Status {
     Numbers = 14,
     /// The history ended at a register that failed.
     Stopped = 15,
+    /// The seat has begun a request, and hasn't finished it.
+    Begun = 16,
+    /// The seat has begun no request.
+    NotBegun = 17,
 }
 
 impl Status {
@@ -60,6 +64,8 @@ impl Status {
             Status::Seats => 13,
             Status::Numbers => 14,
             Status::Stopped => 15,
+            Status::Begun => 16,
+            Status::NotBegun => 17,
         }
     }
 }

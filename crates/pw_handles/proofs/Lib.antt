@@ -1,4 +1,3 @@
 pub mod AsBox
 pub mod Places
 pub mod Handling
-pub mod Seating

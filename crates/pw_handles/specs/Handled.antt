@@ -1,9 +1,10 @@
 -- What calls on handles come to.
-use Rattle.std.specs.Prelude.{◌≡◌, Bool, true, false, Result, Ok, Err}
+use Rattle.std.specs.Prelude.{◌≡◌, ◌⊎◌, Bool, true, false, Result, Ok, Err}
 use Rattle.pw_embed.specs.declared.cppc.Cppc.{Cppc}
 use Rattle.pw_embed.specs.declared.machine.Machine.{Machine}
 use Rattle.pw_embed.specs.declared.status.Status.{Status}
-use Rattle.pw_embed.specs.declared.status.Status.TheVariants.{Closed, Done, Kind, NoMemory, Open}
+use Rattle.pw_embed.specs.declared.status.Status.TheVariants.{Begun, Closed, Done, Kind, NoMemory, Open}
+use Rattle.pw_embed.specs.Endless.{is_begun}
 use Rattle.pw_embed.specs.Machines.{Steers}
 use Rattle.pw_handles.specs.declared.handle.Handle.{Handle}
 use Rattle.pw_handles.specs.declared.kept.Kept.{Kept}
@@ -42,13 +43,19 @@ OpenedBy false old full new s P = Filled full new s P
 abbrev pub Opens : Handle → Handle → Status → (Kept → Type 0) → Type 0
 Opens h i s P = OpenedBy h.place.full h.place.value i.place.full i.place.value s P
 
--- a handle is closed, or was
-unfoldable pub ClosedBy : Bool → Status → Type 0
-ClosedBy true s = s ≡ Done
-ClosedBy false s = s ≡ Closed
+-- what is kept is a seat that has begun a request
+abbrev pub has_begun : Kept → Bool
+has_begun (kept.Endless e) = is_begun e
+has_begun k = false
+
+-- a handle that has begun a request stays open; any other is closed, or was
+unfoldable pub ClosedBy : Bool → Bool → Kept → Bool → Kept → Status → Type 0
+ClosedBy false begun old full new s = (full ≡ false) × (s ≡ Closed)
+ClosedBy true false old full new s = (full ≡ false) × (s ≡ Done)
+ClosedBy true true old full new s = (full ≡ true) × (new ≡ old) × (s ≡ Begun)
 
 abbrev pub Closes : Handle → Handle → Status → Type 0
-Closes h i s = (i.place.full ≡ false) × ClosedBy h.place.full s
+Closes h i s = ClosedBy h.place.full (has_begun h.place.value) h.place.value i.place.full i.place.value s
 
 -- # A coordinator by `_CPC`
 
@@ -90,3 +97,33 @@ OpensFrom {A} in_handle P false old true k full new s = (r : Result A Status) ×
 abbrev pub OpensCppc : Handle → Handle → Handle → Status → Type 0
 OpensCppc h machine i s =
     OpensFrom kept.Cppc Steers h.place.full h.place.value machine.place.full machine.place.value i.place.full i.place.value s
+
+-- # Splits
+
+-- Another handle is opened for what this gives of what one keeps, where the other is closed, and there is memory; else both keep what they
+-- have.
+unfoldable pub SplitsFrom : {A : Type 0} → (A → Kept) → (Kept → Kept → Result A Status → Type 0) → Bool → Kept → Bool → Kept → Bool → Kept
+    → Bool → Kept → Status → Type 0
+SplitsFrom in_handle P full old full' new true o of' o' s = KeptBy full old full' new × (of' ≡ true) × (o' ≡ o) × (s ≡ Open)
+SplitsFrom in_handle P false old full' new false o of' o' s = (full' ≡ false) × (of' ≡ false) × (s ≡ Closed)
+SplitsFrom {A} in_handle P true old full' new false o of' o' s =
+    (full' ≡ true)
+    × (((new ≡ old) × (of' ≡ false) × (s ≡ NoMemory)) ⊎ ((r : Result A Status) × P old new r × BecomesBy in_handle r of' o' s))
+
+-- # Joins
+
+-- one keeps what is made of both, and of the other nothing is left; or both keep theirs, for this reason
+abbrev pub JoinedAs : {A : Type 0} → (A → Kept) → Status → Result A (A × A) → Kept → Kept → Status → Type 0
+JoinedAs in_handle why (Ok x) new other s = (new ≡ in_handle x) × (s ≡ Done)
+JoinedAs in_handle why (Err both) new other s = (new ≡ in_handle both.0) × (other ≡ in_handle both.1) × (s ≡ why)
+
+-- the other handle is closed where both are joined, and else has what is left
+unfoldable pub LeftBy : Status → Kept → Bool → Kept → Type 0
+LeftBy Done k full new = full ≡ false
+LeftBy s k full new = (full ≡ true) × (new ≡ k)
+
+-- This comes of what two open handles keep; or one is closed, and both keep what they have.
+unfoldable pub JoinsFrom : (Kept → Kept → Kept → Kept → Status → Type 0) → Bool → Kept → Bool → Kept → Bool → Kept → Bool → Kept → Status
+    → Type 0
+JoinsFrom P true old full' new true o of' o' s = (full' ≡ true) × ((k : Kept) × P old o new k s × LeftBy s k of' o')
+JoinsFrom P full old full' new other o of' o' s = KeptBy full old full' new × KeptBy other o of' o' × (s ≡ Closed)

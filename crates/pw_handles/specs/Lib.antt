@@ -1,3 +1,4 @@
 pub mod Handles
 pub mod Handled
 pub mod Seated
+pub mod Endless

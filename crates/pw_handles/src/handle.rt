@@ -19,7 +19,7 @@ pub struct Handle {
 }
 
 impl Handle {
-    ghost use Rattle.pw_handles.specs.Handled.{Closes, Opened};
+    ghost use Rattle.pw_handles.specs.Handled.{Closes, LeftBy, Opened};
 
     fn empty() -> Handle
         ensures { result.place.full ≡ false }
@@ -76,18 +76,32 @@ impl Handle {
         }
     }
 
-    /// Closes it, and gives back all that it has.
+    /// Opens a closed handle again for what it had, unless another has that now.
+    #[tactic(auto, unfolding(crate::specs::Handled::LeftBy))]
+    pub(crate) fn put_left(&mut self, kept: Box<Kept, Global>, status: Status)
+        requires { self.old.place.full ≡ false }
+        ensures { LeftBy status kept.value self.new.place.full self.new.place.value }
+    {
+        match status {
+            Status::Done => drop(kept),
+            _ => self.put(kept),
+        }
+    }
+
+    /// Closes it, and gives back all that it has, unless it is a seat that has begun a request.
     #[tactic(auto, unfolding(crate::specs::Handled::ClosedBy))]
     pub fn close(&mut self, alloc: Global) -> Status
         ensures { Closes self.old self.new result }
     {
-        match self.take(alloc) {
-            Some(kept) => {
-                drop(kept);
-                Status::Done
-            }
-            None => Status::Closed,
+        let Some(kept) = self.take(alloc) else {
+            return Status::Closed;
+        };
+        if kept.has_begun() {
+            self.put(kept);
+            return Status::Begun;
         }
+        drop(kept);
+        Status::Done
     }
 }
 

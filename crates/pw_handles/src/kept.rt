@@ -1,4 +1,7 @@
-use pw_embed::{Cppc, Machine, Seat};
+ghost use Rattle.std.specs.Prelude.{◌≡◌};
+
+use pw_embed::{Cppc, Endless, Machine, Seat};
+use std::alloc::Global;
 
 /// What a handle is open for.
 #[derive(Drop)]
@@ -7,5 +10,40 @@ pub enum Kept {
     Nothing,
     Machine(Machine),
     Seat(Seat),
+    Endless(Endless),
     Cppc(Cppc),
+}
+
+impl Kept {
+    ghost use Rattle.pw_handles.specs.Handled.{has_begun};
+
+    /// Whether it is a seat that has begun a request.
+    pub fn has_begun(&self) -> bool
+        ensures { result ≡ has_begun self.now }
+    {
+        match self {
+            Kept::Endless(seat) => seat.is_begun(),
+            _ => false,
+        }
+    }
+}
+
+/// Puts this in place of what is kept. It stands by itself, since dropping what was kept has many ways.
+pub(crate) fn put_in(kept: &mut Kept, next: Kept)
+    ensures { kept.new ≡ next }
+{
+    *kept = next;
+}
+
+/// A box for what a handle is to keep.
+pub(crate) fn empty_box(alloc: Global) -> Option<Box<Kept, Global>> {
+    Box::new(alloc, Kept::Nothing).ok()
+}
+
+/// The box with this in it.
+pub(crate) fn with(mut room: Box<Kept, Global>, kept: Kept) -> Box<Kept, Global>
+    ensures { result.value ≡ kept }
+{
+    put_in(&mut room, kept);
+    room
 }

@@ -2,6 +2,7 @@
 //! calls on them. Misuse that can be told is a status, and changes nothing.
 #![tactic(auto)]
 
+mod endless;
 mod handle;
 mod kept;
 mod machines;

@@ -1,13 +1,12 @@
 //! The calls on the handle of a seat.
-ghost use Rattle.std.specs.Prelude.{◌≡◌, false, true, MatchOption};
-ghost use Rattle.pw_handles.specs.declared.kept.Kept.TheVariants.{Seat as kept_seat};
+ghost use Rattle.std.specs.Prelude.{◌≡◌, false};
 ghost use Rattle.pw_embed.specs.Seats.{Asks, Counts, Lists, OpensSeat, Seals, Shows, TellsEntry};
 ghost use Rattle.pw_handles.specs.Handled.{KeptSo, OfMachine};
-ghost use Rattle.pw_handles.specs.Seated.{AtSeat, Becomes, JoinedIn, JoinsKept, JoinsTo, OfSplit, OnSeat, OpensSeatOf};
+ghost use Rattle.pw_handles.specs.Seated.{AtSeat, Becomes, JoinsKept, JoinsTo, OfSplit, OnSeat, OpensSeatOf};
 ghost use Rattle.pw_handles.specs.Seated.{OweOneCoordinator, OweOneKept, SplitsTo};
 
 use crate::handle::Handle;
-use crate::kept::Kept;
+use crate::kept::{Kept, empty_box, put_in, with};
 use pw_embed::{EntryNumbers, OpNumbers, ReplyNumbers, RequestNumbers, Seat, SeatFacts, Status};
 use std::alloc::Global;
 use std::mem::replace;
@@ -68,13 +67,6 @@ fn entry(kept: &mut Kept, index: u32, told: &mut EntryNumbers) -> Status
     }
 }
 
-/// Puts this in place of what is kept. It stands by itself, since dropping what was kept has many ways.
-fn put_in(kept: &mut Kept, next: Kept)
-    ensures { kept.new ≡ next }
-{
-    *kept = next;
-}
-
 /// The same with a coordinator that has ended, where this was its only seat.
 #[tactic(auto, unfolding(crate::specs::Seated::AtSeat))]
 fn sealed(kept: Kept) -> (Kept, Status)
@@ -118,52 +110,29 @@ fn split(kept: &mut Kept, alloc: Global, parts: u32) -> Result<Seat, Status>
     }
 }
 
-/// What is kept of two seats: one, where both are seats whose coordinator hasn't ended.
+/// What is kept of two seats: one, and nothing, where both are seats whose coordinator hasn't ended.
 #[tactic(auto, unfolding(crate::specs::Seated::JoinsKept))]
-fn joined(first: Kept, second: Kept) -> Result<Kept, (Kept, Kept)>
+fn joined(first: Kept, second: Kept) -> (Kept, Kept, Status)
     requires { OweOneKept first second }
-    ensures { JoinsKept first second result }
+    ensures { JoinsKept first second result.0 result.1 result.2 }
 {
     match (first, second) {
         (Kept::Seat(first), Kept::Seat(second)) => match first.join(second) {
-            Ok(seat) => Ok(Kept::Seat(seat)),
-            Err((first, second)) => Err((Kept::Seat(first), Kept::Seat(second))),
+            Ok(seat) => (Kept::Seat(seat), Kept::Nothing, Status::Done),
+            Err((first, second)) => (Kept::Seat(first), Kept::Seat(second), Status::Kind),
         },
-        (first, second) => Err((first, second)),
+        (first, second) => (first, second, Status::Kind),
     }
 }
 
-/// A box for what a handle is to keep.
-fn empty_box(alloc: Global) -> Option<Box<Kept, Global>> {
-    Box::new(alloc, Kept::Nothing).ok()
-}
-
-/// The box with a seat in it.
-fn with_seat(mut room: Box<Kept, Global>, seat: Seat) -> Box<Kept, Global>
-    ensures { result.value ≡ kept_seat seat }
+fn join(one: &mut Kept, two: &mut Kept) -> Status
+    requires { OweOneKept one.old two.old }
+    ensures { JoinsKept one.old two.old one.new two.new result }
 {
-    put_in(&mut room, Kept::Seat(seat));
-    room
-}
-
-/// Joins what two boxes have in the first, and gives the second back where that is no join.
-fn joined_in(one: &mut Kept, mut two: Box<Kept, Global>) -> (Status, Option<Box<Kept, Global>>)
-    requires { OweOneKept one.old two.value }
-    ensures { JoinedIn (λ b. b.value) one.old two.value one.new result.0 result.1 }
-{
-    let first = replace(one, Kept::Nothing);
-    let second = replace(&mut *two, Kept::Nothing);
-    match joined(first, second) {
-        Ok(kept) => {
-            put_in(one, kept);
-            (Status::Done, None)
-        }
-        Err((first, second)) => {
-            put_in(one, first);
-            put_in(&mut two, second);
-            (Status::Kind, Some(two))
-        }
-    }
+    let (first, second, status) = joined(replace(one, Kept::Nothing), replace(two, Kept::Nothing));
+    put_in(one, first);
+    put_in(two, second);
+    status
 }
 
 impl Handle {
@@ -213,7 +182,7 @@ impl Handle {
     {
         match made {
             Ok(seat) => {
-                self.put(with_seat(room, seat));
+                self.put(with(room, Kept::Seat(seat)));
                 Status::Done
             }
             Err(status) => status,
@@ -287,21 +256,10 @@ impl Handle {
             self.put(one);
             return Status::Closed;
         };
-        let (status, left) = joined_in(&mut one, two);
+        let status = join(&mut one, &mut two);
         self.put(one);
-        other.put_where(left);
+        other.put_left(two, status);
         status
-    }
-
-    /// Opens a closed handle for what is in the box, where there is one.
-    fn put_where(&mut self, kept: Option<Box<Kept, Global>>)
-        requires { self.old.place.full ≡ false }
-        ensures { MatchOption kept (self.new.place.full ≡ false)
-            (λ b. (self.new.place.full ≡ true) × (self.new.place.value ≡ b.value)) }
-    {
-        if let Some(kept) = kept {
-            self.put(kept);
-        }
     }
 
     /// Ends the coordinator of its only seat.

@@ -28,6 +28,8 @@ pub const YEQ_FULL: yeq_status = 12;
 pub const YEQ_SEATS: yeq_status = 13;
 pub const YEQ_NUMBERS: yeq_status = 14;
 pub const YEQ_STOPPED: yeq_status = 15;
+pub const YEQ_BEGUN: yeq_status = 16;
+pub const YEQ_NOT_BEGUN: yeq_status = 17;
 
 macro_rules! handles {
     ($($name:ident)*) => {$(
@@ -44,7 +46,7 @@ macro_rules! handles {
     )*};
 }
 
-handles! { yeq_machine yeq_seat yeq_cppc }
+handles! { yeq_machine yeq_seat yeq_endless yeq_cppc }
 
 macro_rules! plain {
     ($($name:ident { $($field:ident: $type:ty),* })*) => {$(
@@ -138,6 +140,24 @@ extern "C" {
     pub fn yeq_seat_entry(seat: *mut yeq_seat, index: u32, entry: *mut yeq_entry) -> yeq_status;
     pub fn yeq_seat_close(seat: *mut yeq_seat) -> yeq_status;
 
+    pub fn yeq_endless_open(endless: *mut yeq_endless, machine: *mut yeq_machine) -> yeq_status;
+    pub fn yeq_endless_split(endless: *mut yeq_endless, other: *mut yeq_endless, parts: u32) -> yeq_status;
+    pub fn yeq_endless_begin(
+        endless: *mut yeq_endless,
+        request: *const yeq_request,
+        reply: *mut yeq_reply,
+    ) -> yeq_status;
+    pub fn yeq_endless_ops(
+        endless: *mut yeq_endless,
+        ops: *mut yeq_op,
+        room: usize,
+        count: *mut u32,
+    ) -> yeq_status;
+    pub fn yeq_endless_finish(endless: *mut yeq_endless, done: u32) -> yeq_status;
+    pub fn yeq_endless_tell(endless: *mut yeq_endless, facts: *mut yeq_seat_facts) -> yeq_status;
+    pub fn yeq_endless_join(endless: *mut yeq_endless, other: *mut yeq_endless) -> yeq_status;
+    pub fn yeq_endless_close(endless: *mut yeq_endless) -> yeq_status;
+
     pub fn yeq_cppc_open(cppc: *mut yeq_cppc, machine: *mut yeq_machine) -> yeq_status;
     pub fn yeq_cppc_ask(
         cppc: *mut yeq_cppc,
@@ -155,6 +175,7 @@ extern "C" {
 
 const _: () = {
     assert!(size_of::<yeq_machine>() == 16 && size_of::<yeq_seat>() == 16 && size_of::<yeq_cppc>() == 16);
+    assert!(size_of::<yeq_endless>() == 16);
     assert!(size_of::<yeq_fault>() == 32 && size_of::<yeq_counts>() == 24 && size_of::<yeq_cpu>() == 16);
     assert!(size_of::<yeq_request>() == 16 && size_of::<yeq_reply>() == 20 && size_of::<yeq_op>() == 40);
     assert!(size_of::<yeq_seat_facts>() == 16 && size_of::<yeq_entry>() == 24);

@@ -12,6 +12,8 @@ pub enum Error {
     Busy,
     /// The history has as many entries as it may have.
     Full,
+    /// The history ended at a register that failed.
+    Stopped,
     /// Other seats of the coordinator are out.
     Seats,
     /// There is no number for one more seat.
@@ -30,6 +32,7 @@ impl Error {
             sys::YEQ_RANGE => Error::Range,
             sys::YEQ_BUSY => Error::Busy,
             sys::YEQ_FULL => Error::Full,
+            sys::YEQ_STOPPED => Error::Stopped,
             sys::YEQ_SEATS => Error::Seats,
             sys::YEQ_NUMBERS => Error::Numbers,
             other => Error::Status(other),
@@ -51,6 +54,7 @@ impl fmt::Display for Error {
             Error::Range => write!(f, "a number is out of range"),
             Error::Busy => write!(f, "another seat has what is needed"),
             Error::Full => write!(f, "the history is full"),
+            Error::Stopped => write!(f, "the history has ended"),
             Error::Seats => write!(f, "other seats are out"),
             Error::Numbers => write!(f, "no number for one more seat"),
             Error::Others => write!(f, "the seats are of different coordinators"),

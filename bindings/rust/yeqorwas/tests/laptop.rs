@@ -1,6 +1,6 @@
 //! Requests on the laptop of `examples/`. What must come is in docs/FORMATS.md, and was found by hand from its tables.
 
-use yeqorwas::{Coordinator, Cppc, CppcReply, CppcRequest, Error, Fault, Operation, Plan, Reply, Request, Seat, ANY_LATENCY};
+use yeqorwas::{Coordinator, Cppc, CppcReply, CppcRequest, Endless, Error, Fault, Operation, Plan, Reply, Request, Seat, ANY_LATENCY};
 
 fn table(name: &str) -> Vec<u8> {
     std::fs::read(format!("{}/../../../examples/{name}", env!("CARGO_MANIFEST_DIR"))).expect("a table of the examples")
@@ -80,6 +80,32 @@ fn seats_on_threads() {
         ]
     );
     assert_ne!(entries[0].seat, entries[1].seat);
+}
+
+#[test]
+fn two_steps() {
+    let mut plan = laptop();
+    let (mut first, opening) = Endless::open(&mut plan).expect("memory");
+    assert!(!opening.is_empty());
+    let mut second = first.split(1).expect("a seat");
+    let idle = |cpu, tolerance| Request::Idle { cpu, state: 3, tolerance };
+    let begun = second.begin(idle(0, ANY_LATENCY)).expect("it begins");
+    assert_eq!(addresses(&begun.operations), [(0, 0x414, None)]);
+    assert_eq!(first.begin(idle(1, 1000)).err(), Some(Error::Busy));
+    assert_eq!(begun.finish(1), Ok(()));
+    let begun = first.begin(idle(1, 1000)).expect("it begins");
+    assert!(matches!(begun.reply, Reply::Entered { states } if states[..] == [3]), "{:?}", begun.reply);
+    assert_eq!(addresses(&begun.operations), [(1, 0x415, None), (0, 0x415, None)]);
+    assert_eq!(begun.finish(2), Ok(()));
+    let begun = second.begin(Request::Wake { cpu: 0 }).expect("it begins");
+    let done = begun.operations.len() as u32;
+    assert_eq!(begun.finish(done), Ok(()));
+    // A register fails.
+    let begun = first.begin(Request::Perf { cpu: 0, index: 2 }).expect("it begins");
+    assert_eq!((begun.operations.len(), begun.finish(0)), (1, Ok(())));
+    assert_eq!(second.begin(Request::Wake { cpu: 1 }).err(), Some(Error::Stopped));
+    assert!(first.join(second).is_ok());
+    assert_eq!(first.facts(), Ok((65536, 4)));
 }
 
 #[test]

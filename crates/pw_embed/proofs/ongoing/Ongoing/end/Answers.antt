@@ -1,0 +1,14 @@
+use Rattle.std.proofs.Common.{List, length, refl, subst}
+use Rattle.acpi_values.specs.declared.operation.Op.{Op}
+use Rattle.pw_embed.specs.Resting.{Says}
+use Rattle.pw_embed.proofs.ongoing.Ongoing.end.Goals as goal
+
+pub returns : goal.returns
+returns c = record {
+  said = c.said-word.result;
+  says = subst (λ (l : List Op). Says c.args.done (length l) c.said-word.result) c.ops.ensures c.said-word.ensures.says;
+  same = refl;
+  opening = refl;
+  told = c.finish_begun-seat.result.2;
+  finishes = rw c.deref.ensures at c.finish_begun-seat.ensures;
+}
