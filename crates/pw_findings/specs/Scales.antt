@@ -21,6 +21,7 @@ use Rattle.pw_findings.specs.declared.finding.OfRate.{OfRate}
 use Rattle.pw_findings.specs.declared.finding.OfRate.TheVariants.{Zero, Rises, Repeats}
 use Rattle.pw_findings.specs.declared.finding.OfScale.TheVariants.{OneState, NoDomain, ControlRepeats, NoLatency}
 use Rattle.pw_findings.specs.declared.finding.Repeat.{Repeat}
+use Rattle.pw_findings.specs.declared.scales.Known.{Known}
 use Rattle.pw_findings.specs.Findings.{finding, of_each, when}
 use Rattle.pw_findings.specs.Firsts.{first_repeat}
 
@@ -41,9 +42,10 @@ abbrev pub declares : DomainKind → CpuParts → Bool
 declares kind c = is_some (dependency_in (scale_of kind c))
 
 -- states that are in no declared domain, where those of another processor are
-abbrev pub undeclared : DomainKind → FullPath → Scale → Option CpuParts → List Finding
-undeclared kind path s None = []
-undeclared kind path s (Some other) = when (is_none s.dependency) (finding path (kinds.Scale kind (NoDomain other.path)))
+abbrev pub undeclared : DomainKind → FullPath → Bool → Scale → Option CpuParts → List Finding
+undeclared kind path known s None = []
+undeclared kind path known s (Some other) =
+    when (known && is_none s.dependency) (finding path (kinds.Scale kind (NoDomain other.path)))
 
 -- two states have one control value: the first that has that of an earlier one
 abbrev pub repeated : FullPath → (Repeat → FindingKind) → Option Repeat → List Finding
@@ -55,8 +57,8 @@ alike kind path s = repeated path (λ r. kinds.Scale kind (ControlRepeats r)) (f
 
 -- # Of their registers
 
-abbrev pub unsteered : DomainKind → FullPath → Scale → List Finding
-unsteered kind path s = when (is_none s.register) (finding path (kinds.Control kind controls.Absent))
+abbrev pub unsteered : DomainKind → FullPath → Bool → Scale → List Finding
+unsteered kind path known s = when (known && is_none s.register) (finding path (kinds.Control kind controls.Absent))
 
 -- how many bits an access of a size that isn't given takes: `_TSS` has control values of 32 bits
 abbrev pub widest : DomainKind → ℕ
@@ -109,12 +111,13 @@ two_spaces path None = []
 two_spaces path (Some pair) =
     when (are_apart pair) (finding path (kinds.Control Perf (controls.TwoSpaces pair.control.space pair.status.space)))
 
--- what is found of a processor's states of a kind, beside the first processor that declares a domain for its own
-abbrev pub of_scale : DomainKind → FullPath → Option CpuParts → Option Scale → List Finding
-of_scale kind path declaring None = []
-of_scale kind path declaring (Some s) =
-    alone kind path s ++ (unsteered kind path s ++ (wide_register kind path s.register
-    ++ (limited kind path s ++ (undeclared kind path s declaring ++ alike kind path s))))
+-- What is found of a processor's states of a kind, beside the first processor that declares a domain for its own. Where it isn't
+-- known what stands for the register or for the domain, nothing is missing.
+abbrev pub of_scale : DomainKind → FullPath → Known → Option CpuParts → Option Scale → List Finding
+of_scale kind path known declaring None = []
+of_scale kind path known declaring (Some s) =
+    alone kind path s ++ (unsteered kind path known.register s ++ (wide_register kind path s.register
+    ++ (limited kind path s ++ (undeclared kind path known.domain s declaring ++ alike kind path s))))
 
 -- # How fast the states are, in MHz or percent
 

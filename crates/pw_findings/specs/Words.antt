@@ -42,6 +42,8 @@ use Rattle.pw_findings.specs.declared.finding.OfScale.{OfScale}
 use Rattle.pw_findings.specs.declared.finding.OfScale.TheVariants as scales
 use Rattle.pw_findings.specs.declared.finding.Shared.{Shared}
 use Rattle.pw_findings.specs.declared.finding.Shared.TheVariants.{States, Cpc}
+use Rattle.pw_findings.specs.declared.finding.Unread.{Unread}
+use Rattle.pw_findings.specs.declared.finding.Unread.TheVariants as unread
 use Rattle.pw_findings.specs.declared.finding.Unused.{Unused}
 use Rattle.pw_findings.specs.declared.finding.Unused.TheVariants as unused
 use Rattle.pw_findings.specs.declared.putting.Word.{Word}
@@ -137,6 +139,14 @@ level_words place =
     if place == 2 then codes "lowest nonlinear performance" else
     codes "lowest performance"
 
+-- a term that isn't read, with its code
+abbrev pub unread_words : Unread → List ℕ
+unread_words unread.If = codes "U-CODE has an If, which isn't run: what is in it counts as absent"
+unread_words unread.Else = codes "U-CODE has an Else, which isn't run: what is in it counts as absent"
+unread_words unread.While = codes "U-CODE has a While, which isn't run: what is in it counts as absent"
+unread_words unread.PowerResource = codes "U-UNREAD has a power resource, which isn't read: what is in it counts as absent"
+unread_words unread.ThermalZone = codes "U-UNREAD has a thermal zone, which isn't read: what is in it counts as absent"
+
 -- the code of why an object isn't used, and what it says
 abbrev pub unused_words : Unused → List ℕ
 unused_words unused.Method = codes "U-METHOD is a method, which isn't run: it counts as absent"
@@ -147,6 +157,7 @@ unused_words unused.NoSuchState = codes "W-CSD-STATE has an entry about a C stat
 unused_words (unused.NoStates Perf) = codes "U-STATES-NONE stands without a _PSS: it isn't used"
 unused_words (unused.NoStates Throttle) = codes "U-STATES-NONE stands without a _TSS: it isn't used"
 unused_words (unused.NoStates Idle) = codes "U-STATES-NONE stands without a _CST: it isn't used"
+unused_words (unused.Skipped term) = unread_words term
 
 -- # Lines
 
@@ -224,6 +235,10 @@ parent_words (parents.Absent state enables) =
     ∷ codes "of a container, and is in none" ∷ []
 parent_words (parents.Unreached parent count) =
     codes "U-LPI-NEVER never enables state" ∷ decimal count ∷ codes "of" ∷ place_text parent.segs ∷ []
+parent_words (parents.Overflows state number enables parent added) =
+    codes "W-LPI-SUM enters idle state" ∷ decimal state ∷ codes "at" ∷ decimal number ∷ codes "and enables state"
+    ∷ decimal enables ∷ codes "of" ∷ place_text parent.segs ∷ codes "which adds" ∷ decimal added
+    ∷ codes "and ends past 64 bits" ∷ []
 
 -- of performance or throttling states,
 abbrev pub scale_words : DomainKind → OfScale → List (List ℕ)

@@ -1,7 +1,8 @@
 //! What is found of the registers of performance and throttling states.
 
 ghost use Rattle.std.specs.Prelude.{◌≡◌, ◌++◌, option_copied, OnOk};
-ghost use Rattle.pw_findings.specs.Scales.{are_apart, are_same, end_of, is_addressed, register_in, room, same_register};
+ghost use Rattle.pw_findings.specs.Scales.{are_apart, are_same, end_of, is_addressed, register_in, room};
+ghost use Rattle.pw_findings.specs.Scales.{same_register};
 ghost use Rattle.pw_findings.specs.Scales.{shared, two_spaces, wide_register, widest};
 
 use crate::adding::add_when;

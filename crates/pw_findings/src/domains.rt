@@ -4,9 +4,12 @@ ghost use Rattle.std.specs.List.{flat_map};
 ghost use Rattle.pw_plan.specs.Domains.{as_dependency, declared_of, dependency_in, entry_of};
 ghost use Rattle.pw_plan.specs.Domains.{same_coord};
 ghost use Rattle.pw_plan.specs.Parts.{is_entry, scale_of};
-ghost use Rattle.pw_findings.specs.Domains.{domain_findings, has_other_length, has_other_number, has_other_type};
-ghost use Rattle.pw_findings.specs.Domains.{id_of, lacks_register, lead, length_in, member_where, no_register};
-ghost use Rattle.pw_findings.specs.Domains.{other_length, other_number, other_size, other_type, path_at, reason};
+ghost use Rattle.pw_findings.specs.Domains.{domain_findings, has_other_length, has_other_number};
+ghost use Rattle.pw_findings.specs.Domains.{has_other_type};
+ghost use Rattle.pw_findings.specs.Domains.{id_of, lacks_register, lead, length_in, member_where};
+ghost use Rattle.pw_findings.specs.Domains.{no_register};
+ghost use Rattle.pw_findings.specs.Domains.{other_length, other_number, other_size, other_type, path_at};
+ghost use Rattle.pw_findings.specs.Domains.{reason};
 ghost use Rattle.pw_findings.specs.Domains.{shown_in, unfit_findings};
 
 use crate::adding::add;

@@ -2,7 +2,17 @@ use acpi_values::{Coord, Place, Why};
 use aml_data::FullPath;
 use pw_plan::DomainKind;
 
-/// Why an object, or an entry of one, isn't used.
+/// A term whose body isn't read, though objects may stand in it (ACPI 6.5, 20.2.5.2 and 20.2.5.3).
+#[derive(Clone, Copy)]
+pub enum Unread {
+    If,
+    Else,
+    While,
+    PowerResource,
+    ThermalZone,
+}
+
+/// Why an object, an entry of one, or what stands in a scope isn't used.
 #[derive(Clone, Copy)]
 pub enum Unused {
     /// Unwise: a method stands where an object is wanted. It counts as absent.
@@ -17,6 +27,8 @@ pub enum Unused {
     NoSuchState,
     /// Unwise: it speaks of performance or throttling states, and no table of these stands beside it.
     NoStates(DomainKind),
+    /// Unwise: it stands in a scope. What is in it counts as absent.
+    Skipped(Unread),
 }
 
 /// What is amiss with an object, of whatever sort.
@@ -120,6 +132,15 @@ pub enum OfParent {
     Unreached {
         parent: FullPath,
         count: usize,
+    },
+    /// Wrong: this state enables one of the container that adds so much to its number that the sum has more
+    /// than 64 bits.
+    Overflows {
+        state: usize,
+        number: u64,
+        enables: usize,
+        parent: FullPath,
+        added: u64,
     },
 }
 

@@ -1,7 +1,8 @@
 //! The first number that stands twice in a list, and the first place where two lists differ.
 
 ghost use Rattle.std.specs.Prelude.{◌≡◌, ◌<◌, ◌≤◌, ℕ, length};
-ghost use Rattle.pw_findings.specs.Firsts.{differ_at, earlier, first_other, first_repeat, number_in, repeat_at, stood};
+ghost use Rattle.pw_findings.specs.Firsts.{differ_at, earlier, first_other, first_repeat, number_in};
+ghost use Rattle.pw_findings.specs.Firsts.{repeat_at, stood};
 
 use crate::finding::Repeat;
 
@@ -48,7 +49,8 @@ fn repeat_at(numbers: &[u32], k: usize) -> Repeat
 /// between these isn't looked for.
 fn stood_between(numbers: &[u32], k: usize, least: u32, most: u32) -> bool
     requires within { k < length numbers.now }
-    requires between { (j : ℕ) → j < k → (least ≤ number_in numbers.now j) × (number_in numbers.now j ≤ most) }
+    requires between { (j : ℕ) → j < k
+        → (least ≤ number_in numbers.now j) × (number_in numbers.now j ≤ most) }
     ensures { result ≡ stood numbers.now k }
 {
     let number = number_in(numbers, k);

@@ -21,8 +21,8 @@ pub use controls::{find_shared, find_two_spaces};
 pub use domains::{find_in_domains, path_at, same_coord};
 pub use finding::{
     DomainId, Finding, FindingKind, OfControl, OfCpc, OfCst, OfDevice, OfDomain, OfEntry, OfIdle,
-    OfLimit, OfMember, OfObject, OfParent, OfRate, OfScale, Repeat, Shared, Unused,
+    OfLimit, OfMember, OfObject, OfParent, OfRate, OfScale, Repeat, Shared, Unread, Unused,
 };
 pub use firsts::first_repeat;
 pub use printing::print_findings;
-pub use scales::{find_in_scale, first_declaring};
+pub use scales::{Known, find_in_scale, first_declaring};

@@ -2,8 +2,10 @@
 
 ghost use Rattle.std.specs.Prelude.{◌≡◌, ◌++◌, find, option_copied, IfOk, OnOk};
 ghost use Rattle.pw_plan.specs.Groups.{is_software};
-ghost use Rattle.pw_findings.specs.Domains.{apart, control_at, controls_of, has_other_control, has_other_register};
-ghost use Rattle.pw_findings.specs.Domains.{is_written, lead, member_findings, other_control, other_state, scale_at, unlike};
+ghost use Rattle.pw_findings.specs.Domains.{apart, control_at, controls_of, has_other_control};
+ghost use Rattle.pw_findings.specs.Domains.{has_other_register};
+ghost use Rattle.pw_findings.specs.Domains.{is_written, lead, member_findings, other_control, other_state};
+ghost use Rattle.pw_findings.specs.Domains.{scale_at, unlike};
 
 use crate::adding::add;
 use crate::controls::{are_same, register_in};

@@ -1,12 +1,16 @@
 ghost use Rattle.std.specs.Prelude.{◌≡◌, is_ok};
 ghost use Rattle.pw_text.specs.Puts.{PutsText};
-ghost use Rattle.pw_findings.specs.Words.{behind, cpc_words, cst_words, device_words, entry_words, idle_words};
+ghost use Rattle.pw_findings.specs.Words.{behind, cpc_words, cst_words, device_words, entry_words};
+ghost use Rattle.pw_findings.specs.Words.{idle_words};
 ghost use Rattle.pw_findings.specs.Words.{kind_words, object_words, parent_words};
+ghost use Rattle.pw_findings.specs.declared.finding.OfCst.TheVariants.{PowerRises};
+ghost use Rattle.pw_findings.specs.declared.finding.OfParent.TheVariants.{Overflows, Past};
 
 use crate::finding::{FindingKind, OfCpc, OfCst, OfDevice, OfEntry, OfIdle, OfObject, OfParent};
 use crate::putting::{Word, put_words};
 use crate::telling_domains::{put_declared, put_member};
 use crate::telling_states::{put_control, put_limit, put_rate, put_scale};
+use aml_data::FullPath;
 use pw_base::{Failed, Sink};
 use pw_text::Page;
 
@@ -117,6 +121,28 @@ fn put_idle<K: Sink>(page: &mut Page, sink: &mut K, amiss: &OfIdle) -> Result<()
     }
 }
 
+/// Puts that a C state takes more power than the one before it.
+fn put_costlier<K: Sink>(
+    page: &mut Page,
+    sink: &mut K,
+    state: usize,
+    power: u32,
+    before: u32,
+) -> Result<(), Failed>
+    ensures { PutsText K.Sink sink.old sink.new page.old page.new
+        (behind (cst_words (PowerRises state power before))) (is_ok result) }
+{
+    let words = [
+        Word::Text(b"U-CST-POWER takes"),
+        Word::Number(power),
+        Word::Text(b"mW in C state"),
+        Word::Count(state),
+        Word::Text(b"and in the one before it"),
+        Word::Number(before),
+    ];
+    put_words(page, sink, &words)
+}
+
 /// Puts what is amiss with C states.
 fn put_cst<K: Sink>(page: &mut Page, sink: &mut K, amiss: &OfCst) -> Result<(), Failed>
     ensures { PutsText K.Sink sink.old sink.new page.old page.new
@@ -151,18 +177,7 @@ fn put_cst<K: Sink>(page: &mut Page, sink: &mut K, amiss: &OfCst) -> Result<(), 
             state,
             power,
             before,
-        } => put_words(
-            page,
-            sink,
-            &[
-                Word::Text(b"U-CST-POWER takes"),
-                Word::Number(*power),
-                Word::Text(b"mW in C state"),
-                Word::Count(*state),
-                Word::Text(b"and in the one before it"),
-                Word::Number(*before),
-            ],
-        ),
+        } => put_costlier(page, sink, *state, *power, *before),
     }
 }
 
@@ -207,6 +222,60 @@ fn put_entry<K: Sink>(page: &mut Page, sink: &mut K, amiss: &OfEntry) -> Result<
     }
 }
 
+/// Puts that a state enables one that the container doesn't have.
+fn put_past<K: Sink>(
+    page: &mut Page,
+    sink: &mut K,
+    state: usize,
+    enables: u32,
+    parent: &FullPath,
+    count: usize,
+) -> Result<(), Failed>
+    ensures { PutsText K.Sink sink.old sink.new page.old page.new
+        (behind (parent_words (Past state enables parent.now count))) (is_ok result) }
+{
+    let words = [
+        Word::Text(b"W-LPI-PARENT enables in idle state"),
+        Word::Count(state),
+        Word::Text(b"state"),
+        Word::Number(enables),
+        Word::Text(b"of"),
+        Word::Path(parent),
+        Word::Text(b"which has"),
+        Word::Count(count),
+    ];
+    put_words(page, sink, &words)
+}
+
+/// Puts that a state of the container adds too much to the number of a state, each with its number.
+fn put_overflow<K: Sink>(
+    page: &mut Page,
+    sink: &mut K,
+    below: (usize, u64),
+    above: (usize, u64),
+    parent: &FullPath,
+) -> Result<(), Failed>
+    ensures { PutsText K.Sink sink.old sink.new page.old page.new
+        (behind (parent_words (Overflows below.0 below.1 above.0 parent.now above.1))) (is_ok result) }
+{
+    let (state, number) = below;
+    let (enables, added) = above;
+    let words = [
+        Word::Text(b"W-LPI-SUM enters idle state"),
+        Word::Count(state),
+        Word::Text(b"at"),
+        Word::Long(number),
+        Word::Text(b"and enables state"),
+        Word::Count(enables),
+        Word::Text(b"of"),
+        Word::Path(parent),
+        Word::Text(b"which adds"),
+        Word::Long(added),
+        Word::Text(b"and ends past 64 bits"),
+    ];
+    put_words(page, sink, &words)
+}
+
 /// Puts what is amiss between idle states and those of the container around.
 fn put_parent<K: Sink>(page: &mut Page, sink: &mut K, amiss: &OfParent) -> Result<(), Failed>
     ensures { PutsText K.Sink sink.old sink.new page.old page.new
@@ -218,20 +287,7 @@ fn put_parent<K: Sink>(page: &mut Page, sink: &mut K, amiss: &OfParent) -> Resul
             enables,
             parent,
             count,
-        } => put_words(
-            page,
-            sink,
-            &[
-                Word::Text(b"W-LPI-PARENT enables in idle state"),
-                Word::Count(*state),
-                Word::Text(b"state"),
-                Word::Number(*enables),
-                Word::Text(b"of"),
-                Word::Path(parent),
-                Word::Text(b"which has"),
-                Word::Count(*count),
-            ],
-        ),
+        } => put_past(page, sink, *state, *enables, parent, *count),
         OfParent::Absent { state, enables } => put_words(
             page,
             sink,
@@ -253,6 +309,13 @@ fn put_parent<K: Sink>(page: &mut Page, sink: &mut K, amiss: &OfParent) -> Resul
                 Word::Path(parent),
             ],
         ),
+        OfParent::Overflows {
+            state,
+            number,
+            enables,
+            parent,
+            added,
+        } => put_overflow(page, sink, (*state, *number), (*enables, *added), parent),
     }
 }
 

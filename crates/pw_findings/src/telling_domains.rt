@@ -1,7 +1,8 @@
 ghost use Rattle.std.specs.Prelude.{◌≡◌, is_ok};
 ghost use Rattle.pw_text.specs.Puts.{PutsText};
 ghost use Rattle.pw_findings.specs.declared.finding.OfDomain.TheVariants.{OtherType};
-ghost use Rattle.pw_findings.specs.declared.finding.OfMember.TheVariants.{OtherControl, OtherRange};
+ghost use Rattle.pw_findings.specs.declared.finding.OfMember.TheVariants.{OtherControl, OtherLength};
+ghost use Rattle.pw_findings.specs.declared.finding.OfMember.TheVariants.{OtherRange};
 ghost use Rattle.pw_findings.specs.Words.{behind, declared_words, member_words};
 
 use crate::finding::{DomainId, OfDomain, OfMember};
@@ -147,6 +148,31 @@ fn put_other_range<K: Sink>(
     put_words(page, sink, &words)
 }
 
+/// Puts that members have other numbers of states.
+fn put_other_length<K: Sink>(
+    page: &mut Page,
+    sink: &mut K,
+    id: DomainId,
+    count: usize,
+    other: &FullPath,
+    there: usize,
+) -> Result<(), Failed>
+    ensures { PutsText K.Sink sink.old sink.new page.old page.new
+        (behind (member_words id (OtherLength count other.now there))) (is_ok result) }
+{
+    let words = [
+        Word::Text(b"W-DOMAIN-STATES has"),
+        Word::Count(count),
+        Word::Text(b"states in"),
+        Word::Domain(id),
+        Word::Text(b"and"),
+        Word::Path(other),
+        Word::Text(b"has"),
+        Word::Count(there),
+    ];
+    put_words(page, sink, &words)
+}
+
 /// Puts how a domain's members differ.
 pub(crate) fn put_member<K: Sink>(
     page: &mut Page,
@@ -162,20 +188,7 @@ pub(crate) fn put_member<K: Sink>(
             count,
             other,
             there,
-        } => put_words(
-            page,
-            sink,
-            &[
-                Word::Text(b"W-DOMAIN-STATES has"),
-                Word::Count(*count),
-                Word::Text(b"states in"),
-                Word::Domain(id),
-                Word::Text(b"and"),
-                Word::Path(other),
-                Word::Text(b"has"),
-                Word::Count(*there),
-            ],
-        ),
+        } => put_other_length(page, sink, id, *count, other, *there),
         OfMember::NoRegister { other } => put_words(
             page,
             sink,

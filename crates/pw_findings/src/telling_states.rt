@@ -1,12 +1,35 @@
 ghost use Rattle.std.specs.Prelude.{◌≡◌, is_ok};
 ghost use Rattle.pw_text.specs.Puts.{PutsText};
+ghost use Rattle.pw_findings.specs.declared.finding.OfControl.TheVariants.{PastAccess};
+ghost use Rattle.pw_findings.specs.declared.finding.OfScale.TheVariants.{ControlRepeats};
 ghost use Rattle.pw_findings.specs.Words.{behind, control_words, limit_words, rate_words, scale_words};
 
-use crate::finding::{OfControl, OfLimit, OfRate, OfScale};
+use crate::finding::{OfControl, OfLimit, OfRate, OfScale, Repeat};
 use crate::putting::{Word, put_words};
 use pw_base::{Failed, Sink};
 use pw_plan::DomainKind;
 use pw_text::Page;
+
+/// Puts that two states have one control value.
+fn put_alike<K: Sink>(
+    page: &mut Page,
+    sink: &mut K,
+    kind: DomainKind,
+    repeat: Repeat,
+) -> Result<(), Failed>
+    ensures { PutsText K.Sink sink.old sink.new page.old page.new
+        (behind (scale_words kind (ControlRepeats repeat))) (is_ok result) }
+{
+    let words = [
+        Word::Text(b"U-STATES-CONTROL has"),
+        Word::State(kind, repeat.place),
+        Word::Text(b"of control value"),
+        Word::Number(repeat.number),
+        Word::Text(b"as state"),
+        Word::Count(repeat.earlier),
+    ];
+    put_words(page, sink, &words)
+}
 
 /// Puts what is amiss with performance or throttling states.
 pub(crate) fn put_scale<K: Sink>(
@@ -40,18 +63,7 @@ pub(crate) fn put_scale<K: Sink>(
                 Word::Path(other),
             ],
         ),
-        OfScale::ControlRepeats(repeat) => put_words(
-            page,
-            sink,
-            &[
-                Word::Text(b"U-STATES-CONTROL has"),
-                Word::State(kind, repeat.place),
-                Word::Text(b"of control value"),
-                Word::Number(repeat.number),
-                Word::Text(b"as state"),
-                Word::Count(repeat.earlier),
-            ],
-        ),
+        OfScale::ControlRepeats(repeat) => put_alike(page, sink, kind, *repeat),
         OfScale::NoLatency { state } => put_words(
             page,
             sink,
@@ -164,6 +176,28 @@ pub(crate) fn put_limit<K: Sink>(
     }
 }
 
+/// Puts that the bits of a control register end behind those that an access takes.
+fn put_wide<K: Sink>(
+    page: &mut Page,
+    sink: &mut K,
+    kind: DomainKind,
+    end: u32,
+    room: u32,
+) -> Result<(), Failed>
+    ensures { PutsText K.Sink sink.old sink.new page.old page.new
+        (behind (control_words kind (PastAccess end room))) (is_ok result) }
+{
+    let words = [
+        Word::Text(b"W-REGISTER-WIDTH has in"),
+        Word::Control(kind),
+        Word::Text(b"a control register of"),
+        Word::Number(end),
+        Word::Text(b"bits with its offset, where an access takes"),
+        Word::Number(room),
+    ];
+    put_words(page, sink, &words)
+}
+
 /// Puts what is amiss with the registers of states.
 pub(crate) fn put_control<K: Sink>(
     page: &mut Page,
@@ -206,17 +240,6 @@ pub(crate) fn put_control<K: Sink>(
                 Word::Byte(*status),
             ],
         ),
-        OfControl::PastAccess { end, room } => put_words(
-            page,
-            sink,
-            &[
-                Word::Text(b"W-REGISTER-WIDTH has in"),
-                Word::Control(kind),
-                Word::Text(b"a control register of"),
-                Word::Number(*end),
-                Word::Text(b"bits with its offset, where an access takes"),
-                Word::Number(*room),
-            ],
-        ),
+        OfControl::PastAccess { end, room } => put_wide(page, sink, kind, *end, *room),
     }
 }

@@ -1,8 +1,9 @@
 ghost use Rattle.std.specs.Prelude.{◌≡◌};
 ghost use Rattle.pw_findings.specs.Words.{bounded_words, control_word, coord_word, domain_word, limit_word};
-ghost use Rattle.pw_findings.specs.Words.{level_words, states_word, unit_word, unused_words, why_words};
+ghost use Rattle.pw_findings.specs.Words.{level_words, states_word, unit_word, unread_words, unused_words};
+ghost use Rattle.pw_findings.specs.Words.{why_words};
 
-use crate::finding::Unused;
+use crate::finding::{Unread, Unused};
 use acpi_values::{Coord, Why};
 use pw_plan::DomainKind;
 
@@ -110,6 +111,23 @@ pub(crate) fn level_name(place: usize) -> &'static [u8]
     }
 }
 
+/// A term that isn't read, with its code.
+fn unread_name(term: Unread) -> &'static [u8]
+    ensures { result.now ≡ unread_words term }
+{
+    match term {
+        Unread::If => b"U-CODE has an If, which isn't run: what is in it counts as absent",
+        Unread::Else => b"U-CODE has an Else, which isn't run: what is in it counts as absent",
+        Unread::While => b"U-CODE has a While, which isn't run: what is in it counts as absent",
+        Unread::PowerResource => {
+            b"U-UNREAD has a power resource, which isn't read: what is in it counts as absent"
+        }
+        Unread::ThermalZone => {
+            b"U-UNREAD has a thermal zone, which isn't read: what is in it counts as absent"
+        }
+    }
+}
+
 /// The code of why an object isn't used, and what it says.
 pub(crate) fn unused_name(why: Unused) -> &'static [u8]
     ensures { result.now ≡ unused_words why }
@@ -127,5 +145,6 @@ pub(crate) fn unused_name(why: Unused) -> &'static [u8]
             DomainKind::Throttle => b"U-STATES-NONE stands without a _TSS: it isn't used",
             DomainKind::Idle => b"U-STATES-NONE stands without a _CST: it isn't used",
         },
+        Unused::Skipped(term) => unread_name(term),
     }
 }

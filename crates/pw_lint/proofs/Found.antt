@@ -27,7 +27,7 @@ use Rattle.pw_findings.specs.Domains.{domain_findings, unfit_findings, member_fi
 use Rattle.pw_findings.specs.Findings.{finding, of_each, when}
 use Rattle.pw_lint.specs.Notes.{note_findings}
 use Rattle.pw_findings.specs.Firsts.{first_repeat}
-use Rattle.pw_lint.specs.Idle.{counted, falling, has_cst, has_null, idle_findings, is_cst, row_in, shrinking, state_count, unentered}
+use Rattle.pw_states.specs.Idle.{counted, falling, has_cst, has_null, idle_findings, is_cst, row_in, shrinking, state_count, unentered}
 use Rattle.pw_lint.specs.Laws.{FoundIn, IsCounted, IsFalling, IsFound, IsFoundOfCpu, IsFoundOfDomain, IsRepeated, IsRising, IsShrinking, IsStill, IsUnentered}
 use Rattle.pw_lint.specs.Devices.{twin_findings}
 use Rattle.pw_lint.specs.Machine.{container_findings, cpu_findings, cpu_idle_findings, device_findings, findings, perf_findings, throttle_findings}
@@ -71,7 +71,7 @@ flat_in f [] y (k, x, l, e, c) = absurd (let bad = l in omega arith)
 flat_in f (z ∷ zs) y (zero, x, l, e, c) = Contains-append_left (f z) (flat_map f zs) y (subst (λ w. Contains (f w) y) (sym e) c)
 flat_in f (z ∷ zs) y (suc k, x, l, e, c) = Contains-append_right (f z) (flat_map f zs) y (flat_in f zs y (k, x, omega (arith, l), e, c))
 
-in_all : {X : Type 0} (f : X → List Finding) (xs : List X) (y : Finding) → Contains (flat_map f xs) y ↔ FoundIn f xs y
+pub in_all : {X : Type 0} (f : X → List Finding) (xs : List X) (y : Finding) → Contains (flat_map f xs) y ↔ FoundIn f xs y
 in_all f xs y = (in_flat f xs y, flat_in f xs y)
 
 -- of some number below n

@@ -18,15 +18,15 @@ use Rattle.pw_lint.specs.Machine.{container_findings, cpu_findings, findings}
 use Rattle.pw_lint.specs.Notes.{note_findings, noted_kind, of_object}
 use Rattle.pw_lint.proofs.Found.{unfit_is_found}
 
-ends_empty : {X : Type 0} (xs ys : List X) → xs ++ ys ≡ [] → (xs ≡ []) × (ys ≡ [])
+pub ends_empty : {X : Type 0} (xs ys : List X) → xs ++ ys ≡ [] → (xs ≡ []) × (ys ≡ [])
 ends_empty [] ys e = (refl, e)
 ends_empty (x ∷ xs) ys e = absurd (cc)
 
-none_in : {X : Type 0} (f : X → List Finding) (xs : List X) → flat_map f xs ≡ [] → NoneIn f xs
+pub none_in : {X : Type 0} (f : X → List Finding) (xs : List X) → flat_map f xs ≡ [] → NoneIn f xs
 none_in f [] e = tt {0}
 none_in f (x ∷ xs) e = let s = ends_empty (f x) (flat_map f xs) e in (s.0, none_in f xs s.1)
 
-in_none : {X : Type 0} (f : X → List Finding) (xs : List X) → NoneIn f xs → flat_map f xs ≡ []
+pub in_none : {X : Type 0} (f : X → List Finding) (xs : List X) → NoneIn f xs → flat_map f xs ≡ []
 in_none f [] none = refl
 in_none f (x ∷ xs) none = rw (none.0, in_none f xs none.1) refl
 

@@ -18,7 +18,7 @@ use Rattle.pw_findings.specs.declared.finding.Shared.TheVariants as shared
 use Rattle.pw_findings.specs.Findings.{finding, of_each, when}
 use Rattle.pw_lint.specs.declared.cpc_domains.Member.{Member}
 use Rattle.pw_lint.specs.declared.cpc_domains.Range.{Range}
-use Rattle.pw_lint.specs.Cpcs.{level}
+use Rattle.pw_states.specs.Cpcs.{level}
 use Rattle.pw_lint.specs.Tables.{dependency}
 
 -- # Members

@@ -1,10 +1,7 @@
 pub mod Tables
 pub mod Devices
-pub mod Idle
-pub mod CStates
-pub mod Parents
-pub mod Cpcs
 pub mod CpcDomains
 pub mod Notes
+pub mod Passed
 pub mod Machine
 pub mod Laws

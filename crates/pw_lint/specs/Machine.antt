@@ -4,6 +4,8 @@ use Rattle.std.specs.List.{flat_map}
 use Rattle.acpi_values.specs.declared.idle.CState.{CState}
 use Rattle.aml_data.specs.declared.path.FullPath.{FullPath}
 use Rattle.acpi_space.specs.Namespace.{Entry}
+use Rattle.acpi_space.specs.declared.passed.PassedOver.{PassedOver}
+use Rattle.acpi_build.specs.declared.fault.ObjectFault.{ObjectFault}
 use Rattle.acpi_build.specs.declared.note.Note.{Note}
 use Rattle.acpi_build.specs.declared.survey.Outcome.{Outcome}
 use Rattle.acpi_build.specs.declared.survey.Outcome.TheVariants.{Planned, PastLimit}
@@ -19,29 +21,27 @@ use Rattle.pw_findings.specs.declared.finding.FindingKind.TheVariants as kinds
 use Rattle.pw_findings.specs.declared.finding.OfLimit.TheVariants as limits
 use Rattle.pw_findings.specs.declared.finding.OfObject.TheVariants as objects
 use Rattle.pw_findings.specs.declared.finding.Unused.TheVariants.{NoStates}
+use Rattle.pw_findings.specs.declared.scales.Known.{Known}
 use Rattle.pw_lint.specs.CpcDomains.{cpc_domain_findings}
-use Rattle.pw_lint.specs.Cpcs.{cpc_findings}
+use Rattle.pw_states.specs.Cpcs.{cpc_findings}
 use Rattle.pw_lint.specs.Devices.{status_findings, twin_findings, unnamed}
-use Rattle.pw_lint.specs.CStates.{cst_findings}
+use Rattle.pw_states.specs.CStates.{cst_findings}
 use Rattle.pw_findings.specs.Domains.{domain_findings}
 use Rattle.pw_findings.specs.Findings.{finding, when}
 use Rattle.pw_lint.specs.Notes.{fault_finding, limit_finding, note_findings}
-use Rattle.pw_lint.specs.Idle.{counted, has_cst, idle_findings, integer_findings}
-use Rattle.pw_lint.specs.Parents.{around, parent_findings}
+use Rattle.pw_states.specs.Idle.{counted, has_cst, idle_findings, integer_findings}
+use Rattle.pw_states.specs.Parents.{around, parent_findings}
+use Rattle.pw_lint.specs.Passed.{passed_findings}
 use Rattle.pw_findings.specs.Scales.{declares, latency_findings, of_scale, rate_findings, shared, two_spaces}
-use Rattle.pw_lint.specs.Tables.{below, c_states, frequencies, p_states, is_unknown, percentages, registers, stands, t_states}
+use Rattle.pw_lint.specs.Tables.{below, c_states, frequencies, is_known, p_states, percentages, registers, stands, t_states}
 
 -- # Idle states
-
--- whether it is known which states stand at a path: `_LPI` is neither a method nor an alias
-abbrev pub is_lpi_known : List Entry → FullPath → Bool
-is_lpi_known entries path = not (is_unknown entries path (codes "_LPI"))
 
 unfoldable pub container_findings : List Entry → List ContainerParts → ContainerParts → List Finding
 container_findings entries containers c =
     status_findings entries c.path
     ++ (idle_findings c.path c.idle
-    ++ parent_findings c.path (is_lpi_known entries c.path) (around containers c.parent) c.idle)
+    ++ parent_findings c.path (is_known entries c.path (codes "_LPI")) (around containers c.parent) c.idle)
 
 -- the C states that a processor idles in, none where it has others
 abbrev pub used_c_states : List Entry → CpuParts → List CState
@@ -54,7 +54,7 @@ cpu_idle_findings entries containers first c =
     ++ (counted c first
     ++ (cst_findings c.path (used_c_states entries c)
     ++ (integer_findings c.path c.idle
-    ++ parent_findings c.path (is_lpi_known entries c.path) (around containers c.parent) c.idle)))
+    ++ parent_findings c.path (is_known entries c.path (codes "_LPI")) (around containers c.parent) c.idle)))
 
 -- # Devices
 
@@ -86,10 +86,14 @@ unfoldable pub unlimited : List Entry → CpuParts → List Finding
 unlimited entries c = when (is_some c.throttle && not (stands entries c.path (codes "_TPC")))
     (finding c.path (kinds.Limit Throttle limits.Absent))
 
+-- whether it is known what stands for a control register and for a domain, by these names
+abbrev pub known_of : List Entry → FullPath → List ℕ → List ℕ → Known
+known_of entries path register domain = record { register = is_known entries path register; domain = is_known entries path domain }
+
 -- of a processor's performance states, and of its throttling states, beside the first that declares a domain for its own
 unfoldable pub perf_findings : List Entry → Option CpuParts → CpuParts → List Finding
 perf_findings entries declaring c =
-    of_scale Perf c.path declaring c.perf
+    of_scale Perf c.path (known_of entries c.path (codes "_PCT") (codes "_PSD")) declaring c.perf
     ++ (two_spaces c.path (registers entries c.path)
     ++ (rate_findings Perf c.path (frequencies (p_states entries c.path))
     ++ (latency_findings c.path (p_states entries c.path)
@@ -97,7 +101,7 @@ perf_findings entries declaring c =
 
 unfoldable pub throttle_findings : List Entry → Option CpuParts → CpuParts → List Finding
 throttle_findings entries declaring c =
-    of_scale Throttle c.path declaring c.throttle
+    of_scale Throttle c.path (known_of entries c.path (codes "_PTC") (codes "_TSD")) declaring c.throttle
     ++ (shared c
     ++ (unlimited entries c
     ++ (rate_findings Throttle c.path (percentages (t_states entries c.path))
@@ -130,8 +134,13 @@ abbrev pub outcome_findings : List Entry → Outcome → List Note → List Find
 outcome_findings entries (Planned P) noted = findings entries P.containers P.cpus P.domains noted
 outcome_findings entries (PastLimit which number) noted = flat_map note_findings noted ++ limit_finding which number ∷ []
 
--- These are the findings of objects: of each that means nothing, and of what the others make.
-pub record AreFindings (entries : List Entry) (found : List Finding) : Type 0 where
+-- what is found of objects, of which these mean nothing, and the others make this with these notes
+abbrev pub object_findings : List Entry → List ObjectFault → Outcome → List Note → List Finding
+object_findings entries faults outcome noted = map fault_finding faults ++ outcome_findings entries outcome noted
+
+-- These are the findings of objects beside terms that were passed over: of each such term, of each object that means nothing, and
+-- of what the others make.
+pub record AreFindings (entries : List Entry) (passed : List PassedOver) (found : List Finding) : Type 0 where
   pub survey : Survey
   pub made : IsSurvey entries survey
-  pub found_are : found ≡ map fault_finding survey.faults ++ outcome_findings entries survey.outcome survey.notes
+  pub found_are : found ≡ flat_map passed_findings passed ++ object_findings entries survey.faults survey.outcome survey.notes

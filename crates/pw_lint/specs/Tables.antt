@@ -1,5 +1,5 @@
 -- What is read of objects again, of which a plan keeps a part alone (ACPI 6.5, 8.4).
-use Rattle.std.specs.Prelude.{ℕ, Bool, true, false, List, [], ◌∷◌, ◌++◌, codes, is_some, map, Ok, Err, Option, Some, None}
+use Rattle.std.specs.Prelude.{ℕ, Bool, true, false, List, [], ◌∷◌, ◌++◌, codes, is_some, map, not, Ok, Err, Option, Some, None}
 use Rattle.aml_data.specs.Meaning.{meaning}
 use Rattle.aml_data.specs.declared.data.Data.{Data}
 use Rattle.aml_data.specs.declared.data.Width.{Width}
@@ -59,8 +59,9 @@ is_veiled processor = false
 is_veiled method = true
 is_veiled (alias_of name) = true
 
-unfoldable pub is_unknown : List Entry → FullPath → List ℕ → Bool
-is_unknown entries path seg = is_there is_veiled entries (number_at entries (below path seg).segs)
+-- whether it is known what stands at a segment below a path, if anything
+unfoldable pub is_known : List Entry → FullPath → List ℕ → Bool
+is_known entries path seg = not (is_there is_veiled entries (number_at entries (below path seg).segs))
 
 -- # Numbers
 

@@ -5,12 +5,14 @@ ghost use Rattle.std.specs.Prelude.{None as none};
 ghost use Rattle.std.specs.List.{list_any};
 ghost use Rattle.acpi_build.specs.Tables.{AreCountable};
 ghost use Rattle.pw_findings.specs.Findings.{of_each};
-ghost use Rattle.pw_lint.specs.CpcDomains.{are_apart, at_member, cpc_domain_findings, declared_amiss, has_other_number};
-ghost use Rattle.pw_lint.specs.CpcDomains.{has_other_range, has_other_type, id_of, is_in, led, led_by, member_at};
-ghost use Rattle.pw_lint.specs.CpcDomains.{member_of, members_of, number_amiss, range_amiss, range_between, range_of};
+ghost use Rattle.pw_lint.specs.CpcDomains.{are_apart, at_member, cpc_domain_findings, declared_amiss};
+ghost use Rattle.pw_lint.specs.CpcDomains.{has_other_number};
+ghost use Rattle.pw_lint.specs.CpcDomains.{has_other_range, has_other_type, id_of, is_in, led, led_by};
+ghost use Rattle.pw_lint.specs.CpcDomains.{member_at};
+ghost use Rattle.pw_lint.specs.CpcDomains.{member_of, members_of, number_amiss, range_amiss, range_between};
+ghost use Rattle.pw_lint.specs.CpcDomains.{range_of};
 ghost use Rattle.pw_lint.specs.CpcDomains.{ranges_amiss, size_amiss, size_of, type_amiss};
 
-use crate::cpcs::level;
 use crate::devices::path_in;
 use crate::reading::dependency;
 use acpi_space::Space;
@@ -21,6 +23,7 @@ use pw_findings::{
     DomainId, Finding, FindingKind, OfDomain, OfMember, Shared, add, add_when, same_coord,
 };
 use pw_plan::CpuParts;
+use pw_states::level;
 use std::alloc::Global;
 
 /// From the lowest to the highest performance.
@@ -217,8 +220,8 @@ fn find_number(
     first: Member,
     found: &mut Vec<Finding>,
 ) -> Result<(), Memory>
-    ensures { OnOk result (found.new.items ≡ found.old.items ++ number_amiss cpus.now members.now path.now first
-        (position (has_other_number first) members.now)) }
+    ensures { OnOk result (found.new.items ≡ found.old.items
+        ++ number_amiss cpus.now members.now path.now first (position (has_other_number first) members.now)) }
 {
     let Some(p) = other_number(members, first) else {
         return Ok(());
@@ -308,8 +311,8 @@ fn find_range(
     first: Member,
     found: &mut Vec<Finding>,
 ) -> Result<(), Memory>
-    ensures { OnOk result (found.new.items ≡ found.old.items ++ range_amiss cpus.now members.now path.now first
-        (position (has_other_range first) members.now)) }
+    ensures { OnOk result (found.new.items ≡ found.old.items
+        ++ range_amiss cpus.now members.now path.now first (position (has_other_range first) members.now)) }
 {
     let Some(p) = other_range(members, first) else {
         return Ok(());

@@ -6,8 +6,10 @@ ghost use Rattle.acpi_build.specs.Tables.{AreCountable};
 ghost use Rattle.acpi_space.specs.Things.{thing};
 ghost use Rattle.pw_plan.specs.Parts.{cpu_in};
 ghost use Rattle.pw_findings.specs.Findings.{of_each};
-ghost use Rattle.pw_lint.specs.Devices.{beside, by_status, is_device, is_device_itself, is_enabled, is_present};
-ghost use Rattle.pw_lint.specs.Devices.{same_uid, status_findings, twin, twin_at, twin_findings, uid_of, uids_of, unnamed};
+ghost use Rattle.pw_lint.specs.Devices.{beside, by_status, is_device, is_device_itself, is_enabled};
+ghost use Rattle.pw_lint.specs.Devices.{is_present};
+ghost use Rattle.pw_lint.specs.Devices.{same_uid, status_findings, twin, twin_at, twin_findings, uid_of};
+ghost use Rattle.pw_lint.specs.Devices.{uids_of, unnamed};
 
 use crate::reading::{integer_below, stands};
 use acpi_space::{Object, Space};

@@ -2,21 +2,18 @@
 //! containers, processors and domains of the plan of the others.
 #![tactic(auto)]
 
-mod c_states;
 mod cpc_domains;
-mod cpcs;
 mod devices;
-mod idle;
 mod laws;
 mod linting;
 mod notes;
-mod parents;
+mod passed;
 mod processors;
-mod rates;
 mod reading;
 
 pub use laws::{
-    findings_are_of_objects, findings_of_devices, findings_of_domains, findings_of_idle_states,
-    findings_of_rates, findings_of_refusals, nothing_is_found,
+    findings_are_of_objects, findings_beside_parents, findings_of_c_states, findings_of_devices,
+    findings_of_domains, findings_of_idle_states, findings_of_rates, findings_of_refusals,
+    nothing_is_found,
 };
 pub use linting::find_all;

@@ -5,9 +5,10 @@ ghost use Rattle.pw_lint.specs.Machine.{findings, outcome_findings, AreFindings}
 use crate::cpc_domains::find_in_cpc_domains;
 use crate::devices::find_twins;
 use crate::notes::{find_in_faults, find_in_notes, find_past_limit};
+use crate::passed::find_passed;
 use crate::processors::{find_in_containers, find_in_cpus};
 use acpi_build::{Note, Outcome, survey_objects};
-use acpi_space::Space;
+use acpi_space::{PassedOver, Space};
 use pw_base::Memory;
 use pw_findings::{Finding, find_in_domains};
 use pw_plan::Plan;
@@ -57,14 +58,20 @@ fn find_in_outcome(
     }
 }
 
-/// What is found of the objects of a namespace (ACPI 6.5, 8.4): of each that means nothing, and then of the
-/// plan that the others tell of, in the order of its notes, containers, processors and domains.
-pub fn find_all(alloc: Global, space: &Space<'_>) -> Result<Vec<Finding>, Memory>
+/// What is found of the objects of a namespace (ACPI 6.5, 8.4), beside the terms that were passed over: of
+/// each of these, then of each object that means nothing, and then of the plan that the others tell of, in
+/// the order of its notes, containers, processors and domains.
+pub fn find_all(
+    alloc: Global,
+    space: &Space<'_>,
+    passed: &[PassedOver],
+) -> Result<Vec<Finding>, Memory>
     requires { AreCountable space.now }
-    ensures { IfOk result (λ found. AreFindings space.now found.items) }
+    ensures { IfOk result (λ found. AreFindings space.now passed.now found.items) }
 {
     let survey = survey_objects(alloc, space)?;
     let mut found = Vec::new(alloc);
+    find_passed(alloc, passed, &mut found)?;
     find_in_faults(alloc, survey.faults.as_slice(), &mut found)?;
     let notes = survey.notes.as_slice();
     find_in_outcome(alloc, space, &survey.outcome, notes, &mut found)?;

@@ -1,6 +1,6 @@
 ghost use Rattle.std.specs.Prelude.{◌≡◌, ◌∷◌, ◌++◌, [], map, OnOk};
 ghost use Rattle.std.specs.List.{flat_map};
-ghost use Rattle.pw_lint.specs.Notes.{fault_finding, limit_finding, note_findings, noted_kind};
+ghost use Rattle.pw_lint.specs.Notes.{fault_finding, limit_finding, note_findings, noted_kind, of_object};
 
 use acpi_build::{Note, NoteKind, ObjectFault};
 use aml_data::FullPath;
@@ -22,15 +22,20 @@ fn noted_kind(kind: NoteKind) -> Option<Unused>
     }
 }
 
-/// Adds what is found of a note.
-fn find_in_note(alloc: Global, note: &Note, found: &mut Vec<Finding>) -> Result<(), Memory>
-    ensures { OnOk result (found.new.items ≡ found.old.items ++ note_findings note.now) }
+/// Adds why an object isn't used, where there is a reason.
+pub(crate) fn find_unused(
+    alloc: Global,
+    path: &FullPath,
+    why: Option<Unused>,
+    found: &mut Vec<Finding>,
+) -> Result<(), Memory>
+    ensures { OnOk result (found.new.items ≡ found.old.items ++ of_object path.now why) }
 {
-    match noted_kind(note.kind) {
+    match why {
         None => Ok(()),
         Some(why) => {
             let amiss = OfObject::Unused(why);
-            add(alloc, &note.path, FindingKind::Object(amiss), found)
+            add(alloc, path, FindingKind::Object(amiss), found)
         }
     }
 }
@@ -44,7 +49,7 @@ pub(crate) fn find_in_notes(
     ensures { OnOk result (found.new.items ≡ found.old.items ++ flat_map note_findings notes.now) }
 {
     for note in notes {
-        find_in_note(alloc, note, found)?;
+        find_unused(alloc, &note.path, noted_kind(note.kind), found)?;
     }
     Ok(())
 }

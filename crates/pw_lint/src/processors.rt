@@ -4,36 +4,28 @@ ghost use Rattle.std.specs.Prelude.{◌≡◌, ◌++◌, option_copied, IfOk, On
 ghost use Rattle.std.specs.List.{flat_map};
 ghost use Rattle.acpi_build.specs.Tables.{AreCountable};
 ghost use Rattle.pw_lint.specs.Machine.{container_findings, cpu_findings, cpu_idle_findings, device_findings};
-ghost use Rattle.pw_lint.specs.Machine.{is_lpi_known, perf_findings, stateless};
-ghost use Rattle.pw_lint.specs.Machine.{throttle_findings, unlimited, unused_perf, unused_throttle, used_c_states};
+ghost use Rattle.pw_lint.specs.Machine.{known_of, perf_findings, stateless};
+ghost use Rattle.pw_lint.specs.Machine.{throttle_findings, unlimited, unused_perf, unused_throttle};
+ghost use Rattle.pw_lint.specs.Machine.{used_c_states};
 
-use crate::c_states::find_in_cst;
-use crate::cpcs::find_in_cpc;
 use crate::devices::{find_status, find_unnamed};
-use crate::idle::{find_counted, find_in_idle, find_integers, first_with_cst, has_cst};
-use crate::parents::{around, find_beside_parent};
-use crate::rates::{find_hasty, find_in_rates};
 use crate::reading::{
-    c_states, frequencies, is_unknown, p_states, path_below, percentages, registers, stands,
-    t_states,
+    c_states, frequencies, is_known, p_states, path_below, percentages, registers, stands, t_states,
 };
 use acpi_space::Space;
 use acpi_values::CState;
 use aml_data::{FullPath, Seg};
 use pw_base::Memory;
 use pw_findings::{
-    Finding, FindingKind, OfLimit, OfObject, Unused, add_when, find_in_scale, find_shared,
+    Finding, FindingKind, Known, OfLimit, OfObject, Unused, add_when, find_in_scale, find_shared,
     find_two_spaces, first_declaring,
 };
 use pw_plan::{ContainerParts, CpuParts, DomainKind};
+use pw_states::{
+    around, find_beside_parent, find_counted, find_hasty, find_in_cpc, find_in_cst, find_in_idle,
+    find_in_rates, find_integers, first_with_cst, has_cst,
+};
 use std::alloc::Global;
-
-/// Whether it is known which states stand at a path.
-fn is_lpi_known(alloc: Global, space: &Space<'_>, path: &FullPath) -> Result<bool, Memory>
-    ensures { IfOk result (λ b. b ≡ is_lpi_known space.now path.now) }
-{
-    Ok(!is_unknown(alloc, space, path, Seg::of_segment(*b"_LPI"))?)
-}
 
 /// Adds what is found of a container.
 #[tactic(auto, unfolding(crate::specs::Machine::container_findings))]
@@ -50,7 +42,7 @@ fn find_in_container(
 {
     let path = &container.path;
     let parent = around(containers, container.parent);
-    let known = is_lpi_known(alloc, space, path)?;
+    let known = is_known(alloc, space, path, Seg::of_segment(*b"_LPI"))?;
     find_status(alloc, space, path, found)?;
     find_in_idle(alloc, path, &container.idle, found)?;
     find_beside_parent(alloc, path, known, parent, &container.idle, found)
@@ -100,7 +92,7 @@ fn find_in_cpu_idle(
 {
     let states = used_c_states(alloc, space, cpu)?;
     let parent = around(containers, cpu.parent);
-    let known = is_lpi_known(alloc, space, &cpu.path)?;
+    let known = is_known(alloc, space, &cpu.path, Seg::of_segment(*b"_LPI"))?;
     find_in_idle(alloc, &cpu.path, &cpu.idle, found)?;
     find_counted(alloc, cpu, first, found)?;
     find_in_cst(alloc, &cpu.path, &states, found)?;
@@ -182,6 +174,22 @@ fn find_unlimited(
     add_when(alloc, absent, &cpu.path, kind, found)
 }
 
+/// Whether it is known what stands for a control register and for a domain, by these names.
+fn known_of(
+    alloc: Global,
+    space: &Space<'_>,
+    path: &FullPath,
+    register: Seg,
+    domain: Seg,
+) -> Result<Known, Memory>
+    ensures { IfOk result (λ k. k ≡ known_of space.now path.now register domain) }
+{
+    Ok(Known {
+        register: is_known(alloc, space, path, register)?,
+        domain: is_known(alloc, space, path, domain)?,
+    })
+}
+
 /// Adds what is found of a processor's performance states.
 #[tactic(auto, unfolding(crate::specs::Machine::perf_findings))]
 fn find_in_perf(
@@ -196,10 +204,13 @@ fn find_in_perf(
         ++ perf_findings space.now (option_copied declaring.entry) cpu.now) }
 {
     let kind = DomainKind::Perf;
+    let pct = Seg::of_segment(*b"_PCT");
+    let psd = Seg::of_segment(*b"_PSD");
+    let known = known_of(alloc, space, &cpu.path, pct, psd)?;
     let pair = registers(alloc, space, &cpu.path)?;
     let states = p_states(alloc, space, &cpu.path)?;
     let rates = frequencies(alloc, &states)?;
-    find_in_scale(alloc, kind, cpu, declaring, found)?;
+    find_in_scale(alloc, kind, cpu, known, declaring, found)?;
     find_two_spaces(alloc, &cpu.path, pair, found)?;
     find_in_rates(alloc, kind, &cpu.path, &rates, found)?;
     find_hasty(alloc, &cpu.path, &states, found)?;
@@ -220,9 +231,12 @@ fn find_in_throttle(
         ++ throttle_findings space.now (option_copied declaring.entry) cpu.now) }
 {
     let kind = DomainKind::Throttle;
+    let ptc = Seg::of_segment(*b"_PTC");
+    let tsd = Seg::of_segment(*b"_TSD");
+    let known = known_of(alloc, space, &cpu.path, ptc, tsd)?;
     let states = t_states(alloc, space, &cpu.path)?;
     let rates = percentages(alloc, &states)?;
-    find_in_scale(alloc, kind, cpu, declaring, found)?;
+    find_in_scale(alloc, kind, cpu, known, declaring, found)?;
     find_shared(alloc, cpu, found)?;
     find_unlimited(alloc, space, cpu, found)?;
     find_in_rates(alloc, kind, &cpu.path, &rates, found)?;

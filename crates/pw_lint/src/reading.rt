@@ -7,8 +7,9 @@ ghost use Rattle.acpi_idle.specs.CStates.{cst_of};
 ghost use Rattle.acpi_perf.specs.Scales.{pss_of, tss_of};
 ghost use Rattle.acpi_space.specs.Things.{thing};
 ghost use Rattle.acpi_build.specs.Tables.{AreCountable};
-ghost use Rattle.pw_lint.specs.Tables.{below, c_states, dependency, dependency_read, frequencies, given_at, integer_at};
-ghost use Rattle.pw_lint.specs.Tables.{is_unknown, is_veiled, p_states, pair_read};
+ghost use Rattle.pw_lint.specs.Tables.{below, c_states, dependency, dependency_read, frequencies, given_at};
+ghost use Rattle.pw_lint.specs.Tables.{integer_at};
+ghost use Rattle.pw_lint.specs.Tables.{is_known, is_veiled, p_states, pair_read};
 ghost use Rattle.pw_lint.specs.Tables.{percentages, registers, stands, states_read, t_states};
 
 use acpi_idle::read_cst;
@@ -92,22 +93,22 @@ fn is_veiled(object: Object<'_>) -> bool
     }
 }
 
-/// Whether what stands at a segment below a path isn't known.
-#[tactic(auto, unfolding(crate::specs::Tables::is_unknown))]
-pub(crate) fn is_unknown(
+/// Whether it is known what stands at a segment below a path, if anything.
+#[tactic(auto, unfolding(crate::specs::Tables::is_known))]
+pub(crate) fn is_known(
     alloc: Global,
     space: &Space<'_>,
     path: &FullPath,
     seg: Seg,
 ) -> Result<bool, Memory>
-    ensures { IfOk result (λ b. b ≡ is_unknown space.now path.now seg) }
+    ensures { IfOk result (λ b. b ≡ is_known space.now path.now seg) }
 {
     let _objects = space.placed();
     let place = path_below(alloc, path, seg)?;
     let Some(placed) = space.find(&place) else {
-        return Ok(false);
+        return Ok(true);
     };
-    Ok(is_veiled(placed.object))
+    Ok(!is_veiled(placed.object))
 }
 
 /// The integer at a segment below a path, where one stands there.

@@ -5,6 +5,8 @@ use Rattle.pw_base.specs.Seen.{FilesSeen}
 use Rattle.aml_block.specs.declared.block.Block.{Block}
 use Rattle.acpi_space.specs.Distinct.{IsDistinct}
 use Rattle.acpi_space.specs.Namespace.{Entry, entries_in, places_of}
+use Rattle.acpi_space.specs.Passed.{passed_in}
+use Rattle.acpi_space.specs.declared.passed.PassedOver.{PassedOver}
 use Rattle.acpi_space.proofs.Seen.{first_repeat_repeats}
 use Rattle.acpi_build.specs.declared.note.Note.{Note}
 use Rattle.acpi_build.specs.Planning.{AreSame}
@@ -47,8 +49,8 @@ one_check_text entries a b p q =
     let same = same_plan entries p.plan q.plan p.notes q.notes p.made q.made in
     p.says ∙ same_text p.plan q.plan p.notes q.notes same.0 same.1 ∙ sym q.says
 
-one_lint_text : (entries : List Entry) (a b : List ℕ) → IsLintText entries a → IsLintText entries b → a ≡ b
-one_lint_text entries a b p q = p.says ∙ ap findings_text (one_findings entries p.found q.found p.made q.made) ∙ sym q.says
+one_lint_text : (entries : List Entry) (passed : List PassedOver) (a b : List ℕ) → IsLintText entries passed a → IsLintText entries passed b → a ≡ b
+one_lint_text entries passed a b p q = p.says ∙ ap findings_text (one_findings entries passed p.found q.found p.made q.made) ∙ sym q.says
 
 -- # Blocks
 
@@ -57,7 +59,7 @@ one_text_of Show blocks a b p q = p.1 ∙ sym q.1
 one_text_of ShowAsJson blocks a b p q = p.1 ∙ sym q.1
 one_text_of Rewrite blocks a b p q = p ∙ sym q
 one_text_of Check blocks a b p q = one_check_text (entries_in blocks) a b p.1 q.1
-one_text_of Lint blocks a b p q = one_lint_text (entries_in blocks) a b p.1 q.1
+one_text_of Lint blocks a b p q = one_lint_text (entries_in blocks) (passed_in blocks) a b p.1 q.1
 
 one_refusal_of : (task : Task) (blocks : List Block) (s t : ℕ) (a b : List ℕ) → IsRefusalOf task blocks s a → IsRefusalOf task blocks t b → (s ≡ t) × (a ≡ b)
 one_refusal_of Show blocks s t a b p q = one_twice (entries_in blocks) s t a b p q

@@ -5,6 +5,7 @@ use Rattle.pw_base.specs.Seen.{FilesSeen}
 use Rattle.aml_block.specs.declared.block.Block.{Block}
 use Rattle.acpi_space.specs.Distinct.{IsDistinct}
 use Rattle.acpi_space.specs.Namespace.{Entry, entries_in, places_of}
+use Rattle.acpi_space.specs.Passed.{passed_in}
 use Rattle.pw_show.specs.Show.{show_text}
 use Rattle.pw_show.specs.Json.{json_text}
 use Rattle.pw_words.specs.declared.command.Task.{Task}
@@ -55,8 +56,8 @@ pub checking_within : (entries : List Entry) (blocks : List Block) → entries �
     → IsWithin (checking entries) (work_over Check blocks)
 checking_within entries blocks are distinct = rw are (checking_blocks blocks (rw are at distinct))
 
--- to lint objects is to lint the blocks that place them
-linting_blocks : (blocks : List Block) → IsDistinct (places_of (entries_in blocks)) → IsWithin (linting (entries_in blocks)) (work_over Lint blocks)
+-- to lint objects is to lint the blocks that place them, beside the terms that these pass over
+linting_blocks : (blocks : List Block) → IsDistinct (places_of (entries_in blocks)) → IsWithin (linting (entries_in blocks) (passed_in blocks)) (work_over Lint blocks)
 linting_blocks blocks distinct = record {
   texts = λ text made. (distinct, made);
   refusals = λ status line never. absurd never;
@@ -65,7 +66,7 @@ linting_blocks blocks distinct = record {
 }
 
 pub linting_within : (entries : List Entry) (blocks : List Block) → entries ≡ entries_in blocks → IsDistinct (places_of entries)
-    → IsWithin (linting entries) (work_over Lint blocks)
+    → IsWithin (linting entries (passed_in blocks)) (work_over Lint blocks)
 linting_within entries blocks are distinct = rw are (linting_blocks blocks (rw are at distinct))
 
 -- to do it over blocks that the files hold is to do it on the files

@@ -6,6 +6,8 @@ use Rattle.aml_block.specs.declared.block.Block.{Block}
 use Rattle.aml_block.specs.Written.{written_block}
 use Rattle.acpi_space.specs.Distinct.{IsDistinct}
 use Rattle.acpi_space.specs.Namespace.{Entry, entries_in, places_of}
+use Rattle.acpi_space.specs.Passed.{passed_in}
+use Rattle.acpi_space.specs.declared.passed.PassedOver.{PassedOver}
 use Rattle.acpi_build.specs.declared.note.Note.{Note}
 use Rattle.acpi_build.specs.Planning.{IsPlanFrom}
 use Rattle.pw_plan.specs.declared.plan.Plan.{Plan}
@@ -33,27 +35,28 @@ pub record IsCheckText (entries : List Entry) (text : List ℕ) : Type 0 where
 abbrev pub checking : List Entry → Work
 checking entries = record { text = IsCheckText entries; refusal = IsUnplanned entries; read_fault = ⊥; in_pieces = false }
 
--- The text of what is found of objects.
-pub record IsLintText (entries : List Entry) (text : List ℕ) : Type 0 where
+-- The text of what is found of objects, beside terms that were passed over.
+pub record IsLintText (entries : List Entry) (passed : List PassedOver) (text : List ℕ) : Type 0 where
   pub found : List Finding
-  pub made : AreFindings entries found
+  pub made : AreFindings entries passed found
   pub says : text ≡ findings_text found
 
--- to lint objects
-abbrev pub linting : List Entry → Work
-linting entries = record { text = IsLintText entries; refusal = λ status line. ⊥; read_fault = ⊥; in_pieces = false }
+-- to lint objects beside such terms
+abbrev pub linting : List Entry → List PassedOver → Work
+linting entries passed =
+    record { text = IsLintText entries passed; refusal = λ status line. ⊥; read_fault = ⊥; in_pieces = false }
 
 -- # Over blocks
 
 -- This is the text that the task makes of blocks: to show them, the lines of the objects that they place, or the JSON of
 -- these, if they place none where one was placed before; to rewrite them, their shortest spellings one after the other; to
--- check them, the plan of their objects; to lint them, what is found of these.
+-- check them, the plan of their objects; to lint them, what is found of these and of the terms that they pass over.
 abbrev pub IsTextOf : Task → List Block → List ℕ → Type 0
 IsTextOf Show blocks text = IsDistinct (places_of (entries_in blocks)) × (text ≡ show_text (entries_in blocks))
 IsTextOf ShowAsJson blocks text = IsDistinct (places_of (entries_in blocks)) × (text ≡ json_text (entries_in blocks))
 IsTextOf Rewrite blocks text = text ≡ flat_map written_block blocks
 IsTextOf Check blocks text = IsDistinct (places_of (entries_in blocks)) × IsCheckText (entries_in blocks) text
-IsTextOf Lint blocks text = IsDistinct (places_of (entries_in blocks)) × IsLintText (entries_in blocks) text
+IsTextOf Lint blocks text = IsDistinct (places_of (entries_in blocks)) × IsLintText (entries_in blocks) (passed_in blocks) text
 
 -- The task refuses blocks that are spelled: to show or lint them, where a place is given twice; to rewrite them, never; to
 -- check them, where a place is given twice, or else where the objects make no plan.

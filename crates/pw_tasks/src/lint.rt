@@ -3,6 +3,7 @@ ghost use Rattle.pw_base.specs.Outside.{KeepsSink};
 ghost use Rattle.aml_block.specs.Written.{IsWritableBlock};
 ghost use Rattle.acpi_space.specs.Distinct.{IsDistinct};
 ghost use Rattle.acpi_space.specs.Namespace.{places_of};
+ghost use Rattle.acpi_space.specs.Passed.{passed_in};
 ghost use Rattle.acpi_build.specs.Tables.{AreCountable};
 ghost use Rattle.pw_words.specs.declared.command.Task.TheVariants as tasks;
 ghost use Rattle.pw_load.specs.Seen.{outputs_seen};
@@ -10,7 +11,7 @@ ghost use Rattle.pw_load.specs.Ends.{Did};
 ghost use Rattle.pw_tasks.specs.Tasks.{linting, work_over};
 
 use acpi_build::blocks_are_countable;
-use acpi_space::Space;
+use acpi_space::{PassedOver, Space, passed_over};
 use aml_block::Block;
 use pw_base::Sink;
 use pw_findings::print_findings;
@@ -20,19 +21,45 @@ use pw_text::Page;
 use std::alloc::Global;
 use std::mem::forget;
 
-/// Does `lint` over objects: what is found of them.
-fn lint_space<K: Sink>(alloc: Global, space: &Space<'_>, out: &mut K, err: &mut K) -> u8
+/// Does `lint` over objects, beside terms that were passed over: what is found of them.
+fn lint_space<K: Sink>(
+    alloc: Global,
+    space: &Space<'_>,
+    passed: &[PassedOver],
+    out: &mut K,
+    err: &mut K,
+) -> u8
     requires { AreCountable space.now }
     ensures keeps_out { KeepsSink K.told K.faults out.old out.new }
     ensures keeps_err { KeepsSink K.told K.faults err.old err.new }
-    ensures did { Did (linting space.now)
+    ensures did { Did (linting space.now passed.now)
         (outputs_seen K.Sink out.old err.old) (outputs_seen K.Sink out.new err.new) result }
 {
-    let Ok(found) = find_all(alloc, space) else {
+    let Ok(found) = find_all(alloc, space, passed) else {
         return without_memory(err);
     };
     let outcome = print_findings(alloc, &found, out);
     printed(err, outcome)
+}
+
+/// The same, beside the terms that blocks pass over.
+fn lint_passing<K: Sink>(
+    alloc: Global,
+    blocks: &[Block],
+    space: &Space<'_>,
+    out: &mut K,
+    err: &mut K,
+) -> u8
+    requires { AreCountable space.now }
+    ensures keeps_out { KeepsSink K.told K.faults out.old out.new }
+    ensures keeps_err { KeepsSink K.told K.faults err.old err.new }
+    ensures did { Did (linting space.now (passed_in blocks.now))
+        (outputs_seen K.Sink out.old err.old) (outputs_seen K.Sink out.new err.new) result }
+{
+    let Ok(passed) = passed_over(alloc, blocks) else {
+        return without_memory(err);
+    };
+    lint_space(alloc, space, &passed, out, err)
 }
 
 /// Does `lint` over blocks: what is amiss with the tables of the machine that their objects tell of
@@ -55,7 +82,7 @@ pub fn lint<K: Sink>(
     match place(alloc, blocks, page, err) {
         Err(status) => status,
         Ok(space) => {
-            let status = lint_space(alloc, &space, out, err);
+            let status = lint_passing(alloc, blocks, &space, out, err);
             // The process ends now: to give the objects back takes up to a quarter of its time.
             forget(space);
             status

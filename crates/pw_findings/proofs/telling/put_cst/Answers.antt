@@ -7,4 +7,4 @@ pub returns-in-TypeFalls : goal.returns-in-TypeFalls
 returns-in-TypeFalls g c = rw c.in-TypeFalls.is c.put_words-in-TypeFalls.ensures
 
 pub returns-in-PowerRises : goal.returns-in-PowerRises
-returns-in-PowerRises g c = rw c.in-PowerRises.is c.put_words-in-PowerRises.ensures
+returns-in-PowerRises g c = rw c.in-PowerRises.is c.put_costlier.ensures

@@ -1,10 +1,10 @@
 use Rattle.pw_findings.proofs.telling_domains.put_member.Goals as goal
 
 pub returns-in-OtherLength : goal.returns-in-OtherLength
-returns-in-OtherLength g c = rw c.in-OtherLength.is c.put_words.ensures
+returns-in-OtherLength g c = rw c.in-OtherLength.is c.put_other_length.ensures
 
 pub returns-in-NoRegister : goal.returns-in-NoRegister
-returns-in-NoRegister g c = rw c.in-NoRegister.is c.put_words-in-NoRegister.ensures
+returns-in-NoRegister g c = rw c.in-NoRegister.is c.put_words.ensures
 
 pub returns-in-OtherRegister : goal.returns-in-OtherRegister
 returns-in-OtherRegister g c = rw c.in-OtherRegister.is c.put_words-in-OtherRegister.ensures

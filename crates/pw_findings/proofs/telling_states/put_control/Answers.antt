@@ -10,4 +10,4 @@ pub returns-in-TwoSpaces : goal.returns-in-TwoSpaces
 returns-in-TwoSpaces g c = rw c.in-TwoSpaces.is c.put_words-in-TwoSpaces.ensures
 
 pub returns-in-PastAccess : goal.returns-in-PastAccess
-returns-in-PastAccess g c = rw c.in-PastAccess.is c.put_words-in-PastAccess.ensures
+returns-in-PastAccess g c = rw c.in-PastAccess.is c.put_wide.ensures

@@ -13,7 +13,7 @@ returns-in_default-clause-did g c =
 
 pub returns-clause-did : goal.returns-clause-did
 returns-clause-did g c =
-    rw c.printed.ensures.status (did_print (linting c.args.space.now) g.K.Sink c.args.out.now c.print_findings-outcome.new.out c.args.err.now c.printed.new.err
+    rw c.printed.ensures.status (did_print (linting c.args.space.now c.args.passed.now) g.K.Sink c.args.out.now c.print_findings-outcome.new.out c.args.err.now c.printed.new.err
     (findings_text c.deref.result.now) c.print_findings-outcome.result (record {
       found = c.in-Ok.found.items;
       made = c.in-Ok.ensures;

@@ -1,7 +1,0 @@
-use Rattle.std.proofs.Common.{◌≡◌, ◌++◌}
-use Rattle.pw_findings.specs.Findings.{of_each}
-use Rattle.pw_lint.specs.Idle.{summed}
-use Rattle.pw_lint.proofs.idle.find_integers.Given as goal
-
-abbrev pub invariant-loop-k : goal.invariant-loop-k
-invariant-loop-k l = l.found.items ≡ l.initial.found.items ++ of_each l.k (summed l.path l.rows)

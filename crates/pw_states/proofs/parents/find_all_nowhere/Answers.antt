@@ -1,0 +1,8 @@
+use Rattle.pw_states.specs.Parents.{nowhere}
+use Rattle.pw_findings.proofs.Added.{added_number}
+use Rattle.pw_states.proofs.parents.find_all_nowhere.Goals as goal
+
+pub loop-k-preserved : goal.loop-k-preserved
+loop-k-preserved c =
+    added_number (nowhere c.args.path.now c.args.rows.now) c.loop-k.k c.args.found.now.items c.loop-k.found.items
+    c.find_nowhere.new.found.items c.loop-k.invariant c.in_ok-find_nowhere.ensures

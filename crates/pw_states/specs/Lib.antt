@@ -1,0 +1,4 @@
+pub mod Idle
+pub mod CStates
+pub mod Parents
+pub mod Cpcs
