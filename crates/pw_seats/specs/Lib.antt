@@ -1,2 +1,3 @@
 pub mod Seats
 pub mod DeskSeats
+pub mod Steppers

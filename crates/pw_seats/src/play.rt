@@ -83,7 +83,7 @@ fn call<R: Threads + Wait + Sync, K: Keeps + Sync>(
 }
 
 /// The request behind the first two words of a line.
-fn request_behind(line: &str) -> Option<pw_plan::Request> {
+pub(crate) fn request_behind(line: &str) -> Option<pw_plan::Request> {
     let (_, rest) = line.split_once(" ")?;
     let (_, request) = rest.split_once(" ")?;
     request_of(request)
