@@ -18,7 +18,7 @@ use Rattle.aml_block.specs.Written.{IsWritableBlock}
 use Rattle.acpi_space.specs.Lookup.{no_entry}
 use Rattle.acpi_space.specs.Namespace.{Entry, block_turn, entries_in, entries_of, width_among}
 use Rattle.acpi_space.specs.Places.{Place}
-use Rattle.acpi_space.specs.Steps.{Step, Sized, in_order, method_steps, passes, steps_in, steps_of}
+use Rattle.acpi_space.specs.Steps.{Step, Sized, in_order, method_steps, never_runs, passes, steps_in, steps_of}
 use Rattle.acpi_space.specs.inner.Naming.{named_by}
 use Rattle.acpi_space.proofs.TermSteps.{steps-layer}
 use Rattle.acpi_build.specs.Tables.{AreCountable, IsCountableThing}
@@ -41,9 +41,11 @@ method_counted : (width : Width) (scope : Place) (path : Option Path) → Counte
 method_counted width scope None = All-nil IsCountableStep
 method_counted width scope (Some path) = All-cons IsCountableStep _ [] tt (All-nil IsCountableStep)
 
-unread_counted : (width : Width) (scope : Place) (b : Bool) (opcode : ℕ) (path : Option Path) → Counted (cond b (method_steps width scope path) (passes scope opcode ∷ []))
-unread_counted width scope true opcode path = method_counted width scope path
-unread_counted width scope false opcode path = All-cons IsCountableStep _ [] tt (All-nil IsCountableStep)
+unread_counted : (width : Width) (scope : Place) (is_method is_never_run : Bool) (opcode : ℕ) (path : Option Path)
+    → Counted (cond is_method (method_steps width scope path) (cond is_never_run [] (passes scope opcode ∷ [])))
+unread_counted width scope true never opcode path = method_counted width scope path
+unread_counted width scope false true opcode path = All-nil IsCountableStep
+unread_counted width scope false false opcode path = All-cons IsCountableStep _ [] tt (All-nil IsCountableStep)
 
 layer_counted : (width : Width) (depth : ℕ) (t : Term) (l : Term-F Term) → out-Term t ≡ l → IsWritableLayer (AreWritable depth) l → Inside width depth → (scope : Place) (before : List Step)
     → Counted (steps_of width t scope before)
@@ -56,7 +58,7 @@ layer_counted width depth t (layer.Device path inner) is w inside scope before =
 layer_counted width depth t (layer.Processor path id block len inner) is w inside scope before =
     rw (steps-layer width t (layer.Processor path id block len inner) is) (All-cons IsCountableStep _ _ tt (inside inner w.3 _ _))
 layer_counted width depth t (layer.Unread opcode body) is w inside scope before =
-    rw (steps-layer width t (layer.Unread opcode body) is) (unread_counted width scope (opcode == METHOD_OP) opcode (named_by body))
+    rw (steps-layer width t (layer.Unread opcode body) is) (unread_counted width scope (opcode == METHOD_OP) (never_runs opcode body) opcode (named_by body))
 layer_counted width depth t (layer.Alias source alias) is w inside scope before =
     rw (steps-layer width t (layer.Alias source alias) is) (All-cons IsCountableStep _ [] tt (All-nil IsCountableStep))
 layer_counted width depth t (layer.External path kind args) is w inside scope before = rw (steps-layer width t (layer.External path kind args) is) (All-nil IsCountableStep)

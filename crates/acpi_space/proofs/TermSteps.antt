@@ -1,6 +1,5 @@
 -- What a term does, by its variant.
-use Rattle.std.proofs.Common.{◌≡◌, ℕ, List, [], ◌∷◌, ◌++◌, refl, ap, ◌∙◌, ◌==◌, if◌then◌else◌, ◌≢◌, inl, inr, append_assoc}
-use Rattle.std.proofs.lemmas.Bool.Decides.{eqb_tells}
+use Rattle.std.proofs.Common.{◌≡◌, ℕ, List, [], ◌∷◌, ◌++◌, ap, ◌∙◌, append_assoc}
 use Rattle.aml_data.specs.declared.data.Data.{Data}
 use Rattle.aml_data.specs.declared.data.Width.{Width}
 use Rattle.aml_data.specs.declared.path.Path.{Path}
@@ -10,8 +9,7 @@ use Rattle.aml_block.specs.declared.term.Term.TheVariants.{Name, Scope, Device, 
 use Rattle.aml_block.specs.declared.term.Term.TheViews.{outs-Name, outs-Scope, outs-Device, outs-Processor, outs-Unread, outs-Alias, outs-External, outs-Mutex, outs-Event, outs-Region}
 use Rattle.acpi_space.specs.Things.Thing.{data_object, device, processor, alias_of}
 use Rattle.acpi_space.specs.Places.{Place, place_of, opened}
-use Rattle.acpi_space.specs.inner.Naming.{named_by}
-use Rattle.acpi_space.specs.Steps.{Step, Turn, opens, gives, passes, touched, method_steps, steps_layer, steps_of, steps_in}
+use Rattle.acpi_space.specs.Steps.{Step, Turn, opens, gives, touched, steps_layer, steps_of, steps_in, unread_steps}
 
 pub steps-layer : (width : Width) (t : Term) (l : Term-F Term) → out-Term t ≡ l → steps_of width t ≡ steps_layer width (map-Term Term Turn (steps_of width) l)
 unfolding steps_of
@@ -35,7 +33,7 @@ steps-Processor width path id block len terms scope before =
     ap (λ (t : Turn). t scope before) (steps-layer width (Processor path id block len terms) (layer.Processor path id block len terms) (outs-Processor path id block len terms))
 
 pub steps-Unread : (width : Width) (opcode : ℕ) (body : List ℕ) (scope : Place) (before : List Step) → steps_of width (Unread opcode body) scope before
-    ≡ (if opcode == 20 then method_steps width scope (named_by body) else passes scope opcode ∷ [])
+    ≡ unread_steps width scope opcode body
 steps-Unread width opcode body scope before = ap (λ (t : Turn). t scope before) (steps-layer width (Unread opcode body) (layer.Unread opcode body) (outs-Unread opcode body))
 
 pub steps-Alias : (width : Width) (source alias : Path) (scope : Place) (before : List Step)
@@ -54,17 +52,6 @@ steps-Event width path scope before = ap (λ (t : Turn). t scope before) (steps-
 pub steps-Region : (width : Width) (path : Path) (space offset len : ℕ) (scope : Place) (before : List Step) → steps_of width (Region path space offset len) scope before ≡ []
 steps-Region width path space offset len scope before =
     ap (λ (t : Turn). t scope before) (steps-layer width (Region path space offset len) (layer.Region path space offset len) (outs-Region path space offset len))
-
-pub unread_other : (width : Width) (opcode : ℕ) (body : List ℕ) (scope : Place) (before : List Step) → opcode ≢ 20
-    → steps_of width (Unread opcode body) scope before ≡ passes scope opcode ∷ []
-unread_other width opcode body scope before other = elim (eqb_tells opcode 20) [
-  | inl same ↦ absurd (other same.1)
-  | inr apart ↦ steps-Unread width opcode body scope before ∙ (rw apart.0 refl)
-]
-
-pub unread_method : (width : Width) (opcode : ℕ) (body : List ℕ) (scope : Place) (before : List Step) → opcode ≡ 20
-    → steps_of width (Unread opcode body) scope before ≡ method_steps width scope (named_by body)
-unread_method width opcode body scope before is = steps-Unread width opcode body scope before ∙ (rw is refl)
 
 -- a step, and what is done inside from its place on
 pub inside_step : (width : Width) (step : Step) (terms ts : List Term) (place : Place) (before whole : List Step) → ts ≡ terms → place ≡ step.place

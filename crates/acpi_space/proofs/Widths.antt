@@ -17,7 +17,7 @@ use Rattle.aml_block.specs.declared.term.Term.TheFolds.{fold-roll-Term, ind-Term
 use Rattle.aml_block.specs.Header.{own_width}
 use Rattle.acpi_space.specs.Namespace.{Entry, block_turn, dsdt_width, entries_in, entries_of, width_among}
 use Rattle.acpi_space.specs.Places.{Place}
-use Rattle.acpi_space.specs.Steps.{Sized, Step, Turn, in_order, method_steps, passes, steps_in, steps_layer, steps_of}
+use Rattle.acpi_space.specs.Steps.{Sized, Step, Turn, in_order, method_steps, never_runs, passes, steps_in, steps_layer, steps_of}
 use Rattle.acpi_space.specs.Widths.{AreOfWidthBy, HaveNoDsdt, IsWidthBy}
 use Rattle.acpi_space.specs.inner.Naming.{named_by}
 
@@ -46,10 +46,11 @@ method_gives : (P : Width → Type 0) (width : Width) (scope : Place) (path : Op
 method_gives P width scope None p = none_given P
 method_gives P width scope (Some path) p = All-cons (Gives P) _ [] p (none_given P)
 
-unread_gives : (P : Width → Type 0) (width : Width) (scope : Place) (b : Bool) (opcode : ℕ) (path : Option Path) → P width
-    → AllGive P (cond b (method_steps width scope path) (passes scope opcode ∷ []))
-unread_gives P width scope true opcode path p = method_gives P width scope path p
-unread_gives P width scope false opcode path p = All-cons (Gives P) _ [] tt (none_given P)
+unread_gives : (P : Width → Type 0) (width : Width) (scope : Place) (is_method is_never_run : Bool) (opcode : ℕ) (path : Option Path) → P width
+    → AllGive P (cond is_method (method_steps width scope path) (cond is_never_run [] (passes scope opcode ∷ [])))
+unread_gives P width scope true never opcode path p = method_gives P width scope path p
+unread_gives P width scope false true opcode path p = none_given P
+unread_gives P width scope false false opcode path p = All-cons (Gives P) _ [] tt (none_given P)
 
 layer_gives : (P : Width → Type 0) (width : Width) → P width → (y : Term-F ((t : Term) × TermGives P width t)) (scope : Place) (before : List Step)
     → AllGive P (steps_layer width (map-Term Term Turn (steps_of width) (map-Term ((t : Term) × TermGives P width t) Term (λ e. e.0) y)) scope before)
@@ -57,7 +58,8 @@ layer_gives P width p (layer.Name path value) scope before = All-cons (Gives P) 
 layer_gives P width p (layer.Scope path inner) scope before = All-cons (Gives P) _ _ tt (turns_give P width inner _ _)
 layer_gives P width p (layer.Device path inner) scope before = All-cons (Gives P) _ _ p (turns_give P width inner _ _)
 layer_gives P width p (layer.Processor path id block len inner) scope before = All-cons (Gives P) _ _ p (turns_give P width inner _ _)
-layer_gives P width p (layer.Unread opcode body) scope before = unread_gives P width scope (opcode == METHOD_OP) opcode (named_by body) p
+layer_gives P width p (layer.Unread opcode body) scope before =
+    unread_gives P width scope (opcode == METHOD_OP) (never_runs opcode body) opcode (named_by body) p
 layer_gives P width p (layer.Alias source alias) scope before = All-cons (Gives P) _ [] p (none_given P)
 layer_gives P width p (layer.External path kind args) scope before = none_given P
 layer_gives P width p (layer.Mutex path flags) scope before = none_given P

@@ -1,9 +1,10 @@
 -- What terms do in the namespace, one step after the other: each step opens a place, places an object at it, or passes over a
 -- term that stands in it (ACPI 6.5, 5.3 and 20.2.5).
-use Rattle.std.specs.Prelude.{◌==◌, ℕ, List, [], ◌∷◌, ◌++◌, map, Option, Some, None, if◌then◌else◌}
+use Rattle.std.specs.Prelude.{◌==◌, ◌&&◌, ℕ, Bool, false, List, [], ◌∷◌, ◌++◌, map, Option, Some, None, if◌then◌else◌}
 use Rattle.aml_data.specs.declared.data.Width.{Width}
 use Rattle.aml_data.specs.declared.path.Path.{Path}
-use Rattle.aml_block.specs.declared.opcode.TheConstants.{METHOD_OP}
+use Rattle.aml_data.specs.declared.opcode.TheConstants.{ZERO_OP}
+use Rattle.aml_block.specs.declared.opcode.TheConstants.{IF_OP, METHOD_OP}
 use Rattle.aml_block.specs.declared.term.Term.{Term, Term-F, fold-Term}
 use Rattle.aml_block.specs.declared.term.Term.TheOpen as layer
 use Rattle.acpi_space.specs.Things.{Thing}
@@ -54,17 +55,26 @@ abbrev pub method_steps : Width → Place → Option Path → List Step
 method_steps width scope None = []
 method_steps width scope (Some path) = gives width (place_of scope path) method ∷ []
 
+-- whether what is in a term is never run: in an If whose predicate is `Zero` (20.2.5.3)
+abbrev pub never_runs : ℕ → List ℕ → Bool
+never_runs opcode [] = false
+never_runs opcode (b ∷ rest) = opcode == IF_OP && b == ZERO_OP
+
+-- A term whose body isn't read is passed over, unless it is a method or never run.
+abbrev pub unread_steps : Width → Place → ℕ → List ℕ → List Step
+unread_steps width scope opcode body =
+    if opcode == METHOD_OP then method_steps width scope (named_by body) else
+    if never_runs opcode body then [] else passes scope opcode ∷ []
+
 -- One layer of a term, the terms in which are turns already. Names, devices, processors, methods and aliases are placed,
--- a device or a processor before its content; a Scope opens a place; a term whose body isn't read is passed over; other terms
--- do nothing.
+-- a device or a processor before its content; a Scope opens a place; other terms but those whose body isn't read do nothing.
 abbrev pub steps_layer : Width → Term-F Turn → Turn
 steps_layer width (layer.Name path value) scope before = gives width (place_of scope path) (data_object value) ∷ []
 steps_layer width (layer.Scope path inside) scope before = then_inside (opens (opened (touched before) scope path)) inside before
 steps_layer width (layer.Device path inside) scope before = then_inside (gives width (place_of scope path) device) inside before
 steps_layer width (layer.Processor path id block len inside) scope before = then_inside (gives width (place_of scope path) processor) inside
     before
-steps_layer width (layer.Unread opcode body) scope before =
-    if opcode == METHOD_OP then method_steps width scope (named_by body) else passes scope opcode ∷ []
+steps_layer width (layer.Unread opcode body) scope before = unread_steps width scope opcode body
 steps_layer width (layer.Alias source alias) scope before = gives width (place_of scope alias) (alias_of source) ∷ []
 steps_layer width other scope before = []
 

@@ -21,7 +21,7 @@ pub(crate) struct Passed {
     pub(crate) opcode: u16,
 }
 
-/// A term whose body isn't read, and which is no method.
+/// A term whose body isn't read, and which is neither a method nor an If whose predicate is `Zero`.
 #[derive(Drop)]
 pub struct PassedOver {
     /// The place in which it stands: that of the Scope, the device or the processor around it, or the root.

@@ -5,7 +5,7 @@ ghost use Rattle.aml_data.specs.declared.opcode.TheConstants.{PARENT_PREFIX_CHAR
 ghost use Rattle.aml_data.specs.declared.path.Path.{Path as path_type};
 ghost use Rattle.acpi_space.specs.declared.terms.TheConstants.{LONGEST};
 ghost use Rattle.acpi_space.specs.MethodNames.{IsMethodName};
-ghost use Rattle.acpi_space.specs.Steps.{method_steps, steps_of, steps_in};
+ghost use Rattle.acpi_space.specs.Steps.{method_steps, never_runs, unread_steps, steps_of, steps_in};
 ghost use Rattle.acpi_space.specs.inner.Naming.{named_by, path_of};
 ghost use Rattle.acpi_space.specs.inner.Trees.{IsGrown};
 ghost use Rattle.acpi_space.specs.inner.Standing.{Does};
@@ -14,8 +14,8 @@ use crate::building::Building;
 use crate::fault::SpaceFault;
 use crate::object::Object;
 use aml_block::Term;
-use aml_block::opcode::METHOD_OP;
-use aml_data::opcode::{PARENT_PREFIX_CHAR, ROOT_CHAR};
+use aml_block::opcode::{IF_OP, METHOD_OP};
+use aml_data::opcode::{PARENT_PREFIX_CHAR, ROOT_CHAR, ZERO_OP};
 use aml_data::{DataFault, Seg, Width, name_of};
 use pw_base::{CompactList, Memory};
 use std::alloc::Global;
@@ -133,6 +133,39 @@ fn place_method<'a>(
     }
 }
 
+/// Whether what is in a term of this opcode and body is never run: in an If whose predicate is `Zero`.
+fn never_runs(opcode: u16, body: &[u8]) -> bool
+    ensures { result ≡ never_runs opcode body.now }
+{
+    match body.first() {
+        Some(byte) => opcode == IF_OP && *byte == ZERO_OP,
+        None => false,
+    }
+}
+
+/// Goes through a term whose body isn't read, in a scope.
+fn place_unread<'a>(
+    alloc: Global,
+    building: &mut Building<'a>,
+    opcode: u16,
+    body: &[u8],
+    scope: usize,
+    width: Width,
+) -> Result<(), SpaceFault>
+    requires { scope < length building.old.tree }
+    ensures grown { OnOk result (IsGrown building.old.tree building.new.tree) }
+    ensures done { Does building.old result building.new
+        (λ _. unread_steps width (get_or building.old.tree scope []) opcode body.now) }
+{
+    if opcode == METHOD_OP {
+        return place_method(alloc, building, body, scope, width);
+    }
+    if never_runs(opcode, body) {
+        return Ok(());
+    }
+    building.pass(scope, opcode)
+}
+
 /// Goes through a term in a scope.
 #[cycle(terms)]
 fn place_term<'a>(
@@ -165,10 +198,7 @@ fn place_term<'a>(
             place_terms(alloc, building, terms.as_slice(), at, width)
         }
         Term::Unread { opcode, body } => {
-            if *opcode != METHOD_OP {
-                return building.pass(scope, *opcode);
-            }
-            place_method(alloc, building, body.as_slice(), scope, width)
+            place_unread(alloc, building, *opcode, body.as_slice(), scope, width)
         }
         Term::Alias { source, alias } => {
             building.put(alloc, scope, alias, Object::Alias(source), width)?;

@@ -20,7 +20,7 @@ use Rattle.acpi_values.specs.declared.performance.Cpc.{Cpc}
 use Rattle.acpi_space.specs.Lookup.{entry_in, no_entry, path_in}
 use Rattle.acpi_space.specs.Namespace.{Entry, block_turn, entries_in, entries_of, width_among}
 use Rattle.acpi_space.specs.Places.{Place, found, is_known, is_single, opened, place_of, up}
-use Rattle.acpi_space.specs.Steps.{Step, Sized, in_order, method_steps, passes, steps_in, steps_of, touched}
+use Rattle.acpi_space.specs.Steps.{Step, Sized, in_order, method_steps, never_runs, passes, steps_in, steps_of, touched}
 use Rattle.acpi_space.specs.Things.{Thing}
 use Rattle.acpi_space.specs.Things.Thing.{data_object, device, processor, method, alias_of}
 use Rattle.acpi_space.specs.inner.Naming.{named_by}
@@ -103,9 +103,11 @@ method_placed : (width : Width) (scope : Place) (path : Option Path) → ArePlac
 method_placed width scope None = tt
 method_placed width scope (Some path) = (tt, tt)
 
-unread_placed : (width : Width) (scope : Place) (b : Bool) (opcode : ℕ) (path : Option Path) → ArePlaced (cond b (method_steps width scope path) (passes scope opcode ∷ []))
-unread_placed width scope true opcode path = method_placed width scope path
-unread_placed width scope false opcode path = (tt, tt)
+unread_placed : (width : Width) (scope : Place) (is_method is_never_run : Bool) (opcode : ℕ) (path : Option Path)
+    → ArePlaced (cond is_method (method_steps width scope path) (cond is_never_run [] (passes scope opcode ∷ [])))
+unread_placed width scope true never opcode path = method_placed width scope path
+unread_placed width scope false true opcode path = tt
+unread_placed width scope false false opcode path = (tt, tt)
 
 layer_placed : (width : Width) (depth : ℕ) (t : Term) (l : Term-F Term) → out-Term t ≡ l → IsWritableLayer (AreWritable depth) l → Inside width depth
     → (scope : Place) → OfSegments scope → (before : List Step) → ArePlaced (steps_of width t scope before)
@@ -117,7 +119,7 @@ layer_placed width depth t (layer.Device path inner) is w inside scope a before 
 layer_placed width depth t (layer.Processor path id block len inner) is w inside scope a before =
     rw (steps-layer width t (layer.Processor path id block len inner) is) (led scope path a w.0.segments, inside inner w.3 _ (led scope path a w.0.segments) _)
 layer_placed width depth t (layer.Unread opcode body) is w inside scope a before =
-    rw (steps-layer width t (layer.Unread opcode body) is) (unread_placed width scope (opcode == METHOD_OP) opcode (named_by body))
+    rw (steps-layer width t (layer.Unread opcode body) is) (unread_placed width scope (opcode == METHOD_OP) (never_runs opcode body) opcode (named_by body))
 layer_placed width depth t (layer.Alias source alias) is w inside scope a before = rw (steps-layer width t (layer.Alias source alias) is) (tt, tt)
 layer_placed width depth t (layer.External path kind args) is w inside scope a before = rw (steps-layer width t (layer.External path kind args) is) tt
 layer_placed width depth t (layer.Mutex path flags) is w inside scope a before = rw (steps-layer width t (layer.Mutex path flags) is) tt

@@ -1,4 +1,4 @@
-use Rattle.std.proofs.Common.{◌≡◌, ◌<◌, ◌++◌, ◌∷◌, [], length, take, get_or, sym, ap, subst, ◌∙◌, arith}
+use Rattle.std.proofs.Common.{◌<◌, ◌++◌, ◌∷◌, [], length, take, get_or, sym, ap, subst, ◌∙◌, arith}
 use Rattle.std.proofs.lemmas.Result.{err_from_is_err_and}
 use Rattle.std.proofs.lemmas.List.{append-nil}
 use Rattle.std.specs.Result.{MatchResult}
@@ -9,7 +9,7 @@ use Rattle.acpi_space.specs.Standing.{IsFaultOf}
 use Rattle.acpi_space.specs.inner.Standing.{StandsIn}
 use Rattle.acpi_space.proofs.Known.{more_turns, turn_fault, first_fault, grown_at, grown_on}
 use Rattle.acpi_space.proofs.TermSteps.{steps-Name, steps-Scope, steps-Device, steps-Processor, steps-Alias, steps-External, steps-Mutex, steps-Event, steps-Region}
-use Rattle.acpi_space.proofs.TermSteps.{unread_other, unread_method, inside_step}
+use Rattle.acpi_space.proofs.TermSteps.{steps-Unread, inside_step}
 use Rattle.acpi_space.proofs.terms.+terms.Goals as goal
 
 pub place_term-returns-in_ok-put-in-Name-clause-done : goal.place_term-returns-in_ok-put-in-Name-clause-done
@@ -122,16 +122,10 @@ place_term-returns-in-Region-clause-done t c before stands =
     let scope = get_or c.args.building.now.tree c.args.scope [] in
     rw (c.in-Region.is, steps-Region c.args.width c.in-Region.path c.in-Region.space c.in-Region.offset c.in-Region.length scope before, append-nil before) stands
 
-pub place_term-returns-then-opcode-ne-METHOD_OP-clause-done : goal.place_term-returns-then-opcode-ne-METHOD_OP-clause-done
-place_term-returns-then-opcode-ne-METHOD_OP-clause-done t c before stands =
+pub place_term-returns-in-Unread-clause-done : goal.place_term-returns-in-Unread-clause-done
+place_term-returns-in-Unread-clause-done t c before stands =
     let scope = get_or c.args.building.now.tree c.args.scope [] in
-    rw (c.in-Unread.is, unread_other c.args.width c.in-Unread.opcode c.in-Unread.body scope before c.if-opcode-ne-METHOD_OP.true) (c.pass.ensures.done before stands)
-
-pub place_term-returns-else-opcode-ne-METHOD_OP-clause-done : goal.place_term-returns-else-opcode-ne-METHOD_OP-clause-done
-place_term-returns-else-opcode-ne-METHOD_OP-clause-done t c before stands =
-    let scope = get_or c.args.building.now.tree c.args.scope [] in
-    let method : c.in-Unread.opcode ≡ 20 = (let f = c.if-opcode-ne-METHOD_OP.false in omega arith) in
-    rw (c.in-Unread.is, unread_method c.args.width c.in-Unread.opcode c.in-Unread.body scope before method, ← c.as_slice-in-Unread.ensures) (c.place_method.ensures.done before stands)
+    rw (c.in-Unread.is, steps-Unread c.args.width c.in-Unread.opcode c.in-Unread.body scope before, ← c.as_slice-in-Unread.ensures) (c.place_unread.ensures.done before stands)
 
 pub place_terms-returns-in_err-place_term-clause-done : goal.place_terms-returns-in_err-place_term-clause-done
 place_terms-returns-in_err-place_term-clause-done t c before stands =

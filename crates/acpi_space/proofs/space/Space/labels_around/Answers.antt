@@ -1,5 +1,3 @@
-use Rattle.std.proofs.Common.{Result, Ok, Err}
-use Rattle.std.specs.Prelude.{IfOk}
 use Rattle.acpi_space.proofs.Lookups.{objects_answer}
 use Rattle.pw_base.proofs.Facts.{if_ok}
 use Rattle.acpi_space.proofs.space.Space.labels_around.Goals as goal
