@@ -1,3 +1,4 @@
+pub mod Adding
 pub mod Walked
 pub mod Levels
 pub mod Driving

@@ -1,4 +1,4 @@
-ghost use Rattle.std.specs.Prelude.{◌≡◌, IfOk, false};
+ghost use Rattle.std.specs.Prelude.{◌≡◌, IfOk, IsOkAnd, false};
 ghost use Rattle.clap.specs.Words.{app_of, rule_of, with_subcommand};
 ghost use Rattle.clap.specs.declared.builder.command.Command.TheViews.{out-Command as fields_of};
 ghost use Rattle.pw_words.specs.App.{audit_app, bare_app, blocks_app, blocks_rule, cppc_app};
@@ -34,22 +34,24 @@ fn blocks<'a>(alloc: Global) -> Arg<'a>
 
 /// `NAME BLOCK..`.
 fn on_blocks<'a>(alloc: Global, name: &'a str) -> Result<Command<'a>, AllocError>
-    ensures { IfOk result (λ c. (app_of c ≡ blocks_app name.now)
-        × ((fields_of c).has_globals ≡ false)) }
+    ensures app { IfOk result (λ c. app_of c ≡ blocks_app name.now) }
+    ensures local { IfOk result (λ c. (fields_of c).has_globals ≡ false) }
 {
     Command::new(alloc, name).arg(blocks(alloc))
 }
 
 /// `show [--json] BLOCK..`.
 fn show<'a>(alloc: Global) -> Result<Command<'a>, AllocError>
-    ensures { IfOk result (λ c. (app_of c ≡ show_app) × ((fields_of c).has_globals ≡ false)) }
+    ensures app { IfOk result (λ c. app_of c ≡ show_app) }
+    ensures local { IfOk result (λ c. (fields_of c).has_globals ≡ false) }
 {
     on_blocks(alloc, "show")?.arg(flag(alloc, "json"))
 }
 
 /// `drive [--serial] [--step]`, with no names yet.
 fn drive_flags<'a>(alloc: Global) -> Result<Command<'a>, AllocError>
-    ensures { IfOk result (λ c. (app_of c ≡ way_app) × ((fields_of c).has_globals ≡ false)) }
+    ensures app { IfOk result (λ c. app_of c ≡ way_app) }
+    ensures local { IfOk result (λ c. (fields_of c).has_globals ≡ false) }
 {
     Command::new(alloc, "drive")
         .arg(flag(alloc, "serial"))?
@@ -58,7 +60,8 @@ fn drive_flags<'a>(alloc: Global) -> Result<Command<'a>, AllocError>
 
 /// `drive [--serial] [--step] SCRIPT BLOCK..`.
 fn drive<'a>(alloc: Global) -> Result<Command<'a>, AllocError>
-    ensures { IfOk result (λ c. (app_of c ≡ drive_app) × ((fields_of c).has_globals ≡ false)) }
+    ensures app { IfOk result (λ c. app_of c ≡ drive_app) }
+    ensures local { IfOk result (λ c. (fields_of c).has_globals ≡ false) }
 {
     drive_flags(alloc)?
         .arg(word(alloc, "script"))?
@@ -67,7 +70,8 @@ fn drive<'a>(alloc: Global) -> Result<Command<'a>, AllocError>
 
 /// `audit [--step] SCRIPT`, with no further names yet.
 fn audit_script<'a>(alloc: Global) -> Result<Command<'a>, AllocError>
-    ensures { IfOk result (λ c. (app_of c ≡ step_app) × ((fields_of c).has_globals ≡ false)) }
+    ensures app { IfOk result (λ c. app_of c ≡ step_app) }
+    ensures local { IfOk result (λ c. (fields_of c).has_globals ≡ false) }
 {
     Command::new(alloc, "audit")
         .arg(flag(alloc, "step"))?
@@ -76,7 +80,8 @@ fn audit_script<'a>(alloc: Global) -> Result<Command<'a>, AllocError>
 
 /// `audit [--step] SCRIPT HISTORY BLOCK..`.
 fn audit<'a>(alloc: Global) -> Result<Command<'a>, AllocError>
-    ensures { IfOk result (λ c. (app_of c ≡ audit_app) × ((fields_of c).has_globals ≡ false)) }
+    ensures app { IfOk result (λ c. app_of c ≡ audit_app) }
+    ensures local { IfOk result (λ c. (fields_of c).has_globals ≡ false) }
 {
     let command = audit_script(alloc)?.arg(word(alloc, "history"))?;
     command.arg(blocks(alloc))
@@ -84,14 +89,16 @@ fn audit<'a>(alloc: Global) -> Result<Command<'a>, AllocError>
 
 /// `cppc [--serial]`, with no names yet.
 fn cppc_flag<'a>(alloc: Global) -> Result<Command<'a>, AllocError>
-    ensures { IfOk result (λ c. (app_of c ≡ serial_app) × ((fields_of c).has_globals ≡ false)) }
+    ensures app { IfOk result (λ c. app_of c ≡ serial_app) }
+    ensures local { IfOk result (λ c. (fields_of c).has_globals ≡ false) }
 {
     Command::new(alloc, "cppc").arg(flag(alloc, "serial"))
 }
 
 /// `cppc [--serial] SCRIPT BLOCK..`.
 fn cppc<'a>(alloc: Global) -> Result<Command<'a>, AllocError>
-    ensures { IfOk result (λ c. (app_of c ≡ cppc_app) × ((fields_of c).has_globals ≡ false)) }
+    ensures app { IfOk result (λ c. app_of c ≡ cppc_app) }
+    ensures local { IfOk result (λ c. (fields_of c).has_globals ≡ false) }
 {
     let command = cppc_flag(alloc)?.arg(word(alloc, "script"))?;
     command.arg(blocks(alloc))
@@ -99,8 +106,8 @@ fn cppc<'a>(alloc: Global) -> Result<Command<'a>, AllocError>
 
 /// `generate N`.
 fn generate<'a>(alloc: Global) -> Result<Command<'a>, AllocError>
-    ensures { IfOk result (λ c. (app_of c ≡ generate_app)
-        × ((fields_of c).has_globals ≡ false)) }
+    ensures app { IfOk result (λ c. app_of c ≡ generate_app) }
+    ensures local { IfOk result (λ c. (fields_of c).has_globals ≡ false) }
 {
     Command::new(alloc, "generate").arg(word(alloc, "count"))
 }
@@ -118,33 +125,39 @@ fn bare<'a>(alloc: Global) -> Command<'a>
         .subcommand_required(true)
 }
 
-/// The command with one more subcommand.
-fn with<'a>(command: Command<'a>, sub: Command<'a>) -> Result<Command<'a>, AllocError>
+/// The command with one more subcommand, where that was made.
+fn with<'a>(
+    command: Command<'a>,
+    sub: Result<Command<'a>, AllocError>,
+) -> Result<Command<'a>, AllocError>
     requires above { (fields_of command).has_globals ≡ false }
-    requires below { (fields_of sub).has_globals ≡ false }
-    ensures { IfOk result (λ c.
-        (app_of c ≡ with_subcommand (app_of command.entry) (app_of sub.entry).top)
-        × ((fields_of c).has_globals ≡ false)) }
+    requires below { IfOk sub (λ s. (fields_of s).has_globals ≡ false) }
+    ensures app { IfOk result (λ c. IsOkAnd sub.entry
+        (λ s. app_of c ≡ with_subcommand (app_of command.entry) (app_of s).top)) }
+    ensures local { IfOk result (λ c. (fields_of c).has_globals ≡ false) }
 {
+    let sub = sub?;
     command.subcommand(sub)
 }
 
 /// The command with those that run nothing.
 fn reading<'a>(alloc: Global) -> Result<Command<'a>, AllocError>
-    ensures { IfOk result (λ c. (app_of c ≡ reading_app) × ((fields_of c).has_globals ≡ false)) }
+    ensures app { IfOk result (λ c. app_of c ≡ reading_app) }
+    ensures local { IfOk result (λ c. (fields_of c).has_globals ≡ false) }
 {
-    let command = with(bare(alloc), show(alloc)?)?;
-    let command = with(command, on_blocks(alloc, "rewrite")?)?;
-    let command = with(command, on_blocks(alloc, "check")?)?;
-    with(command, on_blocks(alloc, "lint")?)
+    let command = with(bare(alloc), show(alloc))?;
+    let command = with(command, on_blocks(alloc, "rewrite"))?;
+    let command = with(command, on_blocks(alloc, "check"))?;
+    with(command, on_blocks(alloc, "lint"))
 }
 
 /// The command by which the words are read.
 pub(crate) fn line<'a>(alloc: Global) -> Result<Command<'a>, AllocError>
     ensures { IfOk result (λ c. app_of c ≡ line_app) }
 {
-    let command = with(reading(alloc)?, drive(alloc)?)?;
-    let command = with(command, audit(alloc)?)?;
-    let command = with(command, cppc(alloc)?)?;
-    with(command, generate(alloc)?)
+    let command = reading(alloc)?;
+    let command = with(command, drive(alloc))?;
+    let command = with(command, audit(alloc))?;
+    let command = with(command, cppc(alloc))?;
+    with(command, generate(alloc))
 }

@@ -1,14 +1,10 @@
-use Rattle.std.proofs.Common.{◌∙◌, ap₂}
 use Rattle.std.proofs.lemmas.Result.{IfOk-weaker}
-use Rattle.clap.specs.Words.{App, with_subcommand}
+use Rattle.pw_words.proofs.Adding.{added}
 use Rattle.pw_words.proofs.app.reading.Goals as goal
 
-abbrev with : App → App → App
-with a b = with_subcommand a b.top
-
-pub returns : goal.returns
-returns c =
-    let one = c.in_ok-command.ensures.0 ∙ ap₂ with c.bare.ensures.app c.in_ok-show.ensures.0 in
-    let two = c.in_ok-command-2.ensures.0 ∙ ap₂ with one c.in_ok-on_blocks.ensures.0 in
-    let three = c.in_ok-command-3.ensures.0 ∙ ap₂ with two c.in_ok-on_blocks-2.ensures.0 in
-    IfOk-weaker c.with-4.result _ _ (λ x h. (h.0 ∙ ap₂ with three c.in_ok-on_blocks-3.ensures.0, h.1)) c.with-4.ensures
+pub returns-clause-app : goal.returns-clause-app
+returns-clause-app c =
+    let one = added _ c.show.result c.show.ensures.app c.in_ok-command.ensures.app c.bare.ensures.app in
+    let two = added _ c.on_blocks.result c.on_blocks.ensures.app c.in_ok-command-2.ensures.app one in
+    let three = added _ c.on_blocks-2.result c.on_blocks-2.ensures.app c.in_ok-command-3.ensures.app two in
+    IfOk-weaker c.with-4.result _ _ (λ x more. added _ c.on_blocks-3.result c.on_blocks-3.ensures.app more three) c.with-4.ensures.app
