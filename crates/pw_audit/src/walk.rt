@@ -1,8 +1,9 @@
 //! The walk over a text, line by line, with the state of the plan at each line.
-ghost use Rattle.std.specs.Prelude.{◌≡◌, ◌<◌, ◌≤◌, ◌^◌, None, length, IfErr, IfOk};
+ghost use Rattle.std.specs.Prelude.{◌≡◌, ◌<◌, ◌≤◌, ◌^◌, [], None, length, IfErr, IfOk, OnOk};
 ghost use Rattle.std.specs.List.{AllByRecursion};
 ghost use Rattle.pw_model.specs.declared.entry.HistoryEntry.{HistoryEntry as entry};
 ghost use Rattle.pw_model.specs.States.{IsState, opening};
+ghost use Rattle.pw_model.specs.Operations.{opening_ops};
 ghost use Rattle.pw_script.specs.Asking.{IsNarrowRequest};
 ghost use Rattle.pw_script.specs.Lawful.{Lawful};
 ghost use Rattle.pw_script.specs.Reading.{requests_of};
@@ -52,6 +53,61 @@ fn lines_known(lines: &[Line])
     }
 }
 
+/// Walks over the entries of a text behind its opening, which has so many lines, and puts them into a list.
+fn walk(
+    form: Form,
+    alloc: Global,
+    line: &mut Vec<u8>,
+    names: &Names,
+    index: &HashMap<Vec<u8>, u32>,
+    state: &mut State,
+    ops: &mut Ops,
+    lines: &[Line],
+    text: &[u8],
+    before: u32,
+    behind: &[u8],
+    entries: &mut Vec<HistoryEntry>,
+) -> Result<(), AuditFault>
+    requires segments { HasSegments names.now }
+    requires index { LeadsTo 0 (paths_of names.now) index.now }
+    requires start { state.old ≡ opening names.now }
+    requires fits { IsState names.now state.old }
+    requires room { 256 ≤ ops.old.capacity }
+    requires narrow { AllByRecursion IsNarrowRequest (requests_of lines.now) }
+    requires opened { OpeningRead form names.now None text.now before behind.now }
+    requires short { length text.now < 2 ^ 31 }
+    requires none { entries.old.items ≡ [] }
+    ensures lawful { OnOk result
+        (Lawful names.now (known names.now (requests_of lines.now)) None entries.new.items) }
+    ensures tells { OnOk result (TextTells form names.now None entries.new.items text.now) }
+    ensures seats { OnOk result (AllByRecursion (λ (e : entry). e.seat ≡ 0) entries.new.items) }
+    ensures refuses { IfErr result
+        (Refuses form names.now (known names.now (requests_of lines.now)) text.now) }
+{
+    let mut asked = asked_by(alloc, names.plan().cpus.as_slice().len(), lines)?;
+    let mut passed = before;
+    let mut left = behind;
+    while !left.is_empty() {
+        let number = entries.len() as u64 + 1;
+        let (entry, next, rest) = read_entry(
+            form, alloc, line, names, index, &mut asked, state, ops, number, passed, left,
+        )?;
+        entries.push(entry)?;
+        if entry.fault != 0 {
+            if !rest.is_empty() {
+                return Err(AuditFault::Wrong { line: next + 1 });
+            }
+            return Ok(());
+        }
+        passed = next;
+        left = rest;
+    }
+    if !asked.is_empty() {
+        return Err(AuditFault::Unfinished { lines: passed });
+    }
+    Ok(())
+}
+
 /// The entries of a text behind its opening, which has so many lines.
 fn read_entries(
     form: Form,
@@ -76,32 +132,59 @@ fn read_entries(
     ensures refuses { IfErr result
         (Refuses form names.now (known names.now (requests_of lines.now)) text.now) }
 {
-    let plan = names.plan();
     let index = index_of(alloc, names)?;
-    let mut asked = asked_by(alloc, plan.cpus.as_slice().len(), lines)?;
-    let mut state = State::open(alloc, plan)?;
+    let mut state = State::open(alloc, names.plan())?;
     let mut entries = Vec::new(alloc);
-    let mut passed = before;
-    let mut left = behind;
-    while !left.is_empty() {
-        let number = entries.len() as u64 + 1;
-        let (entry, next, rest) = read_entry(
-            form, alloc, line, names, &index, &mut asked, &mut state, ops, number, passed, left,
-        )?;
-        entries.push(entry)?;
-        if entry.fault != 0 {
-            if !rest.is_empty() {
-                return Err(AuditFault::Wrong { line: next + 1 });
-            }
-            return Ok(entries);
-        }
-        passed = next;
-        left = rest;
-    }
-    if !asked.is_empty() {
-        return Err(AuditFault::Unfinished { lines: passed });
-    }
+    walk(
+        form,
+        alloc,
+        line,
+        names,
+        &index,
+        &mut state,
+        ops,
+        lines,
+        text,
+        before,
+        behind,
+        &mut entries,
+    )?;
     Ok(entries)
+}
+
+/// What a text shows, if it is whole. The operations of the opening are listed.
+fn read_parts(
+    form: Form,
+    alloc: Global,
+    line: &mut Vec<u8>,
+    names: &Names,
+    ops: &mut Ops,
+    lines: &[Line],
+    text: &[u8],
+) -> Result<Audit, AuditFault>
+    requires segments { HasSegments names.now }
+    requires narrow { AllByRecursion IsNarrowRequest (requests_of lines.now) }
+    requires listed { ops.old.elements ≡ opening_ops names.now }
+    requires room { 256 ≤ ops.old.capacity }
+    requires short { IsShort text.now }
+    ensures shown { IfOk result (λ a. ShowsAs form names.now (requests_of lines.now) text.now a) }
+    ensures refuses { IfErr result (Refuses form names.now (requests_of lines.now) text.now) }
+{
+    let (opening, before, left) = read_opening(form, line, names, ops.list(), text)?;
+    if let Some(_) = opening {
+        if !left.is_empty() {
+            return Err(AuditFault::Wrong { line: before + 1 });
+        }
+        return Ok(Audit {
+            opening,
+            entries: List::from_vec(Vec::new(alloc)),
+        });
+    }
+    let entries = read_entries(form, alloc, line, names, ops, lines, text, before, left)?;
+    Ok(Audit {
+        opening,
+        entries: List::from_vec(entries),
+    })
 }
 
 /// What a text shows, if it is whole.
@@ -119,24 +202,8 @@ pub(crate) fn read_text(
     plans_have_segments(plan);
     lines_known(lines);
     let names = Names::new(alloc, plan)?;
-    let mut line = Vec::new(alloc);
     let mut ops = Ops::new(alloc, plan.opening_bound().max(MOST_OF_A_REQUEST))?;
     open_all(plan, &mut ops);
-    let (opening, before, left) = read_opening(form, &mut line, &names, ops.list(), text)?;
-    if let Some(_) = opening {
-        if !left.is_empty() {
-            return Err(AuditFault::Wrong { line: before + 1 });
-        }
-        return Ok(Audit {
-            opening,
-            entries: List::from_vec(Vec::new(alloc)),
-        });
-    }
-    let entries = read_entries(
-        form, alloc, &mut line, &names, &mut ops, lines, text, before, left,
-    )?;
-    Ok(Audit {
-        opening,
-        entries: List::from_vec(entries),
-    })
+    let mut line = Vec::new(alloc);
+    read_parts(form, alloc, &mut line, &names, &mut ops, lines, text)
 }
