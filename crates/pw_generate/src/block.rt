@@ -1,11 +1,14 @@
-ghost use Rattle.std.specs.Prelude.{◌≡◌, ◌≤◌, ◌<◌, ◌∷◌, [], ◌++◌, map, IfOk, OnOk};
+ghost use Rattle.std.specs.Prelude.{◌≡◌, ◌≤◌, ◌<◌, ◌∷◌, [], ◌++◌, codes, length, map, IfOk, OnOk};
 ghost use Rattle.std.specs.List.{range_with_len};
 ghost use Rattle.aml_data.specs.declared.data.Data.TheVariants.{Text as string};
 ghost use Rattle.aml_data.specs.Segment.{IsSegment};
 ghost use Rattle.aml_block.specs.declared.term.Term.TheVariants.{Device as device};
 ghost use Rattle.aml_block.specs.Written.{IsWritableBlock};
+ghost use Rattle.acpi_idle.specs.Written.{lpi_object};
+ghost use Rattle.acpi_perf.specs.Written.{control_object, domain_object, pss_object};
 ghost use Rattle.pw_generate.specs.Machines.{container_objects, container_term, cpu_objects, cpu_term};
 ghost use Rattle.pw_generate.specs.Machines.{from_here, from_root, machine_block, named};
+ghost use Rattle.pw_generate.specs.Tables.{cpu_control, cpu_domain, cpu_perf};
 
 use crate::names::{container_seg, cpu_seg};
 use crate::tables::{
@@ -14,6 +17,7 @@ use crate::tables::{
 };
 use acpi_idle::write_lpi;
 use acpi_perf::{write_control, write_dependency, write_pss};
+use acpi_values::Lpi;
 use aml_block::{Block, Term};
 use aml_data::{Data, Path, Seg};
 use pw_base::{CompactList, Memory};
@@ -69,20 +73,43 @@ fn push_named(alloc: Global, terms: &mut Vec<Term>, seg: [u8; 4], value: Data) -
     Ok(())
 }
 
+/// Appends what a device of power management is, by its `_HID`, and its idle states.
+fn push_idle(alloc: Global, terms: &mut Vec<Term>, kind: &[u8], idle: &Lpi) -> Result<(), Memory>
+    requires { length idle.now.states ≤ 250 }
+    ensures { OnOk result (terms.new.items ≡ terms.old.items ++ named (codes "_HID") (string kind.now)
+        ∷ named (codes "_LPI") (lpi_object idle.now) ∷ []) }
+{
+    push_named(alloc, terms, *b"_HID", text_of(alloc, kind)?)?;
+    push_named(alloc, terms, *b"_LPI", write_lpi(alloc, idle)?)
+}
+
+/// Appends the performance states of a processor of this container.
+#[tactic(auto, unfolding(crate::specs::Tables::cpu_perf))]
+fn push_perf(alloc: Global, terms: &mut Vec<Term>, container: u32) -> Result<(), Memory>
+    ensures { OnOk result (terms.new.items ≡ terms.old.items ++ named (codes "_PSS") (pss_object cpu_perf)
+        ∷ named (codes "_PCT") (control_object cpu_control)
+        ∷ named (codes "_PSD") (domain_object (cpu_domain container)) ∷ []) }
+{
+    push_named(alloc, terms, *b"_PSS", write_pss(alloc, &p_states())?)?;
+    push_named(
+        alloc,
+        terms,
+        *b"_PCT",
+        write_control(alloc, &control_pair())?,
+    )?;
+    let domain = write_dependency(alloc, &dependency(container))?;
+    push_named(alloc, terms, *b"_PSD", domain)
+}
+
 /// The objects of a processor of this container.
-#[tactic(auto, unfolding(crate::specs::Tables::cpu_idle, crate::specs::Tables::cpu_perf))]
+#[tactic(auto, unfolding(crate::specs::Tables::cpu_idle))]
 fn tables_of_cpu(alloc: Global, container: u32) -> Result<Vec<Term>, Memory>
     ensures { IfOk result (λ terms. terms.items ≡ cpu_objects container) }
 {
-    let mut terms = Vec::new(alloc);
-    push_named(alloc, &mut terms, *b"_HID", text_of(alloc, b"ACPI0007")?)?;
     let idle = cpu_lpi(alloc)?;
-    push_named(alloc, &mut terms, *b"_LPI", write_lpi(alloc, &idle)?)?;
-    push_named(alloc, &mut terms, *b"_PSS", write_pss(alloc, &p_states())?)?;
-    let control = write_control(alloc, &control_pair())?;
-    push_named(alloc, &mut terms, *b"_PCT", control)?;
-    let domain = write_dependency(alloc, &dependency(container))?;
-    push_named(alloc, &mut terms, *b"_PSD", domain)?;
+    let mut terms = Vec::new(alloc);
+    push_idle(alloc, &mut terms, b"ACPI0007", &idle)?;
+    push_perf(alloc, &mut terms, container)?;
     Ok(terms)
 }
 
@@ -91,10 +118,9 @@ fn tables_of_cpu(alloc: Global, container: u32) -> Result<Vec<Term>, Memory>
 fn tables_of_container(alloc: Global) -> Result<Vec<Term>, Memory>
     ensures { IfOk result (λ terms. terms.items ≡ container_objects) }
 {
-    let mut terms = Vec::new(alloc);
-    push_named(alloc, &mut terms, *b"_HID", text_of(alloc, b"ACPI0010")?)?;
     let idle = container_lpi(alloc)?;
-    push_named(alloc, &mut terms, *b"_LPI", write_lpi(alloc, &idle)?)?;
+    let mut terms = Vec::new(alloc);
+    push_idle(alloc, &mut terms, b"ACPI0010", &idle)?;
     Ok(terms)
 }
 

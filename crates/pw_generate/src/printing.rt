@@ -1,17 +1,17 @@
 ghost use Rattle.std.specs.Prelude.{◌≡◌, ◌++◌, ◌∷◌, [], decimal, is_ok, length, true};
-ghost use Rattle.std.specs.Prelude.{Err, OnOk};
+ghost use Rattle.std.specs.Prelude.{Err, IfOk, OnOk};
 ghost use Rattle.pw_base.specs.Outside.{GrewByPart, KeepsSink, Rose};
 ghost use Rattle.pw_text.specs.Lines.{text_of};
 ghost use Rattle.pw_text.specs.Puts.{PutsText};
 ghost use Rattle.pw_text.specs.declared.fault.PrintFault.TheVariants as faults;
-ghost use Rattle.pw_model.specs.States.{IsState};
+ghost use Rattle.pw_model.specs.States.{IsState, opening};
 ghost use Rattle.pw_model.specs.History.{Faultless, Legal, replay, replies};
 ghost use Rattle.pw_generate.specs.Summary.{summary_text};
 ghost use Rattle.pw_generate.specs.inner.Counting.{counted, none, reply_lines, size_lines};
 
 use crate::counts::{Counts, count_replies};
 use crate::ends::put_ends;
-use pw_base::{Failed, Sink};
+use pw_base::{Failed, Memory, Sink};
 use pw_core::State;
 use pw_model::{HistoryEntry, State as Lists};
 use pw_plan::Plan;
@@ -81,6 +81,25 @@ fn put_summary<K: Sink>(
     page.flush(sink)
 }
 
+/// What a summary takes memory for.
+#[derive(Drop)]
+struct Held {
+    page: Page,
+    state: State,
+}
+
+/// Takes it: the page is empty, and the state is that of the opening.
+fn hold(alloc: Global, plan: &Plan) -> Result<Held, Memory>
+    ensures page { IfOk result (λ h. h.page ≡ []) }
+    ensures opened { IfOk result (λ h. h.state ≡ opening plan.now) }
+    ensures fits { IfOk result (λ h. IsState plan.now h.state) }
+{
+    Ok(Held {
+        page: Page::new(alloc)?,
+        state: State::open(alloc, plan)?,
+    })
+}
+
 /// Prints the summary of a history: how many processors and lines there are, how many requests were answered
 /// in which way, the state of each container at the end, and where each performance domain stands. Memory is
 /// taken before the sink sees a byte.
@@ -102,8 +121,10 @@ pub fn print_summary<K: Sink>(
     ensures sink { result ≡ Err faults.Sink → Rose (K.faults out.old) (K.faults out.new) }
     ensures memory { result ≡ Err faults.Memory → out.new ≡ out.old }
 {
-    let mut page = Page::new(alloc)?;
-    let mut state = State::open(alloc, plan)?;
+    let Held {
+        mut page,
+        mut state,
+    } = hold(alloc, plan)?;
     let counts = count_replies(plan, &mut state, entries);
     put_summary(&mut page, out, plan, entries, &counts, state.lists())?;
     Ok(())
