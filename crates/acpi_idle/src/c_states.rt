@@ -4,7 +4,8 @@ ghost use Rattle.acpi_fields.specs.Reading.{Gives};
 ghost use Rattle.acpi_idle.specs.CStates.{csd_of, csd_row, cst_of, cst_row, kind_in};
 
 use acpi_fields::{
-    count_at, dependency_of, elements_at, fields_of, number_of, register_at, u32_of, whole_of,
+    count_at, dependency_of, elements_at, fields_of, number_of, register_at, rows_from, u32_of,
+    whole_of,
 };
 use acpi_values::{CDependency, CState, Place, ReadFault, Shape, Why};
 use aml_data::{Data, Width};
@@ -51,13 +52,10 @@ pub fn read_cst(alloc: Global, object: &Data, width: Width) -> Result<Vec<CState
     let elements = whole_of(object, 1)?;
     let (first, rest) = elements.split_at(1);
     let _count = count_at(&first[0], width, 1, rest.len())?;
-    let mut states = Vec::new(alloc);
-    let mut outer = 1;
-    for element in rest {
-        outer += 1;
-        states.push(cst_state(element, width, outer)?)?;
-    }
-    Ok(states)
+    let read = |element: &Data, outer: u32| -> Result<CState, ReadFault>
+        ensures { Gives (λ state. state) result (cst_row width outer element.now) }
+    { Ok(cst_state(element, width, outer)?) };
+    rows_from(alloc, rest, 1, read)
 }
 
 /// A dependency of a C state: element `outer` of `_CSD`.
@@ -82,11 +80,8 @@ pub fn read_csd(alloc: Global, object: &Data, width: Width) -> Result<Vec<CDepen
     ensures { Gives (λ entries. entries.items) result (csd_of width object.now) }
 {
     let elements = elements_at(object, Place { outer: 0, inner: 0 })?;
-    let mut entries = Vec::new(alloc);
-    let mut outer = 0;
-    for element in elements {
-        outer += 1;
-        entries.push(csd_entry(element, width, outer)?)?;
-    }
-    Ok(entries)
+    let read = |element: &Data, outer: u32| -> Result<CDependency, ReadFault>
+        ensures { Gives (λ entry. entry) result (csd_row width outer element.now) }
+    { Ok(csd_entry(element, width, outer)?) };
+    rows_from(alloc, elements, 0, read)
 }

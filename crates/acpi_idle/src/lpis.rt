@@ -3,7 +3,9 @@ ghost use Rattle.aml_data.specs.Countable.{IsCountable};
 ghost use Rattle.acpi_fields.specs.Reading.{Gives};
 ghost use Rattle.acpi_idle.specs.Lpis.{counter_at, entry_at, lpi_of, lpi_row, revision_at};
 
-use acpi_fields::{count_at, fields_of, integer_at, register_at, text_at, u32_of, whole_of};
+use acpi_fields::{
+    count_at, fields_of, integer_at, register_at, rows_from, text_at, u32_of, whole_of,
+};
 use acpi_values::{EntryMethod, Lpi, LpiState, Place, ReadFault, Register, Shape, Why};
 use aml_data::{Data, Width, integer};
 use pw_base::List;
@@ -98,12 +100,8 @@ pub fn read_lpi(alloc: Global, object: &Data, width: Width) -> Result<Lpi, ReadF
     let _revision = revision_of(&front[0], width)?;
     let level = integer_at(&front[1], width, u64::MAX, Place { outer: 2, inner: 0 })?;
     let _count = count_at(&front[2], width, 3, rest.len())?;
-    let mut states = Vec::new(alloc);
-    let mut outer = 3;
-    for element in rest {
-        outer += 1;
-        states.push(lpi_state(alloc, element, width, outer)?)?;
-    }
+    let read = |element: &Data, outer: u32| lpi_state(alloc, element, width, outer);
+    let states = rows_from(alloc, rest, 3, read)?;
     Ok(Lpi {
         level,
         states: List::from_vec(states),

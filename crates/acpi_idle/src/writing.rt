@@ -1,9 +1,10 @@
 ghost use Rattle.std.specs.Prelude.{◌≡◌, ◌≤◌, length, IfOk};
 ghost use Rattle.aml_data.specs.declared.data.Data.TheVariants.{Text as string};
+ghost use Rattle.acpi_fields.specs.Writing.{register_object};
 ghost use Rattle.acpi_idle.specs.Written.{csd_object, csd_row_object, cst_object, cst_row_object};
 ghost use Rattle.acpi_idle.specs.Written.{entry_object, lpi_object, lpi_row_object};
 
-use acpi_fields::{coord_number, package_object, register_object};
+use acpi_fields::{coord_number, package_object, package_of, register_object};
 use acpi_values::{CDependency, CState, EntryMethod, Lpi, LpiState};
 use aml_data::Data;
 use pw_base::{CompactList, List, Memory};
@@ -27,12 +28,9 @@ pub fn write_cst(alloc: Global, states: &[CState]) -> Result<Data, Memory>
     requires { length states.now ≤ 250 }
     ensures { IfOk result (λ object. object ≡ cst_object states.now) }
 {
-    let mut elements = Vec::new(alloc);
-    elements.push(Data::Int(states.len() as u64))?;
-    for state in states {
-        elements.push(cst_state(alloc, state)?)?;
-    }
-    package_object(alloc, elements)
+    let front = vec![in alloc; Data::Int(states.len() as u64)]?;
+    let make = |state: &CState| cst_state(alloc, state);
+    package_of(alloc, front, states, make)
 }
 
 fn csd_entry(alloc: Global, entry: &CDependency) -> Result<Data, Memory>
@@ -54,11 +52,8 @@ pub fn write_csd(alloc: Global, entries: &[CDependency]) -> Result<Data, Memory>
     requires { length entries.now ≤ 250 }
     ensures { IfOk result (λ object. object ≡ csd_object entries.now) }
 {
-    let mut elements = Vec::new(alloc);
-    for entry in entries {
-        elements.push(csd_entry(alloc, entry)?)?;
-    }
-    package_object(alloc, elements)
+    let make = |entry: &CDependency| csd_entry(alloc, entry);
+    package_of(alloc, Vec::new(alloc), entries, make)
 }
 
 /// An entry method (ACPI 6.5, 8.4.3.3).
@@ -79,12 +74,35 @@ fn text_of(alloc: Global, text: &List<u8>) -> Result<Data, Memory>
     Ok(Data::Text(CompactList::from_vec(alloc, text)?))
 }
 
+/// How a low power idle state is entered, and its counters.
+#[derive(Drop)]
+struct Registers {
+    entry: Data,
+    residency: Data,
+    usage: Data,
+}
+
+/// The objects of these.
+fn registers_of(alloc: Global, state: &LpiState) -> Result<Registers, Memory>
+    ensures entry { IfOk result (λ r. r.entry ≡ entry_object state.now.entry) }
+    ensures residency { IfOk result (λ r. r.residency ≡ register_object state.now.residency) }
+    ensures usage { IfOk result (λ r. r.usage ≡ register_object state.now.usage) }
+{
+    Ok(Registers {
+        entry: entry_of(alloc, &state.entry)?,
+        residency: register_object(alloc, &state.residency)?,
+        usage: register_object(alloc, &state.usage)?,
+    })
+}
+
 fn lpi_state(alloc: Global, state: &LpiState) -> Result<Data, Memory>
     ensures { IfOk result (λ object. object ≡ lpi_row_object state.now) }
 {
-    let entry = entry_of(alloc, &state.entry)?;
-    let residency = register_object(alloc, &state.residency)?;
-    let usage = register_object(alloc, &state.usage)?;
+    let Registers {
+        entry,
+        residency,
+        usage,
+    } = registers_of(alloc, state)?;
     let name = text_of(alloc, &state.name)?;
     let fields = vec![in alloc;
         Data::Int(u64::from(state.min_residency)),
@@ -107,12 +125,13 @@ pub fn write_lpi(alloc: Global, lpi: &Lpi) -> Result<Data, Memory>
     ensures { IfOk result (λ object. object ≡ lpi_object lpi.now) }
 {
     let states = lpi.states.as_slice();
-    let mut elements = Vec::new(alloc);
-    elements.push(Data::Int(0))?;
-    elements.push(Data::Int(lpi.level))?;
-    elements.push(Data::Int(states.len() as u64))?;
-    for state in states {
-        elements.push(lpi_state(alloc, state)?)?;
-    }
-    package_object(alloc, elements)
+    let front = vec![in alloc;
+        Data::Int(0),
+        Data::Int(lpi.level),
+        Data::Int(states.len() as u64),
+    ]?;
+    let make = |state: &LpiState| -> Result<Data, Memory>
+        ensures { IfOk result (λ object. object ≡ lpi_row_object state.now) }
+    { lpi_state(alloc, state) };
+    package_of(alloc, front, states, make)
 }

@@ -1,11 +1,7 @@
-use Rattle.std.proofs.Common.{sym, ◌∙◌, ap, ◌+◌}
-use Rattle.acpi_fields.proofs.RowLists.{rows_step}
-use Rattle.acpi_idle.specs.CStates.{csd_row}
+use Rattle.std.proofs.Common.{rules}
+use Rattle.acpi_idle.specs.CStates.{csd_of, csd_row}
 use Rattle.acpi_idle.proofs.c_states.read_csd.Goals as goal
 
-pub loop-element-preserved : goal.loop-element-preserved
-loop-element-preserved c =
-    let before = c.loop-element in
-    let row = rows_step (csd_row c.args.width) before.entries.items before.outer before.element-index c.in_ok-csd_entry.field-0 c.element-item.result c.in_ok-elements.elements.now
-    c.loop-element-test.true c.element-item.is (sym c.in_ok-csd_entry.ensures) in
-    record { place = ap (λ n. n + 1) before.invariant.place; rows = rw c.in_ok-push.ensures.items (row ∙ before.invariant.rows) }
+pub returns : goal.returns
+unfolding csd_of
+returns c = rw c.in_ok-elements.ensures (c.rows_from.ensures (csd_row c.args.width) (λ object k answer is. search rules))

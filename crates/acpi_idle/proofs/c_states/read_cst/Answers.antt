@@ -1,11 +1,9 @@
-use Rattle.std.proofs.Common.{sym, ◌∙◌, arith}
-use Rattle.acpi_fields.proofs.RowLists.{rows_step}
-use Rattle.acpi_idle.specs.CStates.{cst_row}
+use Rattle.std.proofs.Common.{rules}
+use Rattle.acpi_idle.specs.CStates.{cst_of, cst_row}
 use Rattle.acpi_idle.proofs.c_states.read_cst.Goals as goal
 
-pub loop-element-preserved : goal.loop-element-preserved
-loop-element-preserved c =
-    let before = c.loop-element in
-    let row = rows_step (cst_row c.args.width) before.states.items before.outer before.element-index c.in_ok-cst_state.field-0 c.element-item.result c.split_at.result.1.now
-    c.loop-element-test.true c.element-item.is (sym c.in_ok-cst_state.ensures) in
-    record { place = omega (arith, before.invariant.place); rows = rw c.in_ok-push.ensures.items (row ∙ before.invariant.rows) }
+pub returns : goal.returns
+unfolding cst_of
+returns c =
+    let rows = c.rows_from.ensures (cst_row c.args.width) (λ object k answer is. search rules) in
+    search rules

@@ -1,11 +1,16 @@
-use Rattle.std.proofs.Common.{◌∙◌, arith}
-use Rattle.acpi_fields.proofs.RowLists.{rows_step}
-use Rattle.acpi_idle.specs.Lpis.{lpi_row}
+use Rattle.std.proofs.Common.{rules}
+use Rattle.acpi_fields.specs.Reading.{most_64}
+use Rattle.acpi_idle.specs.Lpis.{lpi_of, lpi_row}
 use Rattle.acpi_idle.proofs.lpis.read_lpi.Goals as goal
 
-pub loop-element-preserved : goal.loop-element-preserved
-loop-element-preserved c =
-    let before = c.loop-element in
-    let row = rows_step (lpi_row c.args.width) before.states.items before.outer before.element-index c.in_ok-lpi_state.field-0 c.element-item.result c.split_at.result.1.now
-    c.loop-element-test.true c.element-item.is c.in_ok-lpi_state.ensures in
-    record { place = omega (arith, before.invariant.place); rows = rw c.in_ok-push.ensures.items (row ∙ before.invariant.rows) }
+pub returns-in_err-states : goal.returns-in_err-states
+unfolding lpi_of most_64
+returns-in_err-states c =
+    let rows = c.in_err-states.ensures (lpi_row c.args.width) (λ object k answer is. search rules) in
+    search rules
+
+pub returns : goal.returns
+unfolding lpi_of most_64
+returns c =
+    let rows = c.in_ok-states.ensures (lpi_row c.args.width) (λ object k answer is. search rules) in
+    search rules

@@ -4,9 +4,9 @@ pub returns : goal.returns
 returns c =
     rw (
       c.in_ok-fields.ensures.items,
-      c.in_ok-entry.ensures,
-      c.in_ok-residency.ensures,
-      c.in_ok-usage.ensures,
+      c.in_ok-entry.ensures.entry,
+      c.in_ok-entry.ensures.residency,
+      c.in_ok-entry.ensures.usage,
       c.in_ok-name.ensures,
       c.from.ensures,
       c.from-2.ensures,
