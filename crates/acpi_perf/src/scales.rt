@@ -3,7 +3,7 @@ ghost use Rattle.aml_data.specs.Countable.{IsCountable};
 ghost use Rattle.acpi_fields.specs.Reading.{Gives};
 ghost use Rattle.acpi_perf.specs.Scales.{pss_of, pss_row, tss_of, tss_row};
 
-use acpi_fields::{elements_at, fields_of, u32_of};
+use acpi_fields::{elements_at, fields_of, rows_from, u32_of};
 use acpi_values::{PState, Place, ReadFault, Shape, TState};
 use aml_data::{Data, Width};
 use std::alloc::Global;
@@ -33,13 +33,10 @@ pub fn read_pss(alloc: Global, object: &Data, width: Width) -> Result<Vec<PState
     ensures { Gives (λ states. states.items) result (pss_of width object.now) }
 {
     let elements = elements_at(object, WHOLE)?;
-    let mut states = Vec::new(alloc);
-    let mut outer = 0;
-    for element in elements {
-        outer += 1;
-        states.push(pss_state(element, width, outer)?)?;
-    }
-    Ok(states)
+    let read = |element: &Data, outer: u32| -> Result<PState, ReadFault>
+        ensures { Gives (λ state. state) result (pss_row width outer element.now) }
+    { Ok(pss_state(element, width, outer)?) };
+    rows_from(alloc, elements, 0, read)
 }
 
 /// A throttling state: element `outer` of `_TSS`.
@@ -63,11 +60,8 @@ pub fn read_tss(alloc: Global, object: &Data, width: Width) -> Result<Vec<TState
     ensures { Gives (λ states. states.items) result (tss_of width object.now) }
 {
     let elements = elements_at(object, WHOLE)?;
-    let mut states = Vec::new(alloc);
-    let mut outer = 0;
-    for element in elements {
-        outer += 1;
-        states.push(tss_state(element, width, outer)?)?;
-    }
-    Ok(states)
+    let read = |element: &Data, outer: u32| -> Result<TState, ReadFault>
+        ensures { Gives (λ state. state) result (tss_row width outer element.now) }
+    { Ok(tss_state(element, width, outer)?) };
+    rows_from(alloc, elements, 0, read)
 }

@@ -3,7 +3,7 @@ ghost use Rattle.aml_data.specs.declared.data.Data.TheVariants.{Int as integer};
 ghost use Rattle.acpi_perf.specs.Written.{control_object, domain_object, pss_object, pss_row_object};
 ghost use Rattle.acpi_perf.specs.Written.{tss_object, tss_row_object};
 
-use acpi_fields::{coord_number, package_object, register_object};
+use acpi_fields::{coord_number, package_object, package_of, register_object};
 use acpi_values::{ControlPair, Dependency, PState, TState};
 use aml_data::Data;
 use pw_base::Memory;
@@ -28,11 +28,8 @@ pub fn write_pss(alloc: Global, states: &[PState]) -> Result<Data, Memory>
     requires { length states.now ≤ 250 }
     ensures { IfOk result (λ object. object ≡ pss_object states.now) }
 {
-    let mut elements = Vec::new(alloc);
-    for state in states {
-        elements.push(pss_state(alloc, state)?)?;
-    }
-    package_object(alloc, elements)
+    let make = |state: &PState| pss_state(alloc, state);
+    package_of(alloc, Vec::new(alloc), states, make)
 }
 
 fn tss_state(alloc: Global, state: &TState) -> Result<Data, Memory>
@@ -53,11 +50,8 @@ pub fn write_tss(alloc: Global, states: &[TState]) -> Result<Data, Memory>
     requires { length states.now ≤ 250 }
     ensures { IfOk result (λ object. object ≡ tss_object states.now) }
 {
-    let mut elements = Vec::new(alloc);
-    for state in states {
-        elements.push(tss_state(alloc, state)?)?;
-    }
-    package_object(alloc, elements)
+    let make = |state: &TState| tss_state(alloc, state);
+    package_of(alloc, Vec::new(alloc), states, make)
 }
 
 /// The object of `_PCT` or `_PTC` for these registers (ACPI 6.5, 8.4.5.1 and 8.4.4.1).
