@@ -2,7 +2,7 @@ ghost use Rattle.std.specs.Prelude.{◌≡◌, ◌≤◌, IfOk};
 ghost use Rattle.acpi_fields.specs.Reading.{Gives};
 ghost use Rattle.acpi_cpc.specs.Cpcs.{cpc_of, element_count, entry_at};
 
-use acpi_fields::{integer_at, register_at, whole_of};
+use acpi_fields::{integer_at, register_at, rows_from, whole_of};
 use acpi_values::{Cpc, CpcEntry, Place, ReadFault, Shape, Why};
 use aml_data::{Data, Width, integer};
 use pw_base::List;
@@ -59,12 +59,10 @@ pub fn read_cpc(alloc: Global, object: &Data, width: Width) -> Result<Cpc, ReadF
             why: Why::Count,
         });
     }
-    let mut entries = Vec::new(alloc);
-    let mut outer = 2;
-    for element in rest {
-        outer += 1;
-        entries.push(entry_of(element, width, outer)?)?;
-    }
+    let read = |element: &Data, outer: u32| -> Result<CpcEntry, ReadFault>
+        ensures { Gives (λ entry. entry) result (entry_at width outer element.now) }
+    { Ok(entry_of(element, width, outer)?) };
+    let entries = rows_from(alloc, rest, 2, read)?;
     Ok(Cpc {
         revision: revision as u8,
         entries: List::from_vec(entries),

@@ -1,7 +1,7 @@
 ghost use Rattle.std.specs.Prelude.{◌≡◌, ◌≤◌, length, IfOk};
 ghost use Rattle.acpi_cpc.specs.Written.{cpc_object, entry_object};
 
-use acpi_fields::{package_object, register_object};
+use acpi_fields::{package_of, register_object};
 use acpi_values::{Cpc, CpcEntry};
 use aml_data::Data;
 use pw_base::Memory;
@@ -22,11 +22,10 @@ pub fn write_cpc(alloc: Global, cpc: &Cpc) -> Result<Data, Memory>
     ensures { IfOk result (λ object. object ≡ cpc_object cpc.now) }
 {
     let entries = cpc.entries.as_slice();
-    let mut elements = Vec::new(alloc);
-    elements.push(Data::Int(entries.len() as u64 + 2))?;
-    elements.push(Data::Int(u64::from(cpc.revision)))?;
-    for entry in entries {
-        elements.push(entry_of(alloc, entry)?)?;
-    }
-    package_object(alloc, elements)
+    let front = vec![in alloc;
+        Data::Int(entries.len() as u64 + 2),
+        Data::Int(u64::from(cpc.revision)),
+    ]?;
+    let make = |entry: &CpcEntry| entry_of(alloc, entry);
+    package_of(alloc, front, entries, make)
 }

@@ -1,11 +1,16 @@
-use Rattle.std.proofs.Common.{sym, ◌∙◌, arith}
-use Rattle.acpi_fields.proofs.RowLists.{rows_step}
-use Rattle.acpi_cpc.specs.Cpcs.{entry_at}
+use Rattle.std.proofs.Common.{rules}
+use Rattle.acpi_fields.specs.Reading.{most_64}
+use Rattle.acpi_cpc.specs.Cpcs.{cpc_of, entry_at}
 use Rattle.acpi_cpc.proofs.reading.read_cpc.Goals as goal
 
-pub loop-element-preserved : goal.loop-element-preserved
-loop-element-preserved c =
-    let before = c.loop-element in
-    let row = rows_step (entry_at c.args.width) before.entries.items before.outer before.element-index c.in_ok-entry_of.field-0 c.element-item.result c.split_at.result.1.now
-    c.loop-element-test.true c.element-item.is (sym c.in_ok-entry_of.ensures) in
-    record { place = omega (arith, before.invariant.place); rows = rw c.in_ok-push.ensures.items (row ∙ before.invariant.rows) }
+pub returns-in_err-entries : goal.returns-in_err-entries
+unfolding cpc_of most_64
+returns-in_err-entries c =
+    let rows = c.in_err-entries.ensures (entry_at c.args.width) (λ object k answer is. search rules) in
+    search rules
+
+pub returns : goal.returns
+unfolding cpc_of most_64
+returns c =
+    let rows = c.in_ok-entries.ensures (entry_at c.args.width) (λ object k answer is. search rules) in
+    search rules
