@@ -1,11 +1,12 @@
-ghost use Rattle.std.specs.Prelude.{◌≡◌, ◌≢◌, ◌≤◌, None, Some, length, nat_lt, IfOk, IfErr};
+ghost use Rattle.std.specs.Prelude.{◌≡◌, ◌≢◌, ◌≤◌, [], None, Some, length, nat_lt, IfOk, IfErr, OnOk};
 ghost use Rattle.std.specs.List.{AllByRecursion};
 ghost use Rattle.pw_cppc.specs.Requests.{Has};
 ghost use Rattle.pw_script.specs.declared.script.ScriptFault.TheVariants as faults;
 ghost use Rattle.pw_script.specs.declared.script.TheConstants.{MOST_LINES, MOST_OPERATIONS};
 ghost use Rattle.pw_script.specs.Lines.{lines_of};
+ghost use Rattle.pw_script.specs.Looking.{LeadsTo};
 ghost use Rattle.pw_script.specs.Reading.{first_bad_by};
-ghost use Rattle.pw_cppc_drive.specs.Forms.{request_in};
+ghost use Rattle.pw_cppc_drive.specs.Forms.{request_in, segs_of};
 ghost use Rattle.pw_cppc_drive.specs.Reading.{Fit, IsNoScript, IsScript, lines_in, operations};
 
 use crate::index::index_of;
@@ -15,6 +16,7 @@ use pw_base::List;
 use pw_cppc::CppcPlan;
 use pw_script::{MOST_OPERATIONS, ScriptFault, first_line, too_long};
 use std::alloc::Global;
+use std::collections::HashMap;
 
 /// Whether the lines have too many operations, with those at the start.
 fn has_too_many(plan: &CppcPlan, lines: &[CppcLine]) -> bool
@@ -32,6 +34,39 @@ fn has_too_many(plan: &CppcPlan, lines: &[CppcLine]) -> bool
     bound > u64::from(MOST_OPERATIONS)
 }
 
+/// Reads lines, and puts those that ask for something into a list. `name` is room for the segments of a path.
+fn read_into(
+    plan: &CppcPlan,
+    index: &HashMap<Vec<u8>, u32>,
+    name: &mut Vec<u8>,
+    bytes: &[u8],
+    lines: &mut Vec<CppcLine>,
+) -> Result<(), ScriptFault>
+    requires index { LeadsTo segs_of 0 plan.now.paths index.now }
+    requires few { length (lines_of bytes.now) ≤ MOST_LINES }
+    requires none { lines.old.items ≡ [] }
+    ensures good { OnOk result (first_bad_by (request_in plan.now) 1 (lines_of bytes.now) ≡ None) }
+    ensures read { OnOk result (lines.new.items ≡ lines_in plan.now bytes.now) }
+    ensures few { OnOk result (length lines.new.items ≤ MOST_LINES) }
+    ensures exist { OnOk result (AllByRecursion (λ l. Has plan.now l.request) lines.new.items) }
+    ensures bad { IfErr result (λ fault. fault ≢ faults.Memory →
+        first_bad_by (request_in plan.now) 1 (lines_of bytes.now) ≡ Some fault) }
+{
+    let mut number = 0;
+    let mut left = bytes;
+    while !left.is_empty() {
+        let (text, rest) = first_line(left);
+        number += 1;
+        match request_in(plan, index, name, text)? {
+            Err(why) => return Err(ScriptFault::Line { number, why }),
+            Ok(None) => {}
+            Ok(Some(request)) => lines.push(CppcLine { number, request })?,
+        }
+        left = rest;
+    }
+    Ok(())
+}
+
 /// The lines that ask for something.
 fn read_lines(alloc: Global, bytes: &[u8], plan: &CppcPlan) -> Result<Vec<CppcLine>, ScriptFault>
     requires few { length (lines_of bytes.now) ≤ MOST_LINES }
@@ -46,18 +81,7 @@ fn read_lines(alloc: Global, bytes: &[u8], plan: &CppcPlan) -> Result<Vec<CppcLi
     let index = index_of(alloc, plan)?;
     let mut name = Vec::new(alloc);
     let mut lines = Vec::new(alloc);
-    let mut number = 0;
-    let mut left = bytes;
-    while !left.is_empty() {
-        let (text, rest) = first_line(left);
-        number += 1;
-        match request_in(plan, &index, &mut name, text)? {
-            Err(why) => return Err(ScriptFault::Line { number, why }),
-            Ok(None) => {}
-            Ok(Some(request)) => lines.push(CppcLine { number, request })?,
-        }
-        left = rest;
-    }
+    read_into(plan, &index, &mut name, bytes, &mut lines)?;
     Ok(lines)
 }
 

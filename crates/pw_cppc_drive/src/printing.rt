@@ -174,30 +174,25 @@ fn put_opening<K: Sink>(
     put_opened(page, sink, plan.paths(), opening, ops)
 }
 
-/// Puts the text of a history, by way of a page, and hands all of it to the sink.
-fn put_history<K: Sink>(
-    page: &mut Page,
-    sink: &mut K,
-    plan: &NamedPlan,
-    state: &mut CppcState,
-    ops: &mut Ops,
-    opening: Option<u32>,
-    entries: &[CppcEntry],
-) -> Result<(), Failed>
-    requires entries { AllByRecursion (StatesRequest plan.now) entries.now }
-    requires opened { state.old ≡ opening_numbers plan.now }
-    requires fits { AreNumbers plan.now state.old }
-    requires none { ops.old.elements ≡ [] }
-    requires room { 257 ≤ ops.old.capacity }
-    requires opening { opening_bound plan.now ≤ ops.old.capacity }
-    ensures text { PutsText K.Sink sink.old sink.new page.old page.new
-        (history_text plan.now opening entries.now) (is_ok result) }
-    ensures empty { OnOk result (page.new ≡ []) }
+/// The numbers that entries are asked of, and room for their operations.
+#[derive(Drop)]
+struct Run {
+    state: CppcState,
+    ops: Ops,
+}
+
+/// The numbers of the opening, and room for the operations of the opening or of an entry, with none in it.
+fn begin(alloc: Global, plan: &CppcPlan) -> Result<Run, Memory>
+    ensures opened { IfOk result (λ run. run.state ≡ opening_numbers plan.now) }
+    ensures fits { IfOk result (λ run. AreNumbers plan.now run.state) }
+    ensures none { IfOk result (λ run. run.ops.elements ≡ []) }
+    ensures room { IfOk result (λ run. 257 ≤ run.ops.capacity) }
+    ensures opening { IfOk result (λ run. opening_bound plan.now ≤ run.ops.capacity) }
 {
-    open_all(plan.plan(), ops);
-    put_opening(page, sink, plan, opening, ops.list())?;
-    put_entries(page, sink, plan, state, ops, entries)?;
-    page.flush(sink)
+    Ok(Run {
+        state: CppcState::open(alloc, plan)?,
+        ops: Ops::new(alloc, plan.opening_bound().max(MOST_OF_A_REQUEST))?,
+    })
 }
 
 /// What printing takes memory for.
@@ -205,26 +200,60 @@ fn put_history<K: Sink>(
 struct Held<'a> {
     named: NamedPlan<'a>,
     page: Page,
-    state: CppcState,
-    ops: Ops,
+    run: Run,
 }
 
-/// Takes it: the page is empty, the numbers are those of the opening, and no operation is listed.
+/// Takes it: the page is empty, and the run begins.
 fn hold<'a>(alloc: Global, plan: &'a CppcPlan) -> Result<Held<'a>, Memory>
     ensures named { IfOk result (λ h. h.named ≡ plan.now) }
     ensures page { IfOk result (λ h. h.page ≡ []) }
-    ensures opened { IfOk result (λ h. h.state ≡ opening_numbers plan.now) }
-    ensures fits { IfOk result (λ h. AreNumbers plan.now h.state) }
-    ensures none { IfOk result (λ h. h.ops.elements ≡ []) }
-    ensures room { IfOk result (λ h. 257 ≤ h.ops.capacity) }
-    ensures opening { IfOk result (λ h. opening_bound plan.now ≤ h.ops.capacity) }
+    ensures opened { IfOk result (λ h. h.run.state ≡ opening_numbers plan.now) }
+    ensures fits { IfOk result (λ h. AreNumbers plan.now h.run.state) }
+    ensures none { IfOk result (λ h. h.run.ops.elements ≡ []) }
+    ensures room { IfOk result (λ h. 257 ≤ h.run.ops.capacity) }
+    ensures opening { IfOk result (λ h. opening_bound plan.now ≤ h.run.ops.capacity) }
 {
     Ok(Held {
         named: NamedPlan::new(alloc, plan)?,
         page: Page::new(alloc)?,
-        state: CppcState::open(alloc, plan)?,
-        ops: Ops::new(alloc, plan.opening_bound().max(MOST_OF_A_REQUEST))?,
+        run: begin(alloc, plan)?,
     })
+}
+
+/// Puts the text of a history, by way of the page, and hands all of it to the sink.
+fn put_history<K: Sink>(
+    held: &mut Held,
+    sink: &mut K,
+    opening: Option<u32>,
+    entries: &[CppcEntry],
+) -> Result<(), Failed>
+    requires entries { AllByRecursion (StatesRequest held.old.named) entries.now }
+    requires opened { held.old.run.state ≡ opening_numbers held.old.named }
+    requires fits { AreNumbers held.old.named held.old.run.state }
+    requires none { held.old.run.ops.elements ≡ [] }
+    requires room { 257 ≤ held.old.run.ops.capacity }
+    requires opening { opening_bound held.old.named ≤ held.old.run.ops.capacity }
+    ensures text { PutsText K.Sink sink.old sink.new held.old.page held.new.page
+        (history_text held.old.named opening entries.now) (is_ok result) }
+    ensures empty { OnOk result (held.new.page ≡ []) }
+{
+    open_all(held.named.plan(), &mut held.run.ops);
+    put_opening(
+        &mut held.page,
+        sink,
+        &held.named,
+        opening,
+        held.run.ops.list(),
+    )?;
+    put_entries(
+        &mut held.page,
+        sink,
+        &held.named,
+        &mut held.run.state,
+        &mut held.run.ops,
+        entries,
+    )?;
+    held.page.flush(sink)
 }
 
 /// Prints the text of a history: the opening with its operations, and each entry with its reply and
@@ -247,14 +276,7 @@ pub fn cppc_print<K: Sink>(
     ensures sink { result ≡ Err faults.Sink → Rose (K.faults out.old) (K.faults out.new) }
     ensures memory { result ≡ Err faults.Memory → out.new ≡ out.old }
 {
-    let Held {
-        named,
-        mut page,
-        mut state,
-        mut ops,
-    } = hold(alloc, plan)?;
-    put_history(
-        &mut page, out, &named, &mut state, &mut ops, opening, entries,
-    )?;
+    let mut held = hold(alloc, plan)?;
+    put_history(&mut held, out, opening, entries)?;
     Ok(())
 }

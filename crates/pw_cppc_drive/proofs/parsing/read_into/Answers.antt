@@ -4,7 +4,7 @@ use Rattle.pw_cppc.specs.Requests.{Has}
 use Rattle.pw_script.proofs.Making.{bad_past}
 use Rattle.pw_cppc_drive.specs.Forms.{request_in}
 use Rattle.pw_cppc_drive.proofs.Making.{all_have, read_on}
-use Rattle.pw_cppc_drive.proofs.parsing.read_lines.Goals as goal
+use Rattle.pw_cppc_drive.proofs.parsing.read_into.Goals as goal
 
 pub loop-left-preserved : goal.loop-left-preserved
 loop-left-preserved c =

@@ -6,7 +6,7 @@ use Rattle.pw_script.specs.Reading.{first_bad_by}
 use Rattle.pw_cppc_drive.specs.declared.script.CppcLine.{CppcLine}
 use Rattle.pw_cppc_drive.specs.Forms.{request_in}
 use Rattle.pw_cppc_drive.specs.Reading.{lines_from, lines_in}
-use Rattle.pw_cppc_drive.proofs.parsing.read_lines.Given as goal
+use Rattle.pw_cppc_drive.proofs.parsing.read_into.Given as goal
 
 abbrev pub invariant-loop-left : goal.invariant-loop-left
 invariant-loop-left l = record {
