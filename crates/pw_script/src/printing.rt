@@ -22,7 +22,7 @@ use crate::operations::put_ops;
 use crate::words::{put_asker, put_fault, put_reply, put_request};
 use acpi_values::Op;
 use pw_base::{Failed, Memory, Sink};
-use pw_core::{Ops, State};
+use pw_core::{Ops, State, open_all};
 use pw_model::{HistoryEntry, Reply};
 use pw_plan::{MOST_OF_A_REQUEST, Plan, Request};
 use pw_text::{Page, PrintFault};
@@ -186,33 +186,25 @@ fn put_opening<K: Sink>(
     put_opened(page, sink, plan.paths(), opening, ops)
 }
 
-/// Puts the text of a history, with the replies that are known, by way of a page, and hands all of it to
-/// the sink.
-fn put_history<K: Sink>(
-    page: &mut Page,
-    sink: &mut K,
-    plan: &NamedPlan,
-    state: &mut State,
-    ops: &mut Ops,
-    opening: Option<u32>,
-    entries: &[HistoryEntry],
-    known: Option<&[Reply]>,
-) -> Result<(), Failed>
-    requires entries { AllByRecursion (StatesRequest plan.now) entries.now }
-    requires known { AreKnown plan.now state.old entries.now (option_copied known) }
-    requires opened { state.old ≡ opening_state plan.now }
-    requires fits { IsState plan.now state.old }
-    requires none { ops.old.elements ≡ [] }
-    requires room { 256 ≤ ops.old.capacity }
-    requires opening { opening_bound plan.now ≤ ops.old.capacity }
-    ensures text { PutsText K.Sink sink.old sink.new page.old page.new
-        (history_text plan.now opening entries.now) (is_ok result) }
-    ensures empty { OnOk result (page.new ≡ []) }
+/// The state that entries are asked in, and room for their operations.
+#[derive(Drop)]
+struct Run {
+    state: State,
+    ops: Ops,
+}
+
+/// The state at the opening, and room for the operations of the opening or of an entry, with none in it.
+fn begin(alloc: Global, plan: &Plan) -> Result<Run, Memory>
+    ensures opened { IfOk result (λ run. run.state ≡ opening_state plan.now) }
+    ensures fits { IfOk result (λ run. IsState plan.now run.state) }
+    ensures none { IfOk result (λ run. run.ops.elements ≡ []) }
+    ensures room { IfOk result (λ run. 256 ≤ run.ops.capacity) }
+    ensures opening { IfOk result (λ run. opening_bound plan.now ≤ run.ops.capacity) }
 {
-    state.opening(plan.plan(), ops);
-    put_opening(page, sink, plan, opening, ops.list())?;
-    put_entries(page, sink, plan, state, ops, entries, known)?;
-    page.flush(sink)
+    Ok(Run {
+        state: State::open(alloc, plan)?,
+        ops: Ops::new(alloc, plan.opening_bound().max(MOST_OF_A_REQUEST))?,
+    })
 }
 
 /// What printing takes memory for.
@@ -220,26 +212,64 @@ fn put_history<K: Sink>(
 struct Held<'a> {
     named: NamedPlan<'a>,
     page: Page,
-    state: State,
-    ops: Ops,
+    run: Run,
 }
 
-/// Takes it: the page is empty, the state is that of the opening, and no operation is listed.
+/// Takes it: the page is empty, and the run begins.
 fn hold<'a>(alloc: Global, plan: &'a Plan) -> Result<Held<'a>, Memory>
     ensures named { IfOk result (λ h. h.named ≡ plan.now) }
     ensures page { IfOk result (λ h. h.page ≡ []) }
-    ensures opened { IfOk result (λ h. h.state ≡ opening_state plan.now) }
-    ensures fits { IfOk result (λ h. IsState plan.now h.state) }
-    ensures none { IfOk result (λ h. h.ops.elements ≡ []) }
-    ensures room { IfOk result (λ h. 256 ≤ h.ops.capacity) }
-    ensures opening { IfOk result (λ h. opening_bound plan.now ≤ h.ops.capacity) }
+    ensures opened { IfOk result (λ h. h.run.state ≡ opening_state plan.now) }
+    ensures fits { IfOk result (λ h. IsState plan.now h.run.state) }
+    ensures none { IfOk result (λ h. h.run.ops.elements ≡ []) }
+    ensures room { IfOk result (λ h. 256 ≤ h.run.ops.capacity) }
+    ensures opening { IfOk result (λ h. opening_bound plan.now ≤ h.run.ops.capacity) }
 {
     Ok(Held {
         named: NamedPlan::new(alloc, plan)?,
         page: Page::new(alloc)?,
-        state: State::open(alloc, plan)?,
-        ops: Ops::new(alloc, plan.opening_bound().max(MOST_OF_A_REQUEST))?,
+        run: begin(alloc, plan)?,
     })
+}
+
+/// Puts the text of a history, with the replies that are known, by way of the page, and hands all of it to
+/// the sink.
+fn put_history<K: Sink>(
+    held: &mut Held,
+    sink: &mut K,
+    opening: Option<u32>,
+    entries: &[HistoryEntry],
+    known: Option<&[Reply]>,
+) -> Result<(), Failed>
+    requires entries { AllByRecursion (StatesRequest held.old.named) entries.now }
+    requires known { AreKnown held.old.named held.old.run.state entries.now (option_copied known) }
+    requires opened { held.old.run.state ≡ opening_state held.old.named }
+    requires fits { IsState held.old.named held.old.run.state }
+    requires none { held.old.run.ops.elements ≡ [] }
+    requires room { 256 ≤ held.old.run.ops.capacity }
+    requires opening { opening_bound held.old.named ≤ held.old.run.ops.capacity }
+    ensures text { PutsText K.Sink sink.old sink.new held.old.page held.new.page
+        (history_text held.old.named opening entries.now) (is_ok result) }
+    ensures empty { OnOk result (held.new.page ≡ []) }
+{
+    open_all(held.named.plan(), &mut held.run.ops);
+    put_opening(
+        &mut held.page,
+        sink,
+        &held.named,
+        opening,
+        held.run.ops.list(),
+    )?;
+    put_entries(
+        &mut held.page,
+        sink,
+        &held.named,
+        &mut held.run.state,
+        &mut held.run.ops,
+        entries,
+        known,
+    )?;
+    held.page.flush(sink)
 }
 
 /// Prints the text of a history as `print_history` does, with the replies to its entries where they are
@@ -264,15 +294,8 @@ pub fn print_known<K: Sink>(
     ensures sink { result ≡ Err faults.Sink → Rose (K.faults out.old) (K.faults out.new) }
     ensures memory { result ≡ Err faults.Memory → out.new ≡ out.old }
 {
-    let Held {
-        named,
-        mut page,
-        mut state,
-        mut ops,
-    } = hold(alloc, plan)?;
-    put_history(
-        &mut page, out, &named, &mut state, &mut ops, opening, entries, known,
-    )?;
+    let mut held = hold(alloc, plan)?;
+    put_history(&mut held, out, opening, entries, known)?;
     Ok(())
 }
 
