@@ -8,6 +8,7 @@ ghost use Rattle.pw_handles.specs.Endless.{OpensEndlessOf, OweOneEndless, OwesOn
 
 use crate::handle::Handle;
 use crate::kept::{Kept, empty_box, put_in, with};
+use core::mem::replace_with;
 use pw_embed::{Endless, OpNumbers, ReplyNumbers, RequestNumbers, SeatFacts, Status};
 use std::alloc::Global;
 use std::mem::replace;
@@ -34,50 +35,39 @@ fn tell(kept: &mut Kept, facts: &mut SeatFacts) -> Status
     }
 }
 
-/// What is kept, with the request begun that the numbers ask for, where it is a seat that can begin one.
-#[tactic(auto, unfolding(crate::specs::Endless::AtEndless))]
-fn begun(kept: Kept, asked: &RequestNumbers, reply: &mut ReplyNumbers) -> (Kept, Status)
-    ensures { AtEndless kept result.0 result.1 (reply.new ≡ reply.old)
-        (λ t u s. BeginsAt t asked.now reply.old u reply.new s) }
+/// A seat with the request begun that the numbers ask for, and the numbers of its reply, which were these.
+fn begun(seat: Endless, asked: (RequestNumbers, ReplyNumbers)) -> (Endless, (Status, ReplyNumbers))
+    ensures { BeginsAt seat asked.0 asked.1 result.0 result.1.1 result.1.0 }
 {
-    match kept {
-        Kept::Endless(seat) => {
-            let (seat, status) = seat.begin(asked, reply);
-            (Kept::Endless(seat), status)
-        }
-        other => (other, Status::Kind),
-    }
+    let (asked, mut reply) = asked;
+    let (seat, status) = seat.begin(&asked, &mut reply);
+    (seat, (status, reply))
 }
 
+/// Begins it where a seat is kept: in its place, since the largest of what may be kept is long.
+#[tactic(auto, unfolding(crate::specs::Endless::AtEndless))]
 fn begin(kept: &mut Kept, asked: &RequestNumbers, reply: &mut ReplyNumbers) -> Status
     ensures { AtEndless kept.old kept.new result (reply.new ≡ reply.old)
         (λ t u s. BeginsAt t asked.now reply.old u reply.new s) }
 {
-    let (next, status) = begun(replace(kept, Kept::Nothing), asked, reply);
-    put_in(kept, next);
-    status
-}
-
-/// What is kept, with its request finished, where it has begun one.
-#[tactic(auto, unfolding(crate::specs::Endless::AtEndless))]
-fn finished(kept: Kept, done: u32) -> (Kept, Status)
-    ensures { AtEndless kept result.0 result.1 (Unit {0}) (λ t u s. EndsAt t done u s) }
-{
     match kept {
         Kept::Endless(seat) => {
-            let (seat, status) = seat.finish(done);
-            (Kept::Endless(seat), status)
+            let (status, told) = replace_with(seat, (*asked, *reply), begun);
+            *reply = told;
+            status
         }
-        other => (other, Status::Kind),
+        _ => Status::Kind,
     }
 }
 
+#[tactic(auto, unfolding(crate::specs::Endless::AtEndless))]
 fn finish(kept: &mut Kept, done: u32) -> Status
     ensures { AtEndless kept.old kept.new result (Unit {0}) (λ t u s. EndsAt t done u s) }
 {
-    let (next, status) = finished(replace(kept, Kept::Nothing), done);
-    put_in(kept, next);
-    status
+    match kept {
+        Kept::Endless(seat) => replace_with(seat, done, Endless::finish),
+        _ => Status::Kind,
+    }
 }
 
 /// The first seat of a new coordinator of a machine that is kept.
