@@ -1,7 +1,8 @@
 //! Worked requests in two steps, by two seats of a coordinator without end whose operations are its
 //! callers' to do.
-ghost use Rattle.std.specs.Prelude.{◌<◌, IfErr, IfSome};
+ghost use Rattle.std.specs.Prelude.{◌≡◌, ◌<◌, ◌≤◌, IfErr, IfSome, vec_capacity};
 ghost use Rattle.pw_plan.specs.Requests.{Has};
+ghost use Rattle.pw_model.specs.Records.{record_count};
 ghost use Rattle.pw_turns.specs.Owning.{Owns};
 ghost use Rattle.pw_seats.specs.Steppers.{AreSteppers, IsStepper};
 ghost use Rattle.pw_seats.specs.declared.steps.Stepper.TheVariants.{Between, Ready};
@@ -9,7 +10,7 @@ ghost use Rattle.pw_seats.specs.declared.steps.Stepper.TheVariants.{Between, Rea
 use crate::play::request_behind;
 use crate::text::{put_done, put_try};
 use pw_machines::{plan_of, put_outcome, u32_at, word_at};
-use pw_plan::Request;
+use pw_plan::{Plan, Request};
 use pw_turns::{
     Begun, Coordinator, EndlessCoordinator, NotBegun, RecordRoom, ReportedRegisters, Seat,
 };
@@ -18,12 +19,11 @@ use std::sync::Wait;
 
 type Shared = EndlessCoordinator<ReportedRegisters>;
 
+type Room = RecordRoom<ReportedRegisters>;
+
 /// A seat with room for the records of a request, or a request of it that has begun.
 pub(crate) enum Stepper {
-    Ready {
-        seat: Seat,
-        room: RecordRoom<ReportedRegisters>,
-    },
+    Ready { seat: Seat, room: Room },
     Between(Begun<ReportedRegisters>),
 }
 
@@ -43,43 +43,73 @@ fn asked_at(shared: &Shared, line: &str) -> Option<(bool, Request)>
     Some((waits, request))
 }
 
-/// Begins the request of a line, and tells its reply and operations, or why it didn't begin.
+/// Tells the reply and the operations of a request that has begun.
+fn between(text: &mut String, begun: Begun<ReportedRegisters>) -> (Stepper, Option<()>)
+    ensures { result.0 ≡ Between begun }
+{
+    let told = put_outcome(text, &begun.reply(), begun.ops());
+    (Stepper::Between(begun), told)
+}
+
+/// Begins a request that doesn't wait, and tells its reply and operations, or why it didn't begin.
+fn try_begin(
+    text: &mut String,
+    shared: &Shared,
+    seat: Seat,
+    room: Room,
+    request: Request,
+) -> (Stepper, Option<()>)
+    requires stepper { IsStepper shared.now (Ready seat room) }
+    requires has { Has shared.now.plan request }
+    ensures { IsStepper shared.now result.0 }
+{
+    match shared.try_begin(seat, room, request) {
+        Ok(begun) => between(text, begun),
+        Err(NotBegun { seat, room, told }) => {
+            let told = put_try(text, &told);
+            (Stepper::Ready { seat, room }, told)
+        }
+    }
+}
+
+/// The same of a request that waits.
+fn wait_begin<W: Wait>(
+    rt: &W,
+    text: &mut String,
+    shared: &Shared,
+    seat: Seat,
+    room: Room,
+    request: Request,
+) -> (Stepper, Option<()>)
+    requires stepper { IsStepper shared.now (Ready seat room) }
+    requires has { Has shared.now.plan request }
+    ensures { IsStepper shared.now result.0 }
+{
+    match shared.begin_request(rt, seat, room, request) {
+        Ok(begun) => between(text, begun),
+        Err(NotBegun { seat, room, told }) => {
+            let told = put_done(text, &told);
+            (Stepper::Ready { seat, room }, told)
+        }
+    }
+}
+
+/// Begins the request of a line.
 fn begin<W: Wait>(
     rt: &W,
     text: &mut String,
     shared: &Shared,
     seat: Seat,
-    room: RecordRoom<ReportedRegisters>,
+    room: Room,
     line: &str,
 ) -> (Stepper, Option<()>)
     requires { IsStepper shared.now (Ready seat room) }
     ensures { IsStepper shared.now result.0 }
 {
-    let Some(asked) = asked_at(shared, line) else {
-        return (Stepper::Ready { seat, room }, None);
-    };
-    if asked.0 {
-        match shared.begin_request(rt, seat, room, asked.1) {
-            Ok(begun) => {
-                let told = put_outcome(text, &begun.reply(), begun.ops());
-                (Stepper::Between(begun), told)
-            }
-            Err(NotBegun { seat, room, told }) => {
-                let told = put_done(text, &told);
-                (Stepper::Ready { seat, room }, told)
-            }
-        }
-    } else {
-        match shared.try_begin(seat, room, asked.1) {
-            Ok(begun) => {
-                let told = put_outcome(text, &begun.reply(), begun.ops());
-                (Stepper::Between(begun), told)
-            }
-            Err(NotBegun { seat, room, told }) => {
-                let told = put_try(text, &told);
-                (Stepper::Ready { seat, room }, told)
-            }
-        }
+    match asked_at(shared, line) {
+        None => (Stepper::Ready { seat, room }, None),
+        Some((false, request)) => try_begin(text, shared, seat, room, request),
+        Some((true, request)) => wait_begin(rt, text, shared, seat, room, request),
     }
 }
 
@@ -198,32 +228,46 @@ fn play_all<W: Wait>(
     (seat, told)
 }
 
-/// Makes the calls of the lines by the first seat and one that is split off, and releases the coordinator.
-fn played<W: Wait>(
-    rt: &W,
-    text: &mut String,
-    alloc: Global,
-    shared: Shared,
-    mut seat: Seat,
-    lines: &str,
-) -> Option<()>
-    requires { Owns shared.table.shared.table_id seat }
+/// A seat that is split off.
+fn split_off(alloc: Global, shared: &Shared, seat: &mut Seat) -> Option<Seat>
+    requires { Owns shared.now.table.shared.table_id seat.old }
+    ensures first { Owns shared.now.table.shared.table_id seat.new }
+    ensures other { IfSome result (Owns shared.now.table.shared.table_id) }
 {
-    let room = shared.record_room(alloc).ok()?;
-    let more = shared.record_room(alloc).ok()?;
     if seat.parts() < 2 {
         return None;
     }
-    let Ok(other) = shared.split(alloc, &mut seat, 1) else {
-        return None;
-    };
-    let first = Stepper::Ready { seat, room };
+    shared.split(alloc, seat, 1).ok()
+}
+
+/// Room for the records of both seats.
+fn rooms(alloc: Global, shared: &Shared) -> Option<(Room, Room)>
+    ensures first { IfSome result (λ r. record_count shared.now.plan ≤ vec_capacity r.0.records) }
+    ensures second { IfSome result (λ r. record_count shared.now.plan ≤ vec_capacity r.1.records) }
+{
+    let room = shared.record_room(alloc).ok()?;
+    let more = shared.record_room(alloc).ok()?;
+    Some((room, more))
+}
+
+/// The first seat and one that is split off, ready for requests.
+fn steppers(alloc: Global, shared: &Shared, mut seat: Seat) -> Option<(Stepper, Stepper)>
+    requires { Owns shared.now.table.shared.table_id seat }
+    ensures { IfSome result (AreSteppers shared.now) }
+{
+    let other = split_off(alloc, shared, &mut seat)?;
+    let (room, more) = rooms(alloc, shared)?;
     let second = Stepper::Ready {
         seat: other,
         room: more,
     };
-    let (seat, told) = play_all(rt, text, &shared, (first, second), lines);
-    told?;
+    Some((Stepper::Ready { seat, room }, second))
+}
+
+/// Releases a coordinator whose other seats are joined.
+fn released(text: &mut String, shared: Shared, seat: Seat) -> Option<()>
+    requires { Owns shared.table.shared.table_id seat }
+{
     if !seat.alone() {
         return None;
     }
@@ -232,17 +276,44 @@ fn played<W: Wait>(
     write!(text, "\n  release -> {seen} entries seen").ok()
 }
 
+/// Makes the calls of the lines by the first seat and one that is split off, and releases the coordinator.
+fn played<W: Wait>(
+    rt: &W,
+    text: &mut String,
+    alloc: Global,
+    shared: Shared,
+    seat: Seat,
+    lines: &str,
+) -> Option<()>
+    requires { Owns shared.table.shared.table_id seat }
+{
+    let pair = steppers(alloc, &shared, seat)?;
+    let (seat, told) = play_all(rt, text, &shared, pair, lines);
+    let rest = released(text, shared, seat);
+    told.and(rest)
+}
+
+/// `open endless`, and lines of calls.
+fn opened<W: Wait>(
+    rt: &W,
+    text: &mut String,
+    alloc: Global,
+    plan: Plan,
+    lines: &str,
+) -> Option<()> {
+    match Coordinator::open_endless(alloc, plan, ReportedRegisters::new()) {
+        Err(_) => None,
+        Ok((shared, seat)) => played(rt, text, alloc, shared, seat, lines),
+    }
+}
+
 /// What the calls of a case tell.
 pub(crate) fn told<W: Wait>(rt: &W, alloc: Global, lines: &str) -> Option<String> {
     let (machine, calls) = lines.split_once("\nopen endless\n")?;
     let plan = plan_of(alloc, machine).ok()?;
     let mut text = String::new(alloc);
-    text.push_str("  open endless -> opened").ok()?;
-    match Coordinator::open_endless(alloc, plan, ReportedRegisters::new()) {
-        Err(_) => None,
-        Ok((shared, seat)) => {
-            played(rt, &mut text, alloc, shared, seat, calls)?;
-            Some(text)
-        }
-    }
+    let told = text.push_str("  open endless -> opened").ok();
+    let rest = opened(rt, &mut text, alloc, plan, calls);
+    told.and(rest)?;
+    Some(text)
 }
