@@ -23,7 +23,7 @@ use Rattle.pw_runs.proofs.CppcEnding.{Failed as LostBy, works_or_failed}
 use Rattle.pw_runs.proofs.CppcEnding.{does_or_failed as steers_or_failed}
 use Rattle.pw_runs.proofs.CppcOne.{steer_is_one, together_is_judged}
 use Rattle.pw_runs.proofs.CppcOne.{never_read_fault as never_unread_cppc, refusal_is_1_or_7 as cppc_refusal}
-use Rattle.pw_cli.specs.Runs.{DrivesBy, IsSettled, IsWithin, Obeys, RegistersHeld, SteersBy, driving_by, names_in, steering_by, work_of}
+use Rattle.pw_cli.specs.Runs.{DrivesBy, IsSettled, IsWithin, Obeys, RegistersHeld, SteersBy, driving_by, form_of, names_in, steering_by, work_of}
 use Rattle.pw_cli.proofs.Driving.{does_or_failed}
 use Rattle.pw_cli.proofs.Working.{does_or_failed as worked_or_failed}
 
@@ -33,7 +33,7 @@ use Rattle.pw_cli.proofs.Working.{does_or_failed as worked_or_failed}
 pub within_of : (words : List (List ℕ)) (asked : Asked) → AskFor words asked → IsWithin asked
 within_of words (on_blocks task names) is = tt
 within_of words (drive way script names) is = tt
-within_of words (audit step script history names) is = tt
+within_of words (audit review script history names) is = tt
 within_of words (cppc serial script names) is = tt
 within_of words (generate n) is = (few_counted words n is).1
 
@@ -52,7 +52,7 @@ judged_steering false script names before after tells = together_is_judged scrip
 pub command_is_judged : (asked : Asked) (before after : FilesSeen) → before.told ≡ true → IsJudged (work_of asked before after)
 command_is_judged (on_blocks task names) before after tells = judged_of _ (task_is_one task names before after tells)
 command_is_judged (drive way script names) before after tells = judged_by way.serial way.step script names before after tells
-command_is_judged (audit step script history names) before after tells = judged_of _ (reviewing_is_one step script history names before after tells)
+command_is_judged (audit review script history names) before after tells = judged_of _ (reviewing_is_one (form_of review) review.step script history names before after tells)
 command_is_judged (cppc serial script names) before after tells = judged_steering serial script names before after tells
 command_is_judged (generate n) before after tells = judged_of _ (trying_is_one n)
 
@@ -71,7 +71,7 @@ pub settled_is_one : (asked : Asked) (before after : FilesSeen) → before.told 
     → (a b : List ℕ) → (work_of asked before after).text a → (work_of asked before after).text b → a ≡ b
 settled_is_one (on_blocks task names) before after tells is = (task_is_one task names before after tells).texts
 settled_is_one (drive way script names) before after tells is = one_by way.serial way.step script names before after tells is
-settled_is_one (audit step script history names) before after tells is = (reviewing_is_one step script history names before after tells).texts
+settled_is_one (audit review script history names) before after tells is = (reviewing_is_one (form_of review) review.step script history names before after tells).texts
 settled_is_one (cppc serial script names) before after tells is = one_steering serial script names before after tells is
 settled_is_one (generate n) before after tells is = (trying_is_one n).texts
 
@@ -88,7 +88,7 @@ unread_steering false script names before after none u = never_unread_cppc scrip
 pub none_unread : (asked : Asked) (before after : FilesSeen) → NoneFailed (names_in asked) before after → (work_of asked before after).read_fault → ⊥
 none_unread (on_blocks task names) before after none u = never_read_fault names before after none u
 none_unread (drive way script names) before after none u = unread_by way.serial way.step script names before after none u
-none_unread (audit step script history names) before after none u = never_unread_audit step script history names before after none u
+none_unread (audit review script history names) before after none u = never_unread_audit (form_of review) review.step script history names before after none u
 none_unread (cppc serial script names) before after none u = unread_steering serial script names before after none u
 none_unread (generate n) before after none u = u
 
@@ -127,7 +127,7 @@ did_or_lost (drive way script names) within sealed before after status text line
       | inl did ↦ inl did
       | inr f ↦ inr (record { five = f.five; unheld = λ held. held f.rose; made = f.made })
     ]
-did_or_lost (audit step script history names) within sealed before after status text line o = inl o.0
+did_or_lost (audit review script history names) within sealed before after status text line o = inl o.0
 did_or_lost (cppc serial script names) within sealed before after status text line o =
     elim (steered_or_lost serial script names before after status text line o.0) [
       | inl did ↦ inl did
@@ -159,7 +159,7 @@ refusal_status (drive way script names) before after status line refusal = elim 
   | inl one ↦ inl one
   | inr seven ↦ inr (inl seven)
 ]
-refusal_status (audit step script history names) before after status line refusal = refusal_is_1_7_or_8 step script history names before status line refusal
+refusal_status (audit review script history names) before after status line refusal = refusal_is_1_7_or_8 (form_of review) review.step script history names before status line refusal
 refusal_status (cppc serial script names) before after status line refusal = elim (status_steering serial script names before after status line refusal) [
   | inl one ↦ inl one
   | inr seven ↦ inr (inl seven)

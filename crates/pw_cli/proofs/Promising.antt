@@ -1,5 +1,6 @@
 -- What a drive promises follows from how it ends.
 use Rattle.std.proofs.Common.{◌≡◌, ◌<◌, ◌≤◌, ◌^◌, ◌++◌, ◌∷◌, ◌⊎◌, ◌∙◌, ℕ, Bool, true, false, List, [], take, drop, Option, Some, None, inl, inr, refl, sym, subst, arith, eq-eqb}
+use Rattle.std.specs.Prelude.{◌↔◌}
 use Rattle.std.proofs.lemmas.List.{take-append-drop}
 use Rattle.acpi_values.specs.declared.dependency.Coord.TheVariants.{SwAll, HwAll}
 use Rattle.std.specs.List.{AllByRecursion}
@@ -28,6 +29,7 @@ use Rattle.pw_script.specs.declared.script.Line.{Line as line}
 use Rattle.pw_script.specs.HistoryText.{history_text}
 use Rattle.pw_script.specs.Lawful.{HasLine, IsRunOf}
 use Rattle.pw_script.specs.Reading.{operations, requests_of}
+use Rattle.pw_script.specs.Wholes.{IsWhole}
 use Rattle.pw_script.proofs.Beginnings.{history_lines-append}
 use Rattle.pw_script.proofs.Determined.{text-tells}
 use Rattle.pw_script.proofs.Lined.{entry_line}
@@ -36,6 +38,10 @@ use Rattle.pw_script.proofs.Orders.{serial_lawful}
 use Rattle.pw_drive.specs.Driven.{OperatesFor, stopped_at}
 use Rattle.pw_drive.specs.Drives.{Runs, TellSeats}
 use Rattle.pw_turns.specs.declared.close.Sealed.{Sealed}
+use Rattle.pw_audit.specs.declared.form.Form.{Form}
+use Rattle.pw_audit.specs.declared.form.Form.TheVariants.{History, Trace}
+use Rattle.pw_audit.specs.Traces.{IsSortedFrom, IsWholeAs}
+use Rattle.pw_words.specs.declared.command.Review.{Review}
 use Rattle.pw_words.specs.declared.command.Way.{Way}
 use Rattle.pw_words.specs.Words.{AskFor, Asked}
 use Rattle.pw_words.specs.Words.Asked.{on_blocks, drive, audit, generate}
@@ -53,7 +59,7 @@ use Rattle.pw_runs.specs.Runs.DrivesSerially.{stopped, drove}
 use Rattle.pw_runs.specs.Runs.PrintsRun.{whole, write_fault, failed, failed_write_fault, without_memory}
 use Rattle.pw_runs.specs.Workers.Drives.{stopped as work_stopped, opened as work_opened, drove as workers_drove}
 use Rattle.pw_runs.proofs.Paths.{planned_segments}
-use Rattle.pw_cli.specs.Runs.{DrivesBy, EndsBy, Obeys, Ran, work_of}
+use Rattle.pw_cli.specs.Runs.{DrivesBy, EndsBy, Obeys, Ran, form_of, work_of}
 use Rattle.pw_cli.specs.Runs.EndsBy.{misworded, commanded}
 use Rattle.pw_cli.specs.Runs.EndsBy.{without_memory as without_memory_of}
 use Rattle.pw_runs.specs.Trials.{Generates, IsMachine, PrintsSummary}
@@ -295,19 +301,30 @@ keeps_task words task names sealed before after asks tells ran =
       still = o.1;
     }
 
-pub keeps_audit : ObjectLaws → ChoiceLaws → (words : List (List ℕ)) (step : Bool) (script history : List ℕ) (names : List (List ℕ)) (sealed : Option Sealed) (before after : Seen)
-    → AskFor words (audit step script history names) → Ran words sealed before after 0 → KeepsAudit step script history names before after
-keeps_audit laws choices words step script history names sealed before after asks ran =
-    let o = obeyed (audit step script history names) asks ran.way refl in
-    let made = does_whole (audit step script history names) before after 0 ran.text ran.line o.0 refl in
+-- what texts are to histories
+pub record TextLaws : Type 0 where
+  pub history : (P : Plan) (asked : List Request) (text : List ℕ) → IsWholeAs History P asked text ↔ IsWhole P asked text
+  pub sorts : (P : Plan) (asked : List Request) (trace : List ℕ) → IsWholeAs Trace P asked trace
+      → (history : List ℕ) × IsWhole P asked history × IsSortedFrom P trace history
+
+pub keeps_audit : ObjectLaws → ChoiceLaws → TextLaws → (words : List (List ℕ)) (review : Review) (script history : List ℕ) (names : List (List ℕ)) (sealed : Option Sealed) (before after : Seen)
+    → AskFor words (audit review script history names) → Ran words sealed before after 0 → KeepsAudit (form_of review) review.step script history names before after
+keeps_audit laws choices texts words review script history names sealed before after asks ran =
+    let o = obeyed (audit review script history names) asks ran.way refl in
+    let made = does_whole (audit review script history names) before after 0 ran.text ran.line o.0 refl in
+    let asked = requests_of made.lines in
+    let told : (form : Form) → form_of review ≡ form → IsWholeAs form made.plan asked made.held.bytes = λ form is.
+    subst (λ (f : Form). IsWholeAs f made.plan asked made.held.bytes) is made.held.is.whole in
     record {
       plan = made.plan;
       machine = machine_in laws before.files names made.plan made.given.planned;
       lines = made.lines;
-      scripted = λ tells. says_lines choices before.files script made.plan step made.lines (made.given.scripted tells);
+      scripted = λ tells. says_lines choices before.files script made.plan review.step made.lines (made.given.scripted tells);
       few = made.given.few;
       entries = made.entries;
       held = made.held;
+      plain = λ is. (texts.history made.plan asked made.held.bytes).0 (told History is);
+      sorts = λ is. texts.sorts made.plan asked made.held.bytes (told Trace is);
       printed = subst (Grew before.outputs.out after.outputs.out) made.says ran.on_out;
       still = o.1;
     }

@@ -109,8 +109,8 @@ module _ (before after : Seen) (room : MOST_OPERATIONS ≤ before.regs.room) whe
     status_is = drives_not_5 way.step script names sealed way.serial status text said o (does_not 5 (inr refl) (drive way script names) before after status text said);
     count = drives_counts way.step script names sealed way.serial status text said o;
   }
-  obeyed_spared (audit step script history names) sealed status text said o = record {
-    status_is = does_not 5 (inr refl) (audit step script history names) before after status text said o.0;
+  obeyed_spared (audit review script history names) sealed status text said o = record {
+    status_is = does_not 5 (inr refl) (audit review script history names) before after status text said o.0;
     count = counted before after o.1;
   }
   obeyed_spared (cppc serial script names) sealed status text said o = record {

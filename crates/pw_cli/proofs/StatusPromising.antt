@@ -87,9 +87,9 @@ module _ (before after : FilesSeen) where
   unread : (asked : Asked) → (work_of asked before after).read_fault → Failing before after (names_in asked)
   unread (on_blocks task names) u = in_blocks names u
   unread (drive way script names) u = driving_unread way.serial way.step script names u
-  unread (audit step script history names) (inl u) = behind script (history ∷ names) (behind history names (in_blocks names u))
-  unread (audit step script history names) (inr (inl u)) = in_front script (history ∷ names) u.rose
-  unread (audit step script history names) (inr (inr u)) = behind script (history ∷ names) (in_front history names u.rose)
+  unread (audit review script history names) (inl u) = behind script (history ∷ names) (behind history names (in_blocks names u))
+  unread (audit review script history names) (inr (inl u)) = in_front script (history ∷ names) u.rose
+  unread (audit review script history names) (inr (inr u)) = behind script (history ∷ names) (in_front history names u.rose)
   unread (cppc serial script names) u = steering_unread serial script names u
   unread (generate n) u = absurd u
 
@@ -104,7 +104,7 @@ stable a b h small = elim (cases_lt a b) [
 lost_by : (asked : Asked) (before after : Seen) (status : ℕ) → Lost asked before after status → Operates asked × Rose before.regs.faults after.regs.faults
 lost_by (on_blocks task names) before after status lost = absurd (lost.unheld tt)
 lost_by (drive way script names) before after status lost = (tt, stable before.regs.faults after.regs.faults lost.unheld)
-lost_by (audit step script history names) before after status lost = absurd (lost.unheld tt)
+lost_by (audit review script history names) before after status lost = absurd (lost.unheld tt)
 lost_by (cppc serial script names) before after status lost = (tt, stable before.regs.faults after.regs.faults lost.unheld)
 lost_by (generate n) before after status lost = (tt, stable before.regs.faults after.regs.faults lost.unheld)
 
@@ -208,8 +208,8 @@ module _ (before after : Seen) where
       → Came before.files asked text line
   said_failed (on_blocks task names) sealed status text line o five = absurd (does_not 5 (inr refl) (on_blocks task names) before after status text line o.0 five)
   said_failed (drive way script names) sealed status text line o five = drive_said way.serial way.step script names sealed status text line o five
-  said_failed (audit step script history names) sealed status text line o five =
-      absurd (does_not 5 (inr refl) (audit step script history names) before after status text line o.0 five)
+  said_failed (audit review script history names) sealed status text line o five =
+      absurd (does_not 5 (inr refl) (audit review script history names) before after status text line o.0 five)
   said_failed (cppc serial script names) sealed status text line o five = cppc_said serial script names status text line o.0 five
   said_failed (generate n) sealed status text line o five = load_said n sealed status text line o five
 
@@ -267,7 +267,7 @@ module _ (words : List (List ℕ)) (before after : Seen) where
       → after.regs ≡ before.regs
   still_by (on_blocks task names) sealed status text line o none = o.1
   still_by (drive way script names) sealed status text line o none = absurd (none tt)
-  still_by (audit step script history names) sealed status text line o none = o.1
+  still_by (audit review script history names) sealed status text line o none = o.1
   still_by (cppc serial script names) sealed status text line o none = absurd (none tt)
   still_by (generate n) sealed status text line o none = absurd (none tt)
 

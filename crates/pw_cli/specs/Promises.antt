@@ -34,6 +34,10 @@ use Rattle.pw_script.specs.HistoryText.{history_lines, history_text, lines_from}
 use Rattle.pw_script.specs.Lawful.{HasLine, IsRunOf}
 use Rattle.pw_script.specs.Reading.{operations, refused, requests_of}
 use Rattle.pw_script.specs.Telling.{unseated}
+use Rattle.pw_script.specs.Wholes.{IsWhole}
+use Rattle.pw_audit.specs.declared.form.Form.{Form}
+use Rattle.pw_audit.specs.declared.form.Form.TheVariants.{History, Trace}
+use Rattle.pw_audit.specs.Traces.{IsSortedFrom}
 use Rattle.pw_drive.specs.Drives.{TellSeats}
 use Rattle.pw_load.specs.Seen.{Seen}
 use Rattle.pw_load.specs.Steps.{AreHeldBy}
@@ -44,7 +48,7 @@ use Rattle.pw_generate.specs.Machines.{machine_block}
 use Rattle.pw_generate.specs.Summary.{AddsUp, labelled, summary_text}
 use Rattle.pw_generate.specs.Tables.{container_idle, cpu_idle, cpu_perf, machine_header}
 use Rattle.pw_governor.specs.Choices.{IsLawful, Suits, choice}
-use Rattle.pw_runs.specs.Histories.{HoldHistory, lawful_line}
+use Rattle.pw_runs.specs.Histories.{HoldText, lawful_line}
 use Rattle.pw_runs.specs.Scripts.{AreLinesIn}
 use Rattle.pw_runs.specs.Trials.{IsSummaryOf}
 use Rattle.pw_cli.specs.Machines.{IsMachineIn, IsMachineOf}
@@ -191,8 +195,8 @@ pub record KeepsGenerate (n : ℕ) (before after : Seen) : Type 0 where
 
 -- # An audit
 
--- What `audit` promises where it ends with status 0, and files that tell.
-pub record KeepsAudit (step : Bool) (script history : List ℕ) (names : List (List ℕ)) (before after : Seen) : Type 0 where
+-- What `audit` promises where it ends with status 0, and files that tell, of a history and of a trace.
+pub record KeepsAudit (form : Form) (step : Bool) (script history : List ℕ) (names : List (List ℕ)) (before after : Seen) : Type 0 where
   pub plan : Plan
   pub machine : IsMachineIn before.files names plan
   pub lines : List line
@@ -200,7 +204,10 @@ pub record KeepsAudit (step : Bool) (script history : List ℕ) (names : List (L
   pub few : operations plan lines ≤ MOST_OPERATIONS
   -- the history's file has the whole text of a run of this script, and this many entries are in it, which is what was printed
   pub entries : ℕ
-  pub held : HoldHistory before.files history plan (requests_of lines) entries
+  pub held : HoldText form before.files history plan (requests_of lines) entries
+  -- without `--trace` it is the text of a history, and with it the same once its operations are sorted
+  pub plain : form ≡ History → IsWhole plan (requests_of lines) held.bytes
+  pub sorts : form ≡ Trace → (text : List ℕ) × IsWhole plan (requests_of lines) text × IsSortedFrom plan held.bytes text
   pub printed : Grew before.outputs.out after.outputs.out (lawful_line entries)
   pub still : after.regs ≡ before.regs
 

@@ -1,12 +1,15 @@
 -- How a run of the program ends.
-use Rattle.std.specs.Prelude.{◌≡◌, ◌≢◌, ◌≤◌, ◌∷◌, ℕ, Bool, true, false, List, [], codes, Option, None}
+use Rattle.std.specs.Prelude.{◌≡◌, ◌≢◌, ◌≤◌, ◌∷◌, ℕ, Bool, true, false, List, [], codes, Option, None, if◌then◌else◌}
 use Rattle.std.proofs.Common.{◌⊎◌}
 use Rattle.pw_base.specs.Outside.{Rose}
 use Rattle.pw_base.specs.Seen.{FilesSeen}
+use Rattle.pw_words.specs.declared.command.Review.{Review}
 use Rattle.pw_words.specs.declared.command.WordsFault.{WordsFault}
 use Rattle.pw_words.specs.declared.command.WordsFault.TheVariants.{Refused, Memory}
 use Rattle.pw_words.specs.Words.{AskFor, Asked, IsCommand}
 use Rattle.pw_words.specs.Words.Asked.{on_blocks, drive, audit, cppc, generate}
+use Rattle.pw_audit.specs.declared.form.Form.{Form}
+use Rattle.pw_audit.specs.declared.form.Form.TheVariants.{History, Trace}
 use Rattle.pw_load.specs.Seen.{Seen, NoneFailed}
 use Rattle.pw_load.specs.Ends.{Does, Ended, EndedSo, EndedWell, Work}
 use Rattle.pw_tasks.specs.Tasks.{work_on}
@@ -30,11 +33,15 @@ abbrev pub steering_by : (serial : Bool) → (script : List ℕ) → (names : Li
 steering_by true script names before after = steering script names before after
 steering_by false script names before after = steering_together script names before after
 
+-- the form of a text that is audited
+abbrev pub form_of : Review → Form
+form_of review = if review.trace then Trace else History
+
 -- what a command does, which words ask for: of `drive`, `cppc` and `generate` what they do where no register fails
 abbrev pub work_of : Asked → FilesSeen → FilesSeen → Work
 work_of (on_blocks task names) before after = work_on task names before after
 work_of (drive way script names) before after = driving_by way.serial way.step script names before after
-work_of (audit step script history names) before after = reviewing step script history names before after
+work_of (audit review script history names) before after = reviewing (form_of review) review.step script history names before after
 work_of (cppc serial script names) before after = steering_by serial script names before after
 work_of (generate n) before after = trying n
 
@@ -42,7 +49,7 @@ work_of (generate n) before after = trying n
 abbrev pub names_in : Asked → List (List ℕ)
 names_in (on_blocks task names) = names
 names_in (drive way script names) = script ∷ names
-names_in (audit step script history names) = script ∷ history ∷ names
+names_in (audit review script history names) = script ∷ history ∷ names
 names_in (cppc serial script names) = script ∷ names
 names_in (generate n) = []
 
@@ -82,8 +89,8 @@ Obeys (on_blocks task names) sealed before after status text line =
     OnlyDoes (work_on task names before.files after.files) sealed before after status text line
 Obeys (drive way script names) sealed before after status text line =
     DrivesBy way.serial way.step script names sealed before after status text line
-Obeys (audit step script history names) sealed before after status text line =
-    OnlyDoes (reviewing step script history names before.files after.files) sealed before after status text line
+Obeys (audit review script history names) sealed before after status text line =
+    OnlyDoes (reviewing (form_of review) review.step script history names before.files after.files) sealed before after status text line
 Obeys (cppc serial script names) sealed before after status text line =
     SteersBy serial script names before after status text line × (sealed ≡ None)
 Obeys (generate n) sealed before after status text line =
@@ -128,7 +135,7 @@ EndsSo before after status so text line = EndedSo before.outputs after.outputs s
 abbrev pub RegistersHeld : Asked → Seen → Seen → Type 0
 RegistersHeld (on_blocks task names) before after = Unit {0}
 RegistersHeld (drive way script names) before after = Rose before.regs.faults after.regs.faults → ⊥
-RegistersHeld (audit step script history names) before after = Unit {0}
+RegistersHeld (audit review script history names) before after = Unit {0}
 RegistersHeld (cppc serial script names) before after = Rose before.regs.faults after.regs.faults → ⊥
 RegistersHeld (generate n) before after = Rose before.regs.faults after.regs.faults → ⊥
 

@@ -31,7 +31,7 @@ pub record Says (before after : Outputs) (text line : List ℕ) : Type 0 where
 abbrev pub Operates : Asked → Type 0
 Operates (on_blocks task names) = ⊥
 Operates (drive way script names) = Unit {0}
-Operates (audit step script history names) = ⊥
+Operates (audit review script history names) = ⊥
 Operates (cppc serial script names) = Unit {0}
 Operates (generate n) = Unit {0}
 

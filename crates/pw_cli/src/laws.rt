@@ -1,5 +1,6 @@
 //! What the program promises, in the words of the machine (`docs/PROMISES.md`).
 ghost use Rattle.std.specs.Prelude.{◌≡◌, ℕ, Bool, List, Option, false, true};
+ghost use Rattle.pw_words.specs.declared.command.Review.{Review as review};
 ghost use Rattle.pw_words.specs.declared.command.Task.{Task as task};
 ghost use Rattle.pw_words.specs.declared.command.Task.TheVariants.{Check, Rewrite, Show, ShowAsJson};
 ghost use Rattle.pw_words.specs.declared.command.Way.{Way as way};
@@ -7,7 +8,7 @@ ghost use Rattle.pw_words.specs.Words.{AskFor};
 ghost use Rattle.pw_words.specs.Words.Asked.{audit, cppc, drive, generate, on_blocks};
 ghost use Rattle.pw_load.specs.Seen.{Seen};
 ghost use Rattle.pw_turns.specs.declared.close.Sealed.{Sealed as sealed};
-ghost use Rattle.pw_cli.specs.Runs.{IsComplete, Ran};
+ghost use Rattle.pw_cli.specs.Runs.{IsComplete, Ran, form_of};
 ghost use Rattle.pw_cli.specs.BlockPromises.{KeepsCheck, KeepsRewrite, KeepsShow};
 ghost use Rattle.pw_cli.specs.CppcPromises.{KeepsCppc};
 ghost use Rattle.pw_cli.specs.Promises.{KeepsAudit, KeepsDrive, KeepsGenerate, KeepsTask};
@@ -17,6 +18,7 @@ use acpi_build::{
     notes_have_causes, parents_are_innermost, processors_and_containers, tables_are_meant,
 };
 use acpi_space::first_dsdt_tells_widths;
+use pw_audit::{histories_are_traces, traces_sort_to_histories};
 use pw_governor::choices_are_deepest;
 
 /// Where `run` ends with status 0 on words that ask for a drive, on one thread or by workers, of files
@@ -55,17 +57,21 @@ pub fn loads_keep_their_promise()
     first_dsdt_tells_widths();
 }
 
-/// So it is of `audit`: the file has a whole history that the script allows.
+/// So it is of `audit`: the file has a whole history that the script allows, or with `--trace` a whole
+/// trace of one.
 pub fn audits_keep_their_promise()
-    ensures { (words : List (List ℕ)) (step : Bool) (script history : List ℕ) (names : List (List ℕ))
-        (s : Option sealed) (before after : Seen) → AskFor words (audit step script history names)
-        → Ran words s before after 0 → KeepsAudit step script history names before after }
+    ensures { (words : List (List ℕ)) (how : review) (script history : List ℕ) (names : List (List ℕ))
+        (s : Option sealed) (before after : Seen) → AskFor words (audit how script history names)
+        → Ran words s before after 0
+        → KeepsAudit (form_of how) how.step script history names before after }
 {
     processors_and_containers();
     parents_are_innermost();
     tables_are_meant();
     first_dsdt_tells_widths();
     choices_are_deepest();
+    histories_are_traces();
+    traces_sort_to_histories();
 }
 
 /// So it is of `show`, `rewrite`, `check` and `lint`: the one text of the only blocks that the files' bytes

@@ -8,14 +8,15 @@ ghost use Rattle.pw_load.specs.Ends.{Ended};
 ghost use Rattle.pw_load.specs.Seen.{all_seen, outputs_seen};
 ghost use Rattle.pw_script.specs.declared.script.TheConstants.{MOST_OPERATIONS};
 ghost use Rattle.pw_cli.specs.Runs.{DrivesBy, IsComplete, IsSpared, IsWithin, Obeys, Ran, SteersBy};
-ghost use Rattle.pw_cli.specs.Runs.{words_line, words_status};
+ghost use Rattle.pw_cli.specs.Runs.{form_of, words_line, words_status};
 
+use pw_audit::Form;
 use pw_base::{Files, Gate, Sink};
 use pw_load::{say, without_memory};
 use pw_regs::Registers;
 use pw_runs::{Outcome, audit, cppc, cppc_serially, drive, drive_serially, generate};
 use pw_tasks::do_on_blocks;
-use pw_words::{Command, Way, WordsFault, command_of};
+use pw_words::{Command, Review, Way, WordsFault, command_of};
 use std::alloc::Global;
 use std::sync::Wait;
 use std::thread::Threads;
@@ -77,6 +78,17 @@ fn steer_by<T: Threads + Wait + Sync, F: Files, K: Sink, R: Registers + Send>(
     }
 }
 
+/// The form of a text that is audited.
+fn form_of(review: Review) -> Form
+    ensures { result ≡ form_of review }
+{
+    if review.trace {
+        Form::Trace
+    } else {
+        Form::History
+    }
+}
+
 /// Does what a command asks for.
 fn obey<T: Threads + Wait + Sync, F: Files, K: Sink, R: Registers + Send, G: Gate + Sync>(
     rt: &T,
@@ -123,14 +135,15 @@ fn obey<T: Threads + Wait + Sync, F: Files, K: Sink, R: Registers + Send, G: Gat
             gate,
         ),
         Command::Audit {
-            step,
+            review,
             script,
             history,
             blocks,
         } => {
             let status = audit(
                 alloc,
-                *step,
+                form_of(*review),
+                review.step,
                 script,
                 history,
                 blocks.as_slice(),

@@ -1,22 +1,25 @@
--- The text of a history tells how many entries it has.
-use Rattle.std.proofs.Common.{◌≡◌, ◌<◌, ◌==◌, ◌/◌, ◌%◌, ◌+◌, ℕ, zero, suc, Bool, true, false, cond, List, [], ◌∷◌, ◌++◌, map, length, decimal, Option, refl, sym, ap, ◌∙◌, arith, nat_lt}
+-- The text of a history, or a trace of one, tells how many entries it has.
+use Rattle.std.proofs.Common.{◌≡◌, ◌<◌, ◌==◌, ◌/◌, ◌%◌, ◌+◌, ℕ, zero, suc, Bool, true, false, cond, List, [], ◌∷◌, ◌++◌, map, take, length, decimal, Option, Some, None, sym, ap, ◌∙◌, inl, inr, arith, nat_lt, refl}
 use Rattle.std.specs.Fmt.{digit_glyph, digits, digits_onto}
 use Rattle.std.proofs.lemmas.Bool.{lt-ltb}
 use Rattle.acpi_values.specs.declared.operation.Op.{Op}
 use Rattle.acpi_values.specs.declared.operation.Op.TheVariants.{Set, Enter}
 use Rattle.pw_plan.specs.declared.plan.Plan.{Plan}
 use Rattle.pw_plan.specs.declared.request.Request.{Request}
+use Rattle.pw_plan.proofs.Lists.{each_append}
 use Rattle.pw_model.specs.declared.entry.HistoryEntry.{HistoryEntry}
 use Rattle.pw_model.specs.declared.state.State.{State}
 use Rattle.pw_model.specs.States.{opening}
 use Rattle.pw_model.specs.History.{after_entry, entry_ops, request_of}
-use Rattle.pw_script.specs.HistoryText.{history_lines, history_text, lines_from, op_line, outcome_words, request_line}
-use Rattle.pw_script.specs.Lawful.{Lawful}
+use Rattle.pw_model.specs.Operations.{opening_ops}
+use Rattle.pw_script.specs.HistoryText.{op_line, opening_lines, outcome_words, request_line}
 use Rattle.pw_script.specs.Telling.{HasSegments}
-use Rattle.pw_script.proofs.Cuts.{Over, ended-same}
-use Rattle.pw_script.proofs.Determined.{lines-over, opening-same}
-use Rattle.pw_script.proofs.Narrow.{lawful-opening}
+use Rattle.pw_script.proofs.Cuts.{AllOver, Over, ended-same}
 use Rattle.pw_script.proofs.TextWords.{decimal-over}
+use Rattle.pw_audit.specs.declared.form.Form.{Form}
+use Rattle.pw_audit.specs.declared.form.Form.TheVariants.{History, Trace}
+use Rattle.pw_audit.specs.Traces.{IsWholeAs, Opens, Tells, TellsOps}
+use Rattle.pw_audit.proofs.Told.{opens_over, tells_over}
 
 -- # Lines that begin with a number
 
@@ -64,24 +67,51 @@ heads_ops P [] lines = refl
 heads_ops P (Set p r v ∷ os) lines = heads_ops P os lines
 heads_ops P (Enter p composite ∷ os) lines = heads_ops P os lines
 
-heads_from : (P : Plan) (es : List HistoryEntry) (S : State) (n : ℕ) → heads (lines_from P S n es) ≡ length es
-heads_from P [] S n = refl
-heads_from P (e ∷ es) S n =
+heads_told : (form : Form) (P : Plan) (os : List Op) (ls lines : List (List ℕ)) → TellsOps form P os ls → heads (ls ++ lines) ≡ heads lines
+heads_told History P os ls lines told = ap (λ (l : List (List ℕ)). heads (l ++ lines)) told ∙ heads_ops P os lines
+heads_told Trace P os ls lines told = ap (λ (l : List (List ℕ)). heads (l ++ lines)) told.is ∙ heads_ops P told.done lines
+
+heads_from : (form : Form) (P : Plan) (es : List HistoryEntry) (S : State) (n : ℕ) (ls : List (List ℕ)) → Tells form P S n es ls → heads ls ≡ length es
+heads_from form P [] S n ls t = ap heads t
+heads_from form P (e ∷ es) S n ls t =
     let head = head_entry P n e.cpu (request_of e) (outcome_words P S e) in
-    let rest = lines_from P (after_entry P S e) (n + 1) es in
-    let ops = heads_ops P (entry_ops P S e) rest in
-    let later = heads_from P es (after_entry P S e) (n + 1) in
-    ap (λ (b : Bool). cond b (suc (heads (map (op_line P) (entry_ops P S e) ++ rest))) (heads (map (op_line P) (entry_ops P S e) ++ rest))) head
+    let ops = heads_told form P (entry_ops P S e) t.ops t.later t.tells in
+    let later = heads_from form P es (after_entry P S e) (n + 1) t.later t.goes_on in
+    ap heads t.is
+    ∙ ap (λ (b : Bool). cond b (suc (heads (t.ops ++ t.later))) (heads (t.ops ++ t.later))) head
     ∙ ap (λ (k : ℕ). suc k) (ops ∙ later)
+
+-- # The lines of an opening
+
+heads_opening : (P : Plan) (o : Option ℕ) (lines : List (List ℕ)) → heads (opening_lines P o ++ lines) ≡ suc (heads lines)
+heads_opening P None lines = ap (λ (k : ℕ). suc k) (heads_ops P (opening_ops P) lines)
+heads_opening P (Some k) lines = ap (λ (k : ℕ). suc k) (heads_ops P (take k (opening_ops P)) lines)
+
+heads_opened : (form : Form) (P : Plan) (o : Option ℕ) (first lines : List (List ℕ)) → Opens form P o first → heads (first ++ lines) ≡ suc (heads lines)
+heads_opened History P o first lines is = ap (λ (l : List (List ℕ)). heads (l ++ lines)) is ∙ heads_opening P o lines
+heads_opened Trace P None first lines (inl is) = ap (λ (l : List (List ℕ)). heads (l ++ lines)) is
+heads_opened Trace P None first lines (inr is) = ap (λ (l : List (List ℕ)). heads (l ++ lines)) is ∙ heads_opening P None lines
+heads_opened Trace P (Some k) first lines is = ap (λ (l : List (List ℕ)). heads (l ++ lines)) is ∙ heads_opening P (Some k) lines
 
 -- # Texts
 
-module _ (P : Plan) (tell : HasSegments P) (asked : List Request) where
-  -- two histories of one text have as many entries
-  pub same_count : (a b : Option ℕ) (es fs : List HistoryEntry) → Lawful P asked a es → Lawful P asked b fs → history_text P a es ≡ history_text P b fs
-      → length es ≡ length fs
-  unfolding history_text history_lines
-  same_count a b es fs lawful_a lawful_b e =
-      let lines = ended-same 10 (history_lines P a es) (history_lines P b fs) (lines-over P tell a es) (lines-over P tell b fs) e in
-      let parts = opening-same P tell a b (lines_from P (opening P) 1 es) (lines_from P (opening P) 1 fs) (lawful-opening P asked a es lawful_a) (lawful-opening P asked b fs lawful_b) lines in
-      sym (heads_from P es (opening P) 1) ∙ ap heads parts.1 ∙ heads_from P fs (opening P) 1
+module _ (form : Form) (P : Plan) (tell : HasSegments P) (asked : List Request) (text : List ℕ) where
+  abbrev lines : IsWholeAs form P asked text → List (List ℕ)
+  lines w = w.is.first ++ w.is.later
+
+  lines_over : (w : IsWholeAs form P asked text) → AllOver 10 (lines w)
+  lines_over w =
+      each_append (Over 10) w.is.first w.is.later (opens_over P tell form w.o w.is.first w.is.opens)
+      (tells_over P tell form w.entries (opening P) 1 w.is.later w.is.tells)
+
+  heads_text : (w : IsWholeAs form P asked text) → heads (lines w) ≡ suc (length w.entries)
+  heads_text w =
+      heads_opened form P w.o w.is.first w.is.later w.is.opens
+      ∙ ap (λ (k : ℕ). suc k) (heads_from form P w.entries (opening P) 1 w.is.later w.is.tells)
+
+  -- as which histories a text is whole, they have as many entries
+  pub same_count : (a b : IsWholeAs form P asked text) → length a.entries ≡ length b.entries
+  same_count a b =
+      let same = ended-same 10 (lines a) (lines b) (lines_over a) (lines_over b) (sym a.is.is ∙ b.is.is) in
+      let counts = sym (heads_text a) ∙ ap heads same ∙ heads_text b in
+      omega (arith, counts)

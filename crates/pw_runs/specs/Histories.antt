@@ -1,40 +1,43 @@
--- The history in a file: a whole text that a script allows, or why it is none, and the line that says so.
+-- The history or the trace in a file: a whole text that a script allows, or why it is none, and the line that says so.
 use Rattle.std.specs.Prelude.{◌≡◌, ◌<◌, ℕ, List, [], ◌∷◌, codes, decimal, length, Some}
 use Rattle.pw_base.specs.Seen.{FilesSeen, OfFiles}
 use Rattle.pw_plan.specs.declared.plan.Plan.{Plan}
 use Rattle.pw_plan.specs.declared.request.Request.{Request}
 use Rattle.pw_text.specs.Lines.{line_of}
-use Rattle.pw_script.specs.Wholes.{IsWhole, pieces_of}
+use Rattle.pw_script.specs.Wholes.{pieces_of}
 use Rattle.pw_audit.specs.declared.answer.AuditFault.{AuditFault}
 use Rattle.pw_audit.specs.declared.answer.AuditFault.TheVariants.{TooLong, Wrong, Unfinished, Memory}
 use Rattle.pw_audit.specs.declared.answer.TheConstants.{MOST_BYTES}
-use Rattle.pw_audit.specs.Audited.{IsShort, IsUnfinished, IsWrong}
+use Rattle.pw_audit.specs.declared.form.Form.{Form}
+use Rattle.pw_audit.specs.Audited.{IsShort}
+use Rattle.pw_audit.specs.Traces.{IsUnfinishedAs, IsWholeAs, IsWrongAs}
 
 -- # What bytes are
 
--- Bytes are the whole text of what may come of a script's lines, with so many entries.
-pub record IsHistory (P : Plan) (asked : List Request) (bytes : List ℕ) (entries : ℕ) : Type 0 where
+-- Bytes are the whole text of what may come of a script's lines, a history or a trace of it, with so many entries.
+pub record IsText (form : Form) (P : Plan) (asked : List Request) (bytes : List ℕ) (entries : ℕ) : Type 0 where
   pub short : IsShort bytes
-  pub whole : IsWhole P asked bytes
+  pub whole : IsWholeAs form P asked bytes
   pub count : entries ≡ length whole.entries
 
 -- Bytes are no such text: they are too many, or a line is wrong, or they end before the text does.
-pub data IsNoHistory (P : Plan) (asked : List Request) (bytes : List ℕ) : AuditFault → Type 0 where
-  too_long : MOST_BYTES < length bytes → IsNoHistory P asked bytes (TooLong MOST_BYTES)
-  wrong : {line : ℕ} → IsShort bytes → IsWrong P asked bytes line → IsNoHistory P asked bytes (Wrong line)
-  unfinished : IsShort bytes → IsUnfinished P asked bytes → IsNoHistory P asked bytes (Unfinished (length (pieces_of bytes)))
+pub data IsNoText (form : Form) (P : Plan) (asked : List Request) (bytes : List ℕ) : AuditFault → Type 0 where
+  too_long : MOST_BYTES < length bytes → IsNoText form P asked bytes (TooLong MOST_BYTES)
+  wrong : {line : ℕ} → IsShort bytes → IsWrongAs form P asked bytes line → IsNoText form P asked bytes (Wrong line)
+  unfinished : IsShort bytes → IsUnfinishedAs form P asked bytes → IsNoText form P asked bytes (Unfinished (length (pieces_of bytes)))
 
 -- # What is held under its name, where files tell
 
-pub record HoldHistory (files : FilesSeen) (name : List ℕ) (P : Plan) (asked : List Request) (entries : ℕ) : Type 0 where
+pub record HoldText (form : Form) (files : FilesSeen) (name : List ℕ) (P : Plan) (asked : List Request) (entries : ℕ) : Type 0 where
   pub bytes : List ℕ
   pub held : OfFiles files (λ holds. holds name ≡ Some bytes)
-  pub is : IsHistory P asked bytes entries
+  pub is : IsText form P asked bytes entries
 
-pub record HoldNoHistory (files : FilesSeen) (name : List ℕ) (P : Plan) (asked : List Request) (fault : AuditFault) : Type 0 where
+pub record HoldNoText (form : Form) (files : FilesSeen) (name : List ℕ) (P : Plan) (asked : List Request) (fault : AuditFault)
+    : Type 0 where
   pub bytes : List ℕ
   pub held : OfFiles files (λ holds. holds name ≡ Some bytes)
-  pub fails : IsNoHistory P asked bytes fault
+  pub fails : IsNoText form P asked bytes fault
 
 -- # The lines
 
@@ -49,7 +52,7 @@ history_line (Wrong line) = line_of (codes "history:" ∷ codes "line" ∷ decim
 history_line (Unfinished lines) = line_of (codes "history:" ∷ codes "ends" ∷ codes "after" ∷ decimal lines ∷ codes "lines" ∷ [])
 history_line Memory = codes "no memory\n"
 
--- the status where there is no history
+-- the status where there is none
 abbrev pub history_status : AuditFault → ℕ
 history_status (TooLong bound) = 8
 history_status (Wrong line) = 8

@@ -12,6 +12,7 @@ use crate::audit_print::print_lawful;
 use crate::audit_refusal::refuse_history;
 use crate::history::{Unlawful, read_history};
 use crate::read_given;
+use pw_audit::Form;
 use pw_base::{Files, Sink};
 use pw_load::{read_fault, without_memory};
 use pw_plan::Plan;
@@ -19,9 +20,10 @@ use pw_script::Script;
 use pw_text::Page;
 use std::alloc::Global;
 
-/// Judges the history in the file of this name, by the plan and the script that are given, with an empty
-/// page. It says the status.
+/// Judges the history in the file of this name, a text of this form, by the plan and the script that are
+/// given, with an empty page. It says the status.
 fn judge<F: Files, K: Sink>(
+    form: Form,
     alloc: Global,
     files: &mut F,
     name: &str,
@@ -35,22 +37,23 @@ fn judge<F: Files, K: Sink>(
     ensures keeps_files { KeepsFiles F.told F.holds F.faults files.old files.new }
     ensures keeps_out { KeepsSink K.told K.faults out.old out.new }
     ensures keeps_err { KeepsSink K.told K.faults err.old err.new }
-    ensures did { Did (judging (files_seen F.Files files.old) (files_seen F.Files files.new) name.now
+    ensures did { Did (judging form (files_seen F.Files files.old) (files_seen F.Files files.new) name.now
         plan.now (requests_of script.now.lines))
         (outputs_seen K.Sink out.old err.old) (outputs_seen K.Sink out.new err.new) result }
 {
-    match read_history(alloc, files, name, plan, script) {
+    match read_history(form, alloc, files, name, plan, script) {
         Ok(entries) => print_lawful(page, out, err, entries),
         Err(Unlawful::Unread) => read_fault(err),
         Err(Unlawful::Fault(fault)) => refuse_history(page, err, fault),
     }
 }
 
-/// Does `audit`: whether the history in a file is one that the script allows on the machine that the
-/// blocks describe, wherever it came from. The blocks come first, then the script, and then the history.
-/// Says the status.
+/// Does `audit`: whether the history in a file, printed or as a trace of a running system, is one that
+/// the script allows on the machine that the blocks describe, wherever it came from. The blocks come
+/// first, then the script, and then the history. Says the status.
 pub fn audit<F: Files, K: Sink>(
     alloc: Global,
+    form: Form,
     step: bool,
     script: &str,
     history: &str,
@@ -62,7 +65,7 @@ pub fn audit<F: Files, K: Sink>(
     ensures keeps_files { KeepsFiles F.told F.holds F.faults files.old files.new }
     ensures keeps_out { KeepsSink K.told K.faults out.old out.new }
     ensures keeps_err { KeepsSink K.told K.faults err.old err.new }
-    ensures did { Did (reviewing step script.now history.now (names_of blocks.now)
+    ensures did { Did (reviewing form step script.now history.now (names_of blocks.now)
         (files_seen F.Files files.old) (files_seen F.Files files.new))
         (outputs_seen K.Sink out.old err.old) (outputs_seen K.Sink out.new err.new) result }
 {
@@ -71,6 +74,8 @@ pub fn audit<F: Files, K: Sink>(
     };
     match read_given(alloc, files, step, script, blocks, &mut page, err) {
         Err(status) => status,
-        Ok((plan, lines)) => judge(alloc, files, history, &plan, &lines, &mut page, out, err),
+        Ok((plan, lines)) => judge(
+            form, alloc, files, history, &plan, &lines, &mut page, out, err,
+        ),
     }
 }

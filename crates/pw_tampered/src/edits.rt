@@ -29,6 +29,32 @@ fn is_dropped(edit: &str, number: usize) -> bool {
     }
 }
 
+/// The other one of two lines that an edit exchanges: `swap ONE OTHER`.
+fn swapped(edit: &str, number: usize) -> Option<usize> {
+    let one = u32_at(edit, 1)? as usize;
+    let other = u32_at(edit, 2)? as usize;
+    if word_at(edit, 0) != Some("swap") {
+        return None;
+    }
+    if one == number {
+        return Some(other);
+    }
+    if other == number {
+        return Some(one);
+    }
+    None
+}
+
+/// The line that edits put at the place of the line of this number.
+fn placed<'a>(text: &'a str, edits: &str, number: usize, line: &'a str) -> &'a str {
+    for edit in edits.lines() {
+        if let Some(other) = swapped(edit, number) {
+            return text.lines().nth(other.saturating_sub(1)).unwrap_or(line);
+        }
+    }
+    line
+}
+
 /// What edits make of the line of this number.
 fn shown<'a>(edits: &'a str, number: usize, line: &'a str) -> &'a str {
     for edit in edits.lines() {
@@ -59,14 +85,14 @@ fn put_edited(out: &mut Vec<u8>, edits: &str, number: usize, line: &str) -> Opti
     out.extend_from_slice(end.as_bytes()).ok()
 }
 
-/// A text as edits change it: `put LINE TEXT`, `drop FROM TO`, `returns` for a carriage return before
-/// each line feed, and `unended` without the last line feed.
+/// A text as edits change it: `put LINE TEXT`, `drop FROM TO`, `swap ONE OTHER`, `returns` for a carriage
+/// return before each line feed, and `unended` without the last line feed.
 fn edited(alloc: Global, text: &str, edits: &str) -> Option<Vec<u8>> {
     let mut out = Vec::new(alloc);
     let mut number = 0usize;
     for line in text.lines() {
         number = number.saturating_add(1);
-        put_edited(&mut out, edits, number, line)?;
+        put_edited(&mut out, edits, number, placed(text, edits, number, line))?;
     }
     if is_asked(edits, "unended") {
         out.pop()?;
@@ -74,11 +100,17 @@ fn edited(alloc: Global, text: &str, edits: &str) -> Option<Vec<u8>> {
     Some(out)
 }
 
-/// What the audit says of the text of one caller, after these edits.
+/// What the audit says of the text of one caller, after these edits; with `traced` as of a trace.
 pub(crate) fn tell_edited(alloc: Global, edits: &str) -> Option<String> {
     let played = left_alone(alloc, CONTAINERS)?;
     let changed = edited(alloc, from_utf8(played.text.written()).ok()?, edits)?;
     let mut text = String::new(alloc);
-    put_said(&mut text, alloc, CONTAINERS, changed.as_slice())?;
+    put_said(
+        &mut text,
+        alloc,
+        CONTAINERS,
+        changed.as_slice(),
+        is_asked(edits, "traced"),
+    )?;
     Some(text)
 }

@@ -1,4 +1,4 @@
-use pw_audit::{Audit, AuditFault, audit};
+use pw_audit::{Audit, AuditFault, audit, audit_trace};
 use pw_played::machine_of;
 use std::alloc::Global;
 
@@ -19,14 +19,19 @@ fn put_answer(text: &mut String, answer: &Result<Audit, AuditFault>) -> Option<(
     }
 }
 
-/// Tells what the audit says of a text of the load for so many containers.
+/// Tells what the audit says of a text of the load for so many containers, as a history or as a trace.
 pub(crate) fn put_said(
     text: &mut String,
     alloc: Global,
     containers: u32,
     history: &[u8],
+    traced: bool,
 ) -> Option<()> {
     let (plan, script) = machine_of(alloc, containers)?;
-    let answer = audit(alloc, &plan, &script, history);
+    let answer = if traced {
+        audit_trace(alloc, &plan, &script, history)
+    } else {
+        audit(alloc, &plan, &script, history)
+    };
     put_answer(text, &answer)
 }

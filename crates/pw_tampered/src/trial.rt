@@ -221,7 +221,7 @@ pub(crate) fn put_part(
     let all = tamper(alloc, containers, whole, lines.as_slice(), picked, picked)?;
     let (count, size) = (lines.len(), whole.len());
     write!(text, "{count} lines, {size} bytes, ").ok()?;
-    put_said(text, alloc, containers, whole.as_bytes())?;
+    put_said(text, alloc, containers, whole.as_bytes(), false)?;
     text.push_str("\n").ok()?;
     all.put(text)
 }

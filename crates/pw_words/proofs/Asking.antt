@@ -7,6 +7,7 @@ use Rattle.std.proofs.lemmas.Result.{MatchResult-weaker}
 use Rattle.clap.specs.Walk.{Row, Text, all_of}
 use Rattle.clap.specs.Simple.{subcommand_of}
 use Rattle.pw_words.specs.declared.command.Command.{Command}
+use Rattle.pw_words.specs.declared.command.Review.{Review}
 use Rattle.pw_words.specs.declared.command.Task.{Task}
 use Rattle.pw_words.specs.declared.command.Task.TheVariants.{Show, ShowAsJson, Rewrite, Check, Lint}
 use Rattle.pw_words.specs.declared.command.Way.{Way}
@@ -15,8 +16,8 @@ use Rattle.pw_words.specs.declared.command.WordsFault.TheVariants.{Refused}
 use Rattle.pw_words.specs.Command.{asked_of}
 use Rattle.pw_words.specs.Stated.{Enters, IsRefused, IsTaken, is_used}
 use Rattle.pw_words.specs.App.{line_app}
-use Rattle.pw_words.specs.Words.{AreMiscounted, AreStated, AskFor, Asked, IsCommand, IsCount, IsLine, Say, SayTask, SayWay}
-use Rattle.pw_words.specs.Words.{command_name, is_plain, moved, task_name}
+use Rattle.pw_words.specs.Words.{AreMiscounted, AreStated, AskFor, Asked, IsCommand, IsCount, IsLine, Say, SayReview, SayTask}
+use Rattle.pw_words.specs.Words.{SayWay, command_name, is_plain, moved, task_name}
 use Rattle.pw_words.specs.Words.Asked.{audit, cppc, drive, generate, on_blocks}
 use Rattle.pw_words.specs.inner.Reading.{Reads, given}
 use Rattle.pw_words.proofs.Bounds.{HasFew}
@@ -50,6 +51,13 @@ way_by rows = record { serial = is_used (codes "serial") rows; step = is_used (c
 is_way : (way : Way) (rows : List Row) → SayWay rows way → way_by rows ≡ way
 is_way way rows said = ap₂ (λ (x y : Bool). (let w : Way = record { serial = x; step = y } in w)) said.0 said.1
 
+-- the review that is
+abbrev review_by : List Row → Review
+review_by rows = record { step = is_used (codes "step") rows; trace = is_used (codes "trace") rows }
+
+is_review : (review : Review) (rows : List Row) → SayReview rows review → review_by rows ≡ review
+is_review review rows said = ap₂ (λ (x y : Bool). (let r : Review = record { step = x; trace = y } in r)) said.0 said.1
+
 one_said : (a b : Asked) (rows : List Row) → command_name a ≡ command_name b → Say rows a → Say rows b → a ≡ b
 one_said (on_blocks s us) (on_blocks t vs) rows same p q =
     let task = sym (is_task s rows p.0) ∙ ap (λ n. task_by n (is_used (codes "json") rows)) same ∙ is_task t rows q.0 in
@@ -59,8 +67,9 @@ one_said (drive s x us) (drive t y vs) rows same p q =
     let names = ap₂ (drive s) (inside x y (sym p.1 ∙ q.1)) (inside us vs (sym p.2 ∙ q.2)) in
     names ∙ ap (λ (w : Way). drive w y vs) way
 one_said (audit a x z us) (audit b y w vs) rows same p q =
+    let review = sym (is_review a rows p.0) ∙ is_review b rows q.0 in
     let names = ap₂ (audit a x) (inside z w (sym p.2 ∙ q.2)) (inside us vs (sym p.3 ∙ q.3)) in
-    names ∙ ap₂ (λ (c : Bool) (s : Text). audit c s w vs) (sym p.0 ∙ q.0) (inside x y (sym p.1 ∙ q.1))
+    names ∙ ap₂ (λ (r : Review) (s : Text). audit r s w vs) review (inside x y (sym p.1 ∙ q.1))
 one_said (cppc a x us) (cppc b y vs) rows same p q =
     let names = ap₂ (cppc a) (inside x y (sym p.1 ∙ q.1)) (inside us vs (sym p.2 ∙ q.2)) in
     names ∙ ap (λ (c : Bool). cppc c y vs) (sym p.0 ∙ q.0)
@@ -108,7 +117,7 @@ not_miscounted words asked p m =
     go : (a : Asked) → command_name a ≡ codes "generate" → Say m.rows a → ⊥
     go (on_blocks task files) same said = not_generate task same
     go (drive way script files) same said = drive_not_generate same
-    go (audit step script history files) same said = audit_not_generate same
+    go (audit review script history files) same said = audit_not_generate same
     go (cppc serial script files) same said = cppc_not_generate same
     go (generate count) same said = m.unsaid count said
 
@@ -150,10 +159,10 @@ pub few_driven : (words : List Text) (way : Way) (script : Text) (blocks : List 
 few_driven words way script blocks p = by_plainness words (λ e. ((p.plain e).2.some, (p.plain e).2.few))
     (λ e. (let h = p.other e in few_files words blocks (drive way script blocks) h drive_not_generate h.said.2))
 
-pub few_audited : (words : List Text) (step : Bool) (script history : Text) (blocks : List Text)
-    → AskFor words (audit step script history blocks) → HasFew blocks
-few_audited words step script history blocks p = by_plainness words (λ e. ((p.plain e).3.some, (p.plain e).3.few))
-    (λ e. (let h = p.other e in few_files words blocks (audit step script history blocks) h audit_not_generate h.said.3))
+pub few_audited : (words : List Text) (review : Review) (script history : Text) (blocks : List Text)
+    → AskFor words (audit review script history blocks) → HasFew blocks
+few_audited words review script history blocks p = by_plainness words (λ e. ((p.plain e).3.some, (p.plain e).3.few))
+    (λ e. (let h = p.other e in few_files words blocks (audit review script history blocks) h audit_not_generate h.said.3))
 
 pub few_performed : (words : List Text) (serial : Bool) (script : Text) (blocks : List Text)
     → AskFor words (cppc serial script blocks) → HasFew blocks
@@ -188,7 +197,7 @@ counted_line words asked are stated =
     go : (a : Asked) → command_name a ≡ codes "generate" → Say (generate_rows are.0) a → IsLine words a
     go (on_blocks task files) same said = absurd (not_generate task same)
     go (drive way script files) same said = absurd (drive_not_generate same)
-    go (audit step script history files) same said = absurd (audit_not_generate same)
+    go (audit review script history files) same said = absurd (audit_not_generate same)
     go (cppc serial script files) same said = absurd (cppc_not_generate same)
     go (generate count) same said =
         let word = inside said.0 are.0 (sym said.1 ∙ generate_said are.0 are.2) in

@@ -1,157 +1,175 @@
 -- What `audit` makes of the words behind it, where no name begins with a hyphen.
 use Rattle.std.proofs.Common.{◌≡◌, ◌∙◌, ◌∷◌, ◌++◌, Bool, true, false, refl, sym, subst, ap, ap₂, List, [], length, codes, Some, None}
-use Rattle.std.specs.Prelude.{fold, if◌then◌else◌}
+use Rattle.std.specs.Prelude.{fold}
 use Rattle.clap.specs.Walk.{all_of, first_of, Held, Row, Text, Walk, nothing_held, rows_after, finished, settled_rows, walk, walk_from, walked}
 use Rattle.clap.specs.Simple.{Shape}
 use Rattle.clap.specs.Kinds.{Kinds, or_else, range_kinds, values_kinds}
 use Rattle.clap.specs.Faults.{level_fault, settle_fault, walk_fault}
 use Rattle.clap.specs.declared.builder.value_parser.ValueParser.TheVariants as vp
 use Rattle.clap.proofs.OnLiterals.{clap_on_literals}
+use Rattle.pw_words.specs.declared.command.Review.{Review}
 use Rattle.pw_words.specs.App.{audit_app}
 use Rattle.pw_words.specs.Stated.{is_used}
-use Rattle.pw_words.specs.Words.{are_bare, flag_words, is_dashed}
+use Rattle.pw_words.specs.Words.{are_bare, flag_words, is_dashed, review_flags}
 use Rattle.pw_words.proofs.Kept.{level_end}
-use Rattle.pw_words.proofs.Levels.{all_fault, all_walked, files_kinds, flag_row, leaf, or_none, values_none}
+use Rattle.pw_words.proofs.Levels.{all_fault, all_walked, files_kinds, given_rows, leaf, or_none, values_none}
 use Rattle.pw_words.proofs.Walked.{among_files, bare_parts, files_held, held, idle_at, word_turn, word_walked}
 
 -- the subcommand as building leaves it
 abbrev pub audit_leaf : Shape
 audit_leaf = leaf (codes "audit") audit_app.top.rules
 
--- ---- the flag
+-- ---- the flags
 
-abbrev pub step_words : Bool → List Text
-step_words step = flag_words (codes "--step") step
+-- those of a review, by whether each is given
+abbrev pub flags_by : Bool → Bool → List Text
+flags_by step trace = flag_words (codes "--step") step ++ flag_words (codes "--trace") trace
 
--- what it leaves
-abbrev step_rows : Bool → List Row
-step_rows step = if step then flag_row (codes "step") ∷ [] else []
+-- what they leave
+abbrev rows_by : Bool → Bool → List Row
+rows_by step trace = given_rows (codes "step") step ++ given_rows (codes "trace") trace
 
 module _ (words : List Text) where
-  flag_walked : (step : Bool) → walk audit_leaf.rules [] nothing_held (step_words step ++ words)
-      ≡ fold (walked audit_leaf.rules []) (idle_at 1 (held (step_rows step) None)) words
+  flags_walked : (step trace : Bool) → walk audit_leaf.rules [] nothing_held (flags_by step trace ++ words)
+      ≡ fold (walked audit_leaf.rules []) (idle_at 1 (held (rows_by step trace) None)) words
   unfolding clap_on_literals
-  flag_walked true = refl
-  flag_walked false = refl
+  flags_walked true true = refl
+  flags_walked true false = refl
+  flags_walked false true = refl
+  flags_walked false false = refl
 
-  flag_fault : (step : Bool) → walk_fault audit_leaf [] (walk_from nothing_held) (step_words step ++ words)
-      ≡ walk_fault audit_leaf [] (idle_at 1 (held (step_rows step) None)) words
+  flags_fault : (step trace : Bool) → walk_fault audit_leaf [] (walk_from nothing_held) (flags_by step trace ++ words)
+      ≡ walk_fault audit_leaf [] (idle_at 1 (held (rows_by step trace) None)) words
   unfolding clap_on_literals
-  flag_fault true = refl
-  flag_fault false = refl
+  flags_fault true true = refl
+  flags_fault true false = refl
+  flags_fault false true = refl
+  flags_fault false false = refl
 
-no_names : (step : Bool) → level_fault audit_leaf [] nothing_held (step_words step ++ []) false [] ≡ files_kinds []
+no_names : (step trace : Bool) → level_fault audit_leaf [] nothing_held (flags_by step trace ++ []) false [] ≡ files_kinds []
 unfolding clap_on_literals
-no_names true = refl
-no_names false = refl
+no_names true true = refl
+no_names true false = refl
+no_names false true = refl
+no_names false false = refl
 
 -- ---- the script
 
 -- what is held at its name
-abbrev script_held : Bool → Text → Held
-script_held step script = held (step_rows step) (Some (codes "script", script ∷ []))
+abbrev script_held : Bool → Bool → Text → Held
+script_held step trace script = held (rows_by step trace) (Some (codes "script", script ∷ []))
 
 -- what is held behind it
-abbrev script_rows : Bool → Text → List Row
-script_rows step script = settled_rows audit_leaf.rules (Some (codes "script", script ∷ [])) (step_rows step)
+abbrev script_rows : Bool → Bool → Text → List Row
+script_rows step trace script = settled_rows audit_leaf.rules (Some (codes "script", script ∷ [])) (rows_by step trace)
 
 module _ (script : Text) (bare : is_dashed script ≡ false) where
-  script_walked : (step : Bool)
-      → walked audit_leaf.rules [] (idle_at 1 (held (step_rows step) None)) script ≡ idle_at 2 (script_held step script)
-  script_walked step = word_walked audit_leaf 1 (codes "script") refl (held (step_rows step) None) script bare refl
+  script_walked : (step trace : Bool)
+      → walked audit_leaf.rules [] (idle_at 1 (held (rows_by step trace) None)) script ≡ idle_at 2 (script_held step trace script)
+  script_walked step trace = word_walked audit_leaf 1 (codes "script") refl (held (rows_by step trace) None) script bare refl
 
-  script_fault : (step : Bool) (words : List Text) → walk_fault audit_leaf [] (idle_at 1 (held (step_rows step) None)) (script ∷ words)
-      ≡ walk_fault audit_leaf [] (idle_at 2 (script_held step script)) words
+  script_fault : (step trace : Bool) (words : List Text) → walk_fault audit_leaf [] (idle_at 1 (held (rows_by step trace) None)) (script ∷ words)
+      ≡ walk_fault audit_leaf [] (idle_at 2 (script_held step trace script)) words
   unfolding walk_fault
-  script_fault step words =
+  script_fault step trace words =
       ap₂ (λ k w. or_else k (walk_fault audit_leaf [] w words))
-      (word_turn audit_leaf 1 (codes "script") refl (held (step_rows step) None) script bare refl) (script_walked step)
+      (word_turn audit_leaf 1 (codes "script") refl (held (rows_by step trace) None) script bare refl) (script_walked step trace)
 
-script_settles : (step : Bool) (script : Text) → settle_fault audit_leaf.rules false (script_held step script) ≡ []
-script_settles true script = refl
-script_settles false script = refl
+script_settles : (step trace : Bool) (script : Text) → settle_fault audit_leaf.rules false (script_held step trace script) ≡ []
+script_settles true true script = refl
+script_settles true false script = refl
+script_settles false true script = refl
+script_settles false false script = refl
 
-script_alone : (step : Bool) (script : Text)
-    → or_else (walk_fault audit_leaf [] (idle_at 2 (script_held step script)) []) (level_end audit_leaf (script_held step script))
+script_alone : (step trace : Bool) (script : Text)
+    → or_else (walk_fault audit_leaf [] (idle_at 2 (script_held step trace script)) []) (level_end audit_leaf (script_held step trace script))
     ≡ files_kinds []
 unfolding clap_on_literals
-script_alone true script = refl
-script_alone false script = refl
+script_alone true true script = refl
+script_alone true false script = refl
+script_alone false true script = refl
+script_alone false false script = refl
 
 -- ---- the history
 
 -- what is held at its name
-abbrev history_held : Bool → Text → Text → Held
-history_held step script history = held (script_rows step script) (Some (codes "history", history ∷ []))
+abbrev history_held : Bool → Bool → Text → Text → Held
+history_held step trace script history = held (script_rows step trace script) (Some (codes "history", history ∷ []))
 
 -- what is held behind it
-abbrev history_rows : Bool → Text → Text → List Row
-history_rows step script history = settled_rows audit_leaf.rules (Some (codes "history", history ∷ [])) (script_rows step script)
+abbrev history_rows : Bool → Bool → Text → Text → List Row
+history_rows step trace script history = settled_rows audit_leaf.rules (Some (codes "history", history ∷ [])) (script_rows step trace script)
 
-module _ (step : Bool) (script history : Text) (bare : is_dashed history ≡ false) where
-  history_walked : walked audit_leaf.rules [] (idle_at 2 (script_held step script)) history ≡ idle_at 3 (history_held step script history)
-  history_walked = word_walked audit_leaf 2 (codes "history") refl (script_held step script) history bare refl
+module _ (step trace : Bool) (script history : Text) (bare : is_dashed history ≡ false) where
+  history_walked : walked audit_leaf.rules [] (idle_at 2 (script_held step trace script)) history ≡ idle_at 3 (history_held step trace script history)
+  history_walked = word_walked audit_leaf 2 (codes "history") refl (script_held step trace script) history bare refl
 
-  history_fault : (words : List Text) → walk_fault audit_leaf [] (idle_at 2 (script_held step script)) (history ∷ words)
-      ≡ walk_fault audit_leaf [] (idle_at 3 (history_held step script history)) words
+  history_fault : (words : List Text) → walk_fault audit_leaf [] (idle_at 2 (script_held step trace script)) (history ∷ words)
+      ≡ walk_fault audit_leaf [] (idle_at 3 (history_held step trace script history)) words
   unfolding walk_fault
   history_fault words =
       ap₂ (λ k w. or_else k (walk_fault audit_leaf [] w words))
-      (word_turn audit_leaf 2 (codes "history") refl (script_held step script) history bare refl ∙ script_settles step script)
+      (word_turn audit_leaf 2 (codes "history") refl (script_held step trace script) history bare refl ∙ script_settles step trace script)
       history_walked
 
-history_settles : (step : Bool) (script history : Text)
-    → settle_fault audit_leaf.rules false (history_held step script history) ≡ []
-history_settles true script history = refl
-history_settles false script history = refl
+history_settles : (step trace : Bool) (script history : Text)
+    → settle_fault audit_leaf.rules false (history_held step trace script history) ≡ []
+history_settles true true script history = refl
+history_settles true false script history = refl
+history_settles false true script history = refl
+history_settles false false script history = refl
 
-history_alone : (step : Bool) (script history : Text)
-    → or_else (walk_fault audit_leaf [] (idle_at 3 (history_held step script history)) [])
-    (level_end audit_leaf (history_held step script history)) ≡ files_kinds []
+history_alone : (step trace : Bool) (script history : Text)
+    → or_else (walk_fault audit_leaf [] (idle_at 3 (history_held step trace script history)) [])
+    (level_end audit_leaf (history_held step trace script history)) ≡ files_kinds []
 unfolding clap_on_literals
-history_alone true script history = refl
-history_alone false script history = refl
+history_alone true true script history = refl
+history_alone true false script history = refl
+history_alone false true script history = refl
+history_alone false false script history = refl
 
--- both names behind the flag
-module _ (step : Bool) (script history : Text) (first : is_dashed script ≡ false) (second : is_dashed history ≡ false) where
-  both_fault : (words : List Text) → walk_fault audit_leaf [] (walk_from nothing_held) (step_words step ++ script ∷ history ∷ words)
-      ≡ walk_fault audit_leaf [] (idle_at 3 (history_held step script history)) words
+-- both names behind the flags
+module _ (step trace : Bool) (script history : Text) (first : is_dashed script ≡ false) (second : is_dashed history ≡ false) where
+  both_fault : (words : List Text) → walk_fault audit_leaf [] (walk_from nothing_held) (flags_by step trace ++ script ∷ history ∷ words)
+      ≡ walk_fault audit_leaf [] (idle_at 3 (history_held step trace script history)) words
   both_fault words =
-      flag_fault (script ∷ history ∷ words) step ∙ script_fault script first step (history ∷ words)
-      ∙ history_fault step script history second words
+      flags_fault (script ∷ history ∷ words) step trace ∙ script_fault script first step trace (history ∷ words)
+      ∙ history_fault step trace script history second words
 
-  both_walk : (words : List Text) → walk audit_leaf.rules [] nothing_held (step_words step ++ script ∷ history ∷ words)
-      ≡ fold (walked audit_leaf.rules []) (idle_at 3 (history_held step script history)) words
+  both_walk : (words : List Text) → walk audit_leaf.rules [] nothing_held (flags_by step trace ++ script ∷ history ∷ words)
+      ≡ fold (walked audit_leaf.rules []) (idle_at 3 (history_held step trace script history)) words
   both_walk words =
-      flag_walked (script ∷ history ∷ words) step
-      ∙ ap (λ w. fold (walked audit_leaf.rules []) w (history ∷ words)) (script_walked script first step)
-      ∙ ap (λ w. fold (walked audit_leaf.rules []) w words) (history_walked step script history second)
+      flags_walked (script ∷ history ∷ words) step trace
+      ∙ ap (λ w. fold (walked audit_leaf.rules []) w (history ∷ words)) (script_walked script first step trace)
+      ∙ ap (λ w. fold (walked audit_leaf.rules []) w words) (history_walked step trace script history second)
 
 -- ---- the files behind them
 
-files_end : (step : Bool) (script history f : Text) (fs : List Text)
-    → level_end audit_leaf (files_held (history_rows step script history) (f ∷ fs))
+files_end : (step trace : Bool) (script history f : Text) (fs : List Text)
+    → level_end audit_leaf (files_held (history_rows step trace script history) (f ∷ fs))
     ≡ or_else (or_else (range_kinds 1 64 (length (f ∷ fs))) (values_kinds false vp.String (f ∷ fs))) []
 unfolding clap_on_literals
-files_end true script history f fs = refl
-files_end false script history f fs = refl
+files_end true true script history f fs = refl
+files_end true false script history f fs = refl
+files_end false true script history f fs = refl
+files_end false false script history f fs = refl
 
-module _ (step : Bool) (script history f : Text) (fs : List Text) (bare : are_bare (script ∷ history ∷ f ∷ fs) ≡ true) where
-  names_fault : walk_fault audit_leaf [] (walk_from nothing_held) (step_words step ++ script ∷ history ∷ f ∷ fs) ≡ []
+module _ (step trace : Bool) (script history f : Text) (fs : List Text) (bare : are_bare (script ∷ history ∷ f ∷ fs) ≡ true) where
+  names_fault : walk_fault audit_leaf [] (walk_from nothing_held) (flags_by step trace ++ script ∷ history ∷ f ∷ fs) ≡ []
   names_fault =
       let one = bare_parts script (history ∷ f ∷ fs) bare in
       let two = bare_parts history (f ∷ fs) one.1 in
-      both_fault step script history one.0 two.0 (f ∷ fs)
-      ∙ all_fault audit_leaf 3 refl (script_rows step script) (Some (codes "history", history ∷ [])) refl f fs two.1
-      ∙ history_settles step script history
+      both_fault step trace script history one.0 two.0 (f ∷ fs)
+      ∙ all_fault audit_leaf 3 refl (script_rows step trace script) (Some (codes "history", history ∷ [])) refl f fs two.1
+      ∙ history_settles step trace script history
 
-  names_walk : walk audit_leaf.rules [] nothing_held (step_words step ++ script ∷ history ∷ f ∷ fs)
-      ≡ among_files 3 (history_rows step script history) (f ∷ fs)
+  names_walk : walk audit_leaf.rules [] nothing_held (flags_by step trace ++ script ∷ history ∷ f ∷ fs)
+      ≡ among_files 3 (history_rows step trace script history) (f ∷ fs)
   names_walk =
       let one = bare_parts script (history ∷ f ∷ fs) bare in
       let two = bare_parts history (f ∷ fs) one.1 in
-      both_walk step script history one.0 two.0 (f ∷ fs)
-      ∙ all_walked audit_leaf 3 refl (script_rows step script) (Some (codes "history", history ∷ [])) refl f fs two.1
+      both_walk step trace script history one.0 two.0 (f ∷ fs)
+      ∙ all_walked audit_leaf 3 refl (script_rows step trace script) (Some (codes "history", history ∷ [])) refl f fs two.1
 
 -- what the number of names is refused for
 abbrev pub audited_kinds : List Text → Kinds
@@ -159,46 +177,52 @@ audited_kinds [] = files_kinds []
 audited_kinds (script ∷ []) = files_kinds []
 audited_kinds (script ∷ history ∷ files) = files_kinds files
 
-pub audit_level : (step : Bool) (names : List Text) → are_bare names ≡ true
-    → level_fault audit_leaf [] nothing_held (step_words step ++ names) false [] ≡ audited_kinds names
-audit_level step [] bare = no_names step
-audit_level step (script ∷ []) bare =
+level_by : (step trace : Bool) (names : List Text) → are_bare names ≡ true
+    → level_fault audit_leaf [] nothing_held (flags_by step trace ++ names) false [] ≡ audited_kinds names
+level_by step trace [] bare = no_names step trace
+level_by step trace (script ∷ []) bare =
     let one = bare_parts script [] bare in
     ap₂ (λ k (w : Walk). or_else k (level_end audit_leaf w.held))
-    (flag_fault (script ∷ []) step ∙ script_fault script one.0 step [])
-    (flag_walked (script ∷ []) step ∙ script_walked script one.0 step)
-    ∙ script_alone step script
-audit_level step (script ∷ history ∷ []) bare =
+    (flags_fault (script ∷ []) step trace ∙ script_fault script one.0 step trace [])
+    (flags_walked (script ∷ []) step trace ∙ script_walked script one.0 step trace)
+    ∙ script_alone step trace script
+level_by step trace (script ∷ history ∷ []) bare =
     let one = bare_parts script (history ∷ []) bare in
     let two = bare_parts history [] one.1 in
     ap₂ (λ k (w : Walk). or_else k (level_end audit_leaf w.held))
-    (both_fault step script history one.0 two.0 []) (both_walk step script history one.0 two.0 [])
-    ∙ history_alone step script history
-audit_level step (script ∷ history ∷ f ∷ fs) bare =
-    ap₂ (λ k (w : Walk). or_else k (level_end audit_leaf w.held)) (names_fault step script history f fs bare)
-    (names_walk step script history f fs bare)
-    ∙ files_end step script history f fs
+    (both_fault step trace script history one.0 two.0 []) (both_walk step trace script history one.0 two.0 [])
+    ∙ history_alone step trace script history
+level_by step trace (script ∷ history ∷ f ∷ fs) bare =
+    ap₂ (λ k (w : Walk). or_else k (level_end audit_leaf w.held)) (names_fault step trace script history f fs bare)
+    (names_walk step trace script history f fs bare)
+    ∙ files_end step trace script history f fs
     ∙ ap (λ k. or_else (or_else (range_kinds 1 64 (length (f ∷ fs))) k) []) (values_none (f ∷ fs))
     ∙ or_none _ ∙ or_none _
 
+pub audit_level : (review : Review) (names : List Text) → are_bare names ≡ true
+    → level_fault audit_leaf [] nothing_held (review_flags review ++ names) false [] ≡ audited_kinds names
+audit_level review names bare = level_by review.step review.trace names bare
+
 -- ---- the matches
 
-abbrev pub audit_rows : Bool → List Text → List Row
-audit_rows step names = rows_after audit_leaf.rules [] (step_words step ++ names)
+abbrev pub audit_rows : Review → List Text → List Row
+audit_rows review names = rows_after audit_leaf.rules [] (review_flags review ++ names)
 
 -- they say what is asked for
-abbrev Tell : Bool → Text → Text → List Text → List Row → Type 0
-Tell step script history files rows =
-    (is_used (codes "step") rows ≡ step) × (first_of (codes "script") rows ≡ Some script)
+abbrev Tell : Bool → Bool → Text → Text → List Text → List Row → Type 0
+Tell step trace script history files rows =
+    ((is_used (codes "step") rows ≡ step) × (is_used (codes "trace") rows ≡ trace)) × (first_of (codes "script") rows ≡ Some script)
     × (first_of (codes "history") rows ≡ Some history) × (all_of (codes "blocks") rows ≡ Some files)
 
-said_by : (step : Bool) (script history f : Text) (fs : List Text)
-    → Tell step script history (f ∷ fs) (finished audit_leaf.rules (files_held (history_rows step script history) (f ∷ fs)))
-said_by true script history f fs = (refl, refl, refl, refl)
-said_by false script history f fs = (refl, refl, refl, refl)
+said_by : (step trace : Bool) (script history f : Text) (fs : List Text)
+    → Tell step trace script history (f ∷ fs) (finished audit_leaf.rules (files_held (history_rows step trace script history) (f ∷ fs)))
+said_by true true script history f fs = ((refl, refl), refl, refl, refl)
+said_by true false script history f fs = ((refl, refl), refl, refl, refl)
+said_by false true script history f fs = ((refl, refl), refl, refl, refl)
+said_by false false script history f fs = ((refl, refl), refl, refl, refl)
 
-pub audit_said : (step : Bool) (script history f : Text) (fs : List Text) → are_bare (script ∷ history ∷ f ∷ fs) ≡ true
-    → Tell step script history (f ∷ fs) (audit_rows step (script ∷ history ∷ f ∷ fs))
-audit_said step script history f fs bare =
-    subst (λ (w : Walk). Tell step script history (f ∷ fs) (finished audit_leaf.rules w.held))
-    (sym (names_walk step script history f fs bare)) (said_by step script history f fs)
+pub audit_said : (review : Review) (script history f : Text) (fs : List Text) → are_bare (script ∷ history ∷ f ∷ fs) ≡ true
+    → Tell review.step review.trace script history (f ∷ fs) (audit_rows review (script ∷ history ∷ f ∷ fs))
+audit_said review script history f fs bare =
+    subst (λ (w : Walk). Tell review.step review.trace script history (f ∷ fs) (finished audit_leaf.rules w.held))
+    (sym (names_walk review.step review.trace script history f fs bare)) (said_by review.step review.trace script history f fs)

@@ -1,6 +1,6 @@
 -- What `drive` makes of the words behind it, where no name begins with a hyphen.
 use Rattle.std.proofs.Common.{◌≡◌, ◌∙◌, ◌∷◌, ◌++◌, Bool, true, false, refl, sym, subst, ap, ap₂, List, [], length, codes, Some, None}
-use Rattle.std.specs.Prelude.{fold, if◌then◌else◌}
+use Rattle.std.specs.Prelude.{fold}
 use Rattle.clap.specs.Walk.{all_of, first_of, Held, Row, Text, Walk, nothing_held, rows_after, finished, settled_rows, walk, walk_from, walked}
 use Rattle.clap.specs.Simple.{Shape}
 use Rattle.clap.specs.Kinds.{Kinds, or_else, range_kinds, values_kinds}
@@ -12,7 +12,7 @@ use Rattle.pw_words.specs.App.{drive_app}
 use Rattle.pw_words.specs.Stated.{is_used}
 use Rattle.pw_words.specs.Words.{SayWay, are_bare, flag_words, is_dashed, way_flags}
 use Rattle.pw_words.proofs.Kept.{level_end}
-use Rattle.pw_words.proofs.Levels.{all_fault, all_walked, files_kinds, flag_row, leaf, or_none, values_none}
+use Rattle.pw_words.proofs.Levels.{all_fault, all_walked, files_kinds, given_rows, leaf, or_none, values_none}
 use Rattle.pw_words.proofs.Walked.{among_files, bare_parts, files_held, held, idle_at, word_turn, word_walked}
 
 -- the subcommand as building leaves it
@@ -25,12 +25,9 @@ drive_leaf = leaf (codes "drive") drive_app.top.rules
 abbrev pub flags_by : Bool → Bool → List Text
 flags_by serial step = flag_words (codes "--serial") serial ++ flag_words (codes "--step") step
 
-abbrev flag_rows : Text → Bool → List Row
-flag_rows name given = if given then flag_row name ∷ [] else []
-
 -- what they leave
 abbrev rows_by : Bool → Bool → List Row
-rows_by serial step = flag_rows (codes "serial") serial ++ flag_rows (codes "step") step
+rows_by serial step = given_rows (codes "serial") serial ++ given_rows (codes "step") step
 
 module _ (words : List Text) where
   flags_walked : (serial step : Bool) → walk drive_leaf.rules [] nothing_held (flags_by serial step ++ words)

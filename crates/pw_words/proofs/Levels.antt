@@ -1,6 +1,6 @@
 -- What each subcommand makes of the words behind its name, where no file's name begins with a hyphen.
-use Rattle.std.proofs.Common.{◌≡◌, ◌∙◌, ◌∷◌, ◌++◌, ℕ, true, false, refl, sym, subst, ap, ap₂, List, [], length, codes, Option, Some, None}
-use Rattle.std.specs.Prelude.{fold}
+use Rattle.std.proofs.Common.{◌≡◌, ◌∙◌, ◌∷◌, ◌++◌, ℕ, Bool, true, false, refl, sym, subst, ap, ap₂, List, [], length, codes, Option, Some, None}
+use Rattle.std.specs.Prelude.{fold, if◌then◌else◌}
 use Rattle.clap.specs.Walk.{all_of, Row, Rule, Text, Walk, arg_by_index, is_pending, nothing_held, rows_after, finished, settled_rows}
 use Rattle.clap.specs.Walk.{walk, walk_from, walked}
 use Rattle.clap.specs.Simple.{Shape, filled_from, new_shape}
@@ -97,6 +97,10 @@ flag_row name = record {
   source = Some CommandLine;
   reading = reading.AsWritten;
 }
+
+-- and so does one only where it is given
+abbrev pub given_rows : Text → Bool → List Row
+given_rows name given = if given then flag_row name ∷ [] else []
 
 -- ---- a task's flags and files
 

@@ -18,15 +18,16 @@ use Rattle.clap.proofs.OnLiterals.{clap_on_literals}
 use Rattle.clap.proofs.WalkLemmas.{both, walk_stopped}
 use Rattle.clap.proofs.SimpleLemmas.{is_false}
 use Rattle.clap.proofs.FaultLemmas.{stopped_fault}
+use Rattle.pw_words.specs.declared.command.Review.{Review}
 use Rattle.pw_words.specs.declared.command.Task.{Task}
 use Rattle.pw_words.specs.declared.command.Task.TheVariants.{Show, ShowAsJson, Rewrite, Check, Lint}
 use Rattle.pw_words.specs.declared.command.Way.{Way}
 use Rattle.pw_words.specs.App.{line_app}
 use Rattle.pw_words.specs.Stated.{IsTaken}
 use Rattle.pw_words.specs.Words.{AreFiles, AreStated, Asked, IsLine, Say, are_bare, are_flags_of, in_table_order, is_among, is_bare}
-use Rattle.pw_words.specs.Words.{is_dashed, is_plain, moved, task_flags, task_name, way_flags}
+use Rattle.pw_words.specs.Words.{is_dashed, is_plain, moved, review_flags, task_flags, task_name, way_flags}
 use Rattle.pw_words.specs.Words.Asked.{audit, cppc, drive, generate, on_blocks}
-use Rattle.pw_words.proofs.Auditing.{audit_leaf, audit_level, audit_rows, audit_said, audited_kinds, step_words}
+use Rattle.pw_words.proofs.Auditing.{audit_leaf, audit_level, audit_rows, audit_said, audited_kinds}
 use Rattle.pw_words.proofs.Bounds.{over}
 use Rattle.pw_words.proofs.Counts.{bare_count}
 use Rattle.pw_words.proofs.Driving.{drive_leaf, drive_level, drive_rows, drive_said, names_kinds}
@@ -188,9 +189,9 @@ drive_fault : (way : Way) (names : List Text) → are_bare names ≡ true
     → fault_of line_app (codes "drive" ∷ way_flags way ++ names) ≡ names_kinds names
 drive_fault way names bare = drive_fault_at (way_flags way ++ names) ∙ drive_level way names bare
 
-audit_fault : (step : Bool) (names : List Text) → are_bare names ≡ true
-    → fault_of line_app (codes "audit" ∷ step_words step ++ names) ≡ audited_kinds names
-audit_fault step names bare = audit_fault_at (step_words step ++ names) ∙ audit_level step names bare
+audit_fault : (review : Review) (names : List Text) → are_bare names ≡ true
+    → fault_of line_app (codes "audit" ∷ review_flags review ++ names) ≡ audited_kinds names
+audit_fault review names bare = audit_fault_at (review_flags review ++ names) ∙ audit_level review names bare
 
 cppc_fault : (serial : Bool) (names : List Text) → are_bare names ≡ true
     → fault_of line_app (codes "cppc" ∷ serial_words serial ++ names) ≡ names_kinds names
@@ -208,11 +209,11 @@ drive_said_of : (way : Way) (script : Text) (files : List Text) → is_dashed sc
 drive_said_of way script [] dash h = let bad = h.some in absurd (omega arith)
 drive_said_of way script (f ∷ fs) dash h = drive_said way script f fs (bare_names script (f ∷ fs) dash h.bare)
 
-audit_said_of : (step : Bool) (script history : Text) (files : List Text) → is_dashed script ≡ false → is_dashed history ≡ false
-    → AreFiles files → Say (audit_rows step (script ∷ history ∷ files)) (audit step script history files)
-audit_said_of step script history [] first second h = let bad = h.some in absurd (omega arith)
-audit_said_of step script history (f ∷ fs) first second h =
-    audit_said step script history f fs (bare_names script (history ∷ f ∷ fs) first (bare_names history (f ∷ fs) second h.bare))
+audit_said_of : (review : Review) (script history : Text) (files : List Text) → is_dashed script ≡ false → is_dashed history ≡ false
+    → AreFiles files → Say (audit_rows review (script ∷ history ∷ files)) (audit review script history files)
+audit_said_of review script history [] first second h = let bad = h.some in absurd (omega arith)
+audit_said_of review script history (f ∷ fs) first second h =
+    audit_said review script history f fs (bare_names script (history ∷ f ∷ fs) first (bare_names history (f ∷ fs) second h.bare))
 
 cppc_said_of : (serial : Bool) (script : Text) (files : List Text) → is_dashed script ≡ false → AreFiles files
     → Say (cppc_rows serial (script ∷ files)) (cppc serial script files)
@@ -232,13 +233,13 @@ line_stated words (drive way script files) h = record {
   command = ap (subcommand_of line_app) h.0 ∙ drive_rows_at (way_flags way ++ script ∷ files);
   said = drive_said_of way script files h.1 h.2;
 }
-line_stated words (audit step script history files) h =
+line_stated words (audit review script history files) h =
     let bare = bare_names script (history ∷ files) h.1 (bare_names history files h.2 h.3.bare) in
     record {
-      rows = audit_rows step (script ∷ history ∷ files);
-      taken = ap (fault_of line_app) h.0 ∙ audit_fault step (script ∷ history ∷ files) bare ∙ files_taken files h.3;
-      command = ap (subcommand_of line_app) h.0 ∙ audit_rows_at (step_words step ++ script ∷ history ∷ files);
-      said = audit_said_of step script history files h.1 h.2 h.3;
+      rows = audit_rows review (script ∷ history ∷ files);
+      taken = ap (fault_of line_app) h.0 ∙ audit_fault review (script ∷ history ∷ files) bare ∙ files_taken files h.3;
+      command = ap (subcommand_of line_app) h.0 ∙ audit_rows_at (review_flags review ++ script ∷ history ∷ files);
+      said = audit_said_of review script history files h.1 h.2 h.3;
     }
 line_stated words (cppc serial script files) h = record {
   rows = cppc_rows serial (script ∷ files);
@@ -257,7 +258,7 @@ line_stated words (generate count) h =
 
 -- ---- plain words that are taken are a line, or `generate` and a word
 
--- the word and the flags, in order, are those of a task, of `drive` in some way, of `audit`, of `cppc`, or of `generate`
+-- the word and the flags, in order, are those of a task, of `drive` in some way, of an `audit`, of `cppc`, or of `generate`
 abbrev IsTask : Text → List Text → Type 0
 IsTask word flags = (task : Task) × (word ≡ task_name task) × (in_table_order word flags ≡ task_flags task)
 
@@ -265,7 +266,7 @@ abbrev IsDrive : Text → List Text → Type 0
 IsDrive word flags = (way : Way) × (word ≡ codes "drive") × (in_table_order word flags ≡ way_flags way)
 
 abbrev IsAudit : Text → List Text → Type 0
-IsAudit word flags = (step : Bool) × (word ≡ codes "audit") × (in_table_order word flags ≡ step_words step)
+IsAudit word flags = (review : Review) × (word ≡ codes "audit") × (in_table_order word flags ≡ review_flags review)
 
 abbrev IsCppc : Text → List Text → Type 0
 IsCppc word flags = (serial : Bool) × (word ≡ codes "cppc") × (in_table_order word flags ≡ serial_words serial)
@@ -284,19 +285,22 @@ show_flags flags = go (is_among flags (codes "--json"))
     go true = (ShowAsJson, refl, refl)
     go false = (Show, refl, refl)
 
+-- those that are there of two flags
+two_flags : (x y : Text) (a b : Bool) → cond a (x ∷ cond b (y ∷ []) []) (cond b (y ∷ []) []) ≡ cond a (x ∷ []) [] ++ cond b (y ∷ []) []
+two_flags x y true b = refl
+two_flags x y false b = refl
+
 drive_flags : (flags : List Text) → IsDrive (codes "drive") flags
 drive_flags flags =
     let serial = is_among flags (codes "--serial") in
     let step = is_among flags (codes "--step") in
-    (record { serial = serial; step = step }, refl, go serial step)
-  where
-    go : (a b : Bool) → cond a (codes "--serial" ∷ cond b (codes "--step" ∷ []) []) (cond b (codes "--step" ∷ []) [])
-        ≡ cond a (codes "--serial" ∷ []) [] ++ cond b (codes "--step" ∷ []) []
-    go true b = refl
-    go false b = refl
+    (record { serial = serial; step = step }, refl, two_flags (codes "--serial") (codes "--step") serial step)
 
 audit_flags : (flags : List Text) → IsAudit (codes "audit") flags
-audit_flags flags = (is_among flags (codes "--step"), refl, refl)
+audit_flags flags =
+    let step = is_among flags (codes "--step") in
+    let trace = is_among flags (codes "--trace") in
+    (record { step = step; trace = trace }, refl, two_flags (codes "--step") (codes "--trace") step trace)
 
 cppc_flags : (flags : List Text) → IsCppc (codes "cppc") flags
 cppc_flags flags = (is_among flags (codes "--serial"), refl, refl)
@@ -352,14 +356,14 @@ drive_line words way (script ∷ files) are bare kinds =
     inl (drive way script files, (are, parts.0, are_files files parts.1 kinds))
 
 -- or a script, a history and files
-audit_line : (words : List Text) (step : Bool) (names : List Text) → words ≡ codes "audit" ∷ step_words step ++ names
+audit_line : (words : List Text) (review : Review) (names : List Text) → words ≡ codes "audit" ∷ review_flags review ++ names
     → are_bare names ≡ true → audited_kinds names ≡ [] → LineOrCount words
-audit_line words step [] are bare kinds = absurd (some_kind [] kind.MissingRequiredArgument kinds)
-audit_line words step (script ∷ []) are bare kinds = absurd (some_kind [] kind.MissingRequiredArgument kinds)
-audit_line words step (script ∷ history ∷ files) are bare kinds =
+audit_line words review [] are bare kinds = absurd (some_kind [] kind.MissingRequiredArgument kinds)
+audit_line words review (script ∷ []) are bare kinds = absurd (some_kind [] kind.MissingRequiredArgument kinds)
+audit_line words review (script ∷ history ∷ files) are bare kinds =
     let one = bare_parts script (history ∷ files) bare in
     let two = bare_parts history files one.1 in
-    inl (audit step script history files, (are, one.0, two.0, are_files files two.1 kinds))
+    inl (audit review script history files, (are, one.0, two.0, are_files files two.1 kinds))
 
 -- or a script and files again
 cppc_line : (words : List Text) (serial : Bool) (names : List Text) → words ≡ codes "cppc" ∷ serial_words serial ++ names
@@ -388,7 +392,7 @@ parted_line word flags names dash bare taken = elim (named flags word) [
       drive_line (word ∷ in_table_order word flags ++ names) t.0 names are bare
       (sym (drive_fault t.0 names bare) ∙ ap (fault_of line_app) (sym are) ∙ taken)
   | inr (inr (inl t)) ↦
-      let are : word ∷ in_table_order word flags ++ names ≡ codes "audit" ∷ step_words t.0 ++ names = ap₂ (λ w xs. w ∷ xs ++ names) t.1 t.2 in
+      let are : word ∷ in_table_order word flags ++ names ≡ codes "audit" ∷ review_flags t.0 ++ names = ap₂ (λ w xs. w ∷ xs ++ names) t.1 t.2 in
       audit_line (word ∷ in_table_order word flags ++ names) t.0 names are bare
       (sym (audit_fault t.0 names bare) ∙ ap (fault_of line_app) (sym are) ∙ taken)
   | inr (inr (inr (inl t))) ↦

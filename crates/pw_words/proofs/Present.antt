@@ -7,6 +7,7 @@ use Rattle.clap.specs.Simple.{Shape}
 use Rattle.clap.specs.Takes.{is_given}
 use Rattle.clap.specs.Faults.{check_fault, level_fault}
 use Rattle.clap.specs.declared.error.kind.ErrorKind.TheVariants as kind
+use Rattle.pw_words.specs.declared.command.Review.{Review}
 use Rattle.pw_words.specs.declared.command.Task.{Task}
 use Rattle.pw_words.specs.declared.command.Task.TheVariants.{Show, ShowAsJson, Rewrite, Check, Lint}
 use Rattle.pw_words.specs.declared.command.Way.{Way}
@@ -300,7 +301,8 @@ said_by name rows (inr (inl h)) =
     let way : Way = record { serial = is_used (codes "serial") rows; step = is_used (codes "step") rows } in
     inl (drive way h.1.0 h.2.0, sym h.0, ((refl, refl), h.1.1, h.2.1))
 said_by name rows (inr (inr (inl h))) =
-    inl (audit (is_used (codes "step") rows) h.1.0 h.2.0 h.3.0, sym h.0, (refl, h.1.1, h.2.1, h.3.1))
+    let review : Review = record { step = is_used (codes "step") rows; trace = is_used (codes "trace") rows } in
+    inl (audit review h.1.0 h.2.0 h.3.0, sym h.0, ((refl, refl), h.1.1, h.2.1, h.3.1))
 said_by name rows (inr (inr (inr (inl h)))) = inl (cppc (is_used (codes "serial") rows) h.1.0 h.2.0, sym h.0, (refl, h.1.1, h.2.1))
 said_by name rows (inr (inr (inr (inr h)))) = said_count name rows h
 

@@ -1,6 +1,6 @@
 -- What `cppc` makes of the words behind it, where no name begins with a hyphen.
 use Rattle.std.proofs.Common.{◌≡◌, ◌∙◌, ◌∷◌, ◌++◌, Bool, true, false, refl, sym, subst, ap, ap₂, List, [], length, codes, Some, None}
-use Rattle.std.specs.Prelude.{fold, if◌then◌else◌}
+use Rattle.std.specs.Prelude.{fold}
 use Rattle.clap.specs.Walk.{all_of, first_of, Held, Row, Text, Walk, nothing_held, rows_after, finished, settled_rows, walk, walk_from, walked}
 use Rattle.clap.specs.Simple.{Shape}
 use Rattle.clap.specs.Kinds.{or_else, range_kinds, values_kinds}
@@ -12,7 +12,7 @@ use Rattle.pw_words.specs.Stated.{is_used}
 use Rattle.pw_words.specs.Words.{are_bare, flag_words, is_dashed}
 use Rattle.pw_words.proofs.Driving.{names_kinds}
 use Rattle.pw_words.proofs.Kept.{level_end}
-use Rattle.pw_words.proofs.Levels.{all_fault, all_walked, files_kinds, flag_row, leaf, or_none, values_none}
+use Rattle.pw_words.proofs.Levels.{all_fault, all_walked, files_kinds, given_rows, leaf, or_none, values_none}
 use Rattle.pw_words.proofs.Walked.{among_files, bare_parts, files_held, held, idle_at, word_turn, word_walked}
 
 -- the subcommand as building leaves it
@@ -26,7 +26,7 @@ serial_words serial = flag_words (codes "--serial") serial
 
 -- what it leaves
 abbrev serial_rows : Bool → List Row
-serial_rows serial = if serial then flag_row (codes "serial") ∷ [] else []
+serial_rows serial = given_rows (codes "serial") serial
 
 module _ (words : List Text) where
   flag_walked : (serial : Bool) → walk cppc_leaf.rules [] nothing_held (serial_words serial ++ words)

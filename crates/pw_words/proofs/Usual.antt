@@ -4,14 +4,15 @@ use Rattle.std.proofs.Common.{List, [], codes, decimal}
 use Rattle.std.specs.Prelude.{reverse}
 use Rattle.std.specs.List.{filter}
 use Rattle.clap.specs.Walk.{Text}
+use Rattle.pw_words.specs.declared.command.Review.{Review}
 use Rattle.pw_words.specs.declared.command.Task.{Task}
 use Rattle.pw_words.specs.declared.command.Task.TheVariants.{Show, ShowAsJson, Rewrite, Check, Lint}
 use Rattle.pw_words.specs.declared.command.Way.{Way}
 use Rattle.pw_words.specs.Words.{AreFiles, AskFor, Asked, IsCount, IsLine, are_bare, are_flags_of, flag_words, in_table_order, is_bare}
-use Rattle.pw_words.specs.Words.{is_dashed, task_flags, task_name, way_flags}
+use Rattle.pw_words.specs.Words.{is_dashed, review_flags, task_flags, task_name, way_flags}
 use Rattle.pw_words.specs.Words.Asked.{audit, cppc, drive, generate, on_blocks}
 use Rattle.pw_words.proofs.Asking.{plain_asks}
-use Rattle.pw_words.proofs.Auditing.{step_words}
+use Rattle.pw_words.proofs.Auditing.{flags_by as review_by}
 use Rattle.pw_words.proofs.Counts.{bare_count}
 use Rattle.pw_words.proofs.Driving.{flags_by}
 use Rattle.pw_words.proofs.Lines.{bare_filtered, bare_names}
@@ -80,92 +81,101 @@ generate_asks count some few =
     parted_asks (codes "generate") (decimal count ∷ []) [] (decimal count ∷ []) (generate count) refl
     (none_dashed (decimal count ∷ []) bare) (all_bare (decimal count ∷ []) bare) refl (decimal count, refl, is)
 
+-- ---- flags in front of the names, or anywhere among them
+
+-- one flag in front, or none
+flag_front : (flag : Text) → is_dashed flag ≡ true → (given : Bool) (names : List Text) → are_bare names ≡ true
+    → (filter is_dashed (flag_words flag given ++ names) ≡ flag_words flag given) × (filter is_bare (flag_words flag given ++ names) ≡ names)
+flag_front flag dash true names bare = (rw dash (ap (λ xs. flag ∷ xs) (none_dashed names bare)), rw dash (all_bare names bare))
+flag_front flag dash false names bare = (none_dashed names bare, all_bare names bare)
+
+-- two of them, one, or none
+abbrev pair_words : Text → Bool → Text → Bool → List Text
+pair_words one first other second = flag_words one first ++ flag_words other second
+
+two_front : (one other : Text) → is_dashed one ≡ true → is_dashed other ≡ true → (first second : Bool) (names : List Text)
+    → are_bare names ≡ true → (filter is_dashed (pair_words one first other second ++ names) ≡ pair_words one first other second)
+    × (filter is_bare (pair_words one first other second ++ names) ≡ names)
+two_front one other dash also true second names bare =
+    let rest = flag_front other also second names bare in
+    (rw dash (ap (λ xs. one ∷ xs) rest.0), rw dash rest.1)
+two_front one other dash also false second names bare = flag_front other also second names bare
+
+-- the command has these flags, all of them in the table's order
+abbrev Ordered : Text → List Text → List Text → Type 0
+Ordered word all flags = (are_flags_of word flags ≡ true) × (in_table_order word flags ≡ all)
+
+-- so they are as the table has them, and turned
+abbrev BothWays : Text → List Text → Type 0
+BothWays word flags = Ordered word flags flags × Ordered word flags (reverse flags)
+
 -- ---- `drive`
 
--- its flags in the table's order, or in the other
-module _ (way : Way) where
-  abbrev Ordered : List Text → Type 0
-  Ordered flags = (are_flags_of (codes "drive") flags ≡ true) × (in_table_order (codes "drive") flags ≡ way_flags way)
-
-  in_order : Ordered (way_flags way)
-  in_order = go way.serial way.step
-    where
-      go : (a b : Bool) → (are_flags_of (codes "drive") (flags_by a b) ≡ true)
-          × (in_table_order (codes "drive") (flags_by a b) ≡ flags_by a b)
-      go true true = (refl, refl)
-      go true false = (refl, refl)
-      go false true = (refl, refl)
-      go false false = (refl, refl)
-
-  turned : Ordered (reverse (way_flags way))
-  turned = go way.serial way.step
-    where
-      go : (a b : Bool) → (are_flags_of (codes "drive") (reverse (flags_by a b)) ≡ true)
-          × (in_table_order (codes "drive") (reverse (flags_by a b)) ≡ flags_by a b)
-      go true true = (refl, refl)
-      go true false = (refl, refl)
-      go false true = (refl, refl)
-      go false false = (refl, refl)
-
--- the flags in front of the names
-front : (serial step : Bool) (names : List Text) → are_bare names ≡ true
-    → (filter is_dashed (flags_by serial step ++ names) ≡ flags_by serial step) × (filter is_bare (flags_by serial step ++ names) ≡ names)
-front true true names bare = (ap (λ xs. codes "--serial" ∷ codes "--step" ∷ xs) (none_dashed names bare), all_bare names bare)
-front true false names bare = (ap (λ xs. codes "--serial" ∷ xs) (none_dashed names bare), all_bare names bare)
-front false true names bare = (ap (λ xs. codes "--step" ∷ xs) (none_dashed names bare), all_bare names bare)
-front false false names bare = (none_dashed names bare, all_bare names bare)
+way_ordered : (serial step : Bool) → BothWays (codes "drive") (flags_by serial step)
+way_ordered true true = ((refl, refl), (refl, refl))
+way_ordered true false = ((refl, refl), (refl, refl))
+way_ordered false true = ((refl, refl), (refl, refl))
+way_ordered false false = ((refl, refl), (refl, refl))
 
 module _ (way : Way) (script : Text) (blocks : List Text) (are : AreFiles blocks) where
-  way_asks : (rest flags : List Text) → Ordered way flags → filter is_dashed rest ≡ flags → filter is_bare rest ≡ script ∷ blocks
-      → is_dashed script ≡ false → AskFor (codes "drive" ∷ rest) (drive way script blocks)
+  way_asks : (rest flags : List Text) → Ordered (codes "drive") (way_flags way) flags → filter is_dashed rest ≡ flags
+      → filter is_bare rest ≡ script ∷ blocks → is_dashed script ≡ false → AskFor (codes "drive" ∷ rest) (drive way script blocks)
   way_asks rest flags order dashed others bare =
       parted_asks (codes "drive") rest flags (script ∷ blocks) (drive way script blocks) refl dashed others order.0
       (ap (λ xs. codes "drive" ∷ xs ++ script ∷ blocks) order.1, bare, are)
 
   pub drive_asks : is_dashed script ≡ false → AskFor (codes "drive" ∷ way_flags way ++ script ∷ blocks) (drive way script blocks)
   drive_asks bare =
-      let parts = front way.serial way.step (script ∷ blocks) (bare_names script blocks bare are.bare) in
-      way_asks (way_flags way ++ script ∷ blocks) (way_flags way) (in_order way) parts.0 parts.1 bare
+      let parts = two_front (codes "--serial") (codes "--step") refl refl way.serial way.step (script ∷ blocks)
+      (bare_names script blocks bare are.bare) in
+      way_asks (way_flags way ++ script ∷ blocks) (way_flags way) (way_ordered way.serial way.step).0 parts.0 parts.1 bare
 
   pub flags_ask : (rest : List Text) → filter is_bare rest ≡ script ∷ blocks
       → (filter is_dashed rest ≡ way_flags way) ⊎ (filter is_dashed rest ≡ reverse (way_flags way))
       → AskFor (codes "drive" ∷ rest) (drive way script blocks)
   flags_ask rest others dashed =
       let bare = (bare_parts script blocks (ap are_bare (sym others) ∙ bare_filtered rest)).0 in
+      let ordered = way_ordered way.serial way.step in
       elim dashed [
-        | inl e ↦ way_asks rest (way_flags way) (in_order way) e others bare
-        | inr e ↦ way_asks rest (reverse (way_flags way)) (turned way) e others bare
+        | inl e ↦ way_asks rest (way_flags way) ordered.0 e others bare
+        | inr e ↦ way_asks rest (reverse (way_flags way)) ordered.1 e others bare
       ]
-
--- one flag in front of the names, or none
-flag_front : (flag : Text) → is_dashed flag ≡ true → (given : Bool) (names : List Text) → are_bare names ≡ true
-    → (filter is_dashed (flag_words flag given ++ names) ≡ flag_words flag given) × (filter is_bare (flag_words flag given ++ names) ≡ names)
-flag_front flag dash true names bare = (rw dash (ap (λ xs. flag ∷ xs) (none_dashed names bare)), rw dash (all_bare names bare))
-flag_front flag dash false names bare = (none_dashed names bare, all_bare names bare)
 
 -- ---- `audit`
 
--- its flag is one, and stays
-step_ordered : (step : Bool) → (are_flags_of (codes "audit") (step_words step) ≡ true)
-    × (in_table_order (codes "audit") (step_words step) ≡ step_words step)
-step_ordered true = (refl, refl)
-step_ordered false = (refl, refl)
+review_ordered : (step trace : Bool) → BothWays (codes "audit") (review_by step trace)
+review_ordered true true = ((refl, refl), (refl, refl))
+review_ordered true false = ((refl, refl), (refl, refl))
+review_ordered false true = ((refl, refl), (refl, refl))
+review_ordered false false = ((refl, refl), (refl, refl))
 
-module _ (step : Bool) (script history : Text) (blocks : List Text) (are : AreFiles blocks) where
-  pub step_asks : (rest : List Text) → filter is_bare rest ≡ script ∷ history ∷ blocks → filter is_dashed rest ≡ step_words step
-      → AskFor (codes "audit" ∷ rest) (audit step script history blocks)
-  step_asks rest others dashed =
-      let one = bare_parts script (history ∷ blocks) (ap are_bare (sym others) ∙ bare_filtered rest) in
-      let two = bare_parts history blocks one.1 in
-      parted_asks (codes "audit") rest (step_words step) (script ∷ history ∷ blocks) (audit step script history blocks) refl dashed others
-      (step_ordered step).0 (ap (λ xs. codes "audit" ∷ xs ++ script ∷ history ∷ blocks) (step_ordered step).1, one.0, two.0, are)
+module _ (review : Review) (script history : Text) (blocks : List Text) (are : AreFiles blocks) where
+  review_asks : (rest flags : List Text) → Ordered (codes "audit") (review_flags review) flags → filter is_dashed rest ≡ flags
+      → filter is_bare rest ≡ script ∷ history ∷ blocks → is_dashed script ≡ false → is_dashed history ≡ false
+      → AskFor (codes "audit" ∷ rest) (audit review script history blocks)
+  review_asks rest flags order dashed others first second =
+      parted_asks (codes "audit") rest flags (script ∷ history ∷ blocks) (audit review script history blocks) refl dashed others order.0
+      (ap (λ xs. codes "audit" ∷ xs ++ script ∷ history ∷ blocks) order.1, first, second, are)
 
   pub audit_asks : is_dashed script ≡ false → is_dashed history ≡ false
-      → AskFor (codes "audit" ∷ step_words step ++ script ∷ history ∷ blocks) (audit step script history blocks)
+      → AskFor (codes "audit" ∷ review_flags review ++ script ∷ history ∷ blocks) (audit review script history blocks)
   audit_asks first second =
       let bare = bare_names script (history ∷ blocks) first (bare_names history blocks second are.bare) in
-      let parts = flag_front (codes "--step") refl step (script ∷ history ∷ blocks) bare in
-      step_asks (step_words step ++ script ∷ history ∷ blocks) parts.1 parts.0
+      let parts = two_front (codes "--step") (codes "--trace") refl refl review.step review.trace (script ∷ history ∷ blocks) bare in
+      review_asks (review_flags review ++ script ∷ history ∷ blocks) (review_flags review) (review_ordered review.step review.trace).0
+      parts.0 parts.1 first second
+
+  pub reviews_ask : (rest : List Text) → filter is_bare rest ≡ script ∷ history ∷ blocks
+      → (filter is_dashed rest ≡ review_flags review) ⊎ (filter is_dashed rest ≡ reverse (review_flags review))
+      → AskFor (codes "audit" ∷ rest) (audit review script history blocks)
+  reviews_ask rest others dashed =
+      let one = bare_parts script (history ∷ blocks) (ap are_bare (sym others) ∙ bare_filtered rest) in
+      let two = bare_parts history blocks one.1 in
+      let ordered = review_ordered review.step review.trace in
+      elim dashed [
+        | inl e ↦ review_asks rest (review_flags review) ordered.0 e others one.0 two.0
+        | inr e ↦ review_asks rest (reverse (review_flags review)) ordered.1 e others one.0 two.0
+      ]
 
 -- ---- `cppc`
 

@@ -33,13 +33,17 @@ way_app = with_rule (with_rule (new_app (codes "drive")) (flag_rule (codes "seri
 abbrev pub drive_app : App
 drive_app = with_rule (with_rule way_app (word_rule (codes "script"))) blocks_rule
 
--- `audit [--step] SCRIPT`, with no further names yet
-abbrev pub step_app : App
-step_app = with_rule (with_rule (new_app (codes "audit")) (flag_rule (codes "step"))) (word_rule (codes "script"))
+-- `audit [--step] [--trace]`, with no names yet
+abbrev pub review_app : App
+review_app = with_rule (with_rule (new_app (codes "audit")) (flag_rule (codes "step"))) (flag_rule (codes "trace"))
 
--- `audit [--step] SCRIPT HISTORY BLOCK..`
+-- `audit [--step] [--trace] SCRIPT HISTORY`, with no blocks yet
+abbrev pub named_app : App
+named_app = with_rule (with_rule review_app (word_rule (codes "script"))) (word_rule (codes "history"))
+
+-- `audit [--step] [--trace] SCRIPT HISTORY BLOCK..`
 abbrev pub audit_app : App
-audit_app = with_rule (with_rule step_app (word_rule (codes "history"))) blocks_rule
+audit_app = with_rule named_app blocks_rule
 
 -- `cppc [--serial]`, with no names yet
 abbrev pub serial_app : App

@@ -15,6 +15,6 @@ slice_texts slices = map (λ s. s.now) slices
 abbrev pub asked_of : Command → Asked
 asked_of (OnBlocks task blocks) = on_blocks task (slice_texts blocks.items)
 asked_of (Drive way script blocks) = drive way script.now (slice_texts blocks.items)
-asked_of (Audit step script history blocks) = audit step script.now history.now (slice_texts blocks.items)
+asked_of (Audit review script history blocks) = audit review script.now history.now (slice_texts blocks.items)
 asked_of (Cppc serial script blocks) = cppc serial script.now (slice_texts blocks.items)
 asked_of (Generate count) = generate count

@@ -7,6 +7,7 @@ use Rattle.std.specs.String.{string_bytes}
 use Rattle.std.specs.declared.alloc.Global.{Global}
 use Rattle.clap.specs.Words.{Row, Text, all_of, first_of}
 use Rattle.pw_words.specs.Stated.{Enters, IsTaken, is_used}
+use Rattle.pw_words.specs.declared.command.Review.{Review}
 use Rattle.pw_words.specs.declared.command.Task.{Task}
 use Rattle.pw_words.specs.declared.command.Task.TheVariants.{Show, ShowAsJson, Rewrite, Check, Lint}
 use Rattle.pw_words.specs.declared.command.Way.{Way}
@@ -21,8 +22,8 @@ pub data Asked : Type 0 where
   on_blocks : Task → List Text → Asked
   -- a script run in this way: the name of its file, and those of the blocks' files
   drive : Way → Text → List Text → Asked
-  -- a history checked against a script and blocks, with `--step` or without: the names of their files, the script's first
-  audit : Bool → Text → Text → List Text → Asked
+  -- a history or a trace checked in this way against a script and blocks: the names of their files, the script's first
+  audit : Review → Text → Text → List Text → Asked
   -- a script of requests for performance run, with `--serial` or without: the name of its file, and those of the blocks' files
   cppc : Bool → Text → List Text → Asked
   -- a machine of so many clusters and a load for it, driven
@@ -51,6 +52,10 @@ flag_words flag given = if given then flag ∷ [] else []
 abbrev pub way_flags : Way → List Text
 way_flags way = flag_words (codes "--serial") way.serial ++ flag_words (codes "--step") way.step
 
+-- those that tell how a text is audited
+abbrev pub review_flags : Review → List Text
+review_flags review = flag_words (codes "--step") review.step ++ flag_words (codes "--trace") review.trace
+
 -- a word that begins with a hyphen, the byte 45
 abbrev pub is_dashed : Text → Bool
 is_dashed [] = false
@@ -77,14 +82,14 @@ pub record IsCount (word : Text) (count : ℕ) : Type 0 where
   pub few : count ≤ 32
 
 -- The words are a line of the table: `show BLOCK..`, `show --json BLOCK..`, `rewrite BLOCK..`, `check BLOCK..`, `lint BLOCK..`,
--- `drive [--serial] [--step] SCRIPT BLOCK..`, `audit [--step] SCRIPT HISTORY BLOCK..`,
+-- `drive [--serial] [--step] SCRIPT BLOCK..`, `audit [--step] [--trace] SCRIPT HISTORY BLOCK..`,
 -- `cppc [--serial] SCRIPT BLOCK..`, `generate N`.
 abbrev pub IsLine : List Text → Asked → Type 0
 IsLine words (on_blocks task blocks) = (words ≡ task_name task ∷ task_flags task ++ blocks) × AreFiles blocks
 IsLine words (drive way script blocks) =
     (words ≡ codes "drive" ∷ way_flags way ++ script ∷ blocks) × (is_dashed script ≡ false) × AreFiles blocks
-IsLine words (audit step script history blocks) =
-    (words ≡ codes "audit" ∷ flag_words (codes "--step") step ++ script ∷ history ∷ blocks) × (is_dashed script ≡ false)
+IsLine words (audit review script history blocks) =
+    (words ≡ codes "audit" ∷ review_flags review ++ script ∷ history ∷ blocks) × (is_dashed script ≡ false)
     × (is_dashed history ≡ false) × AreFiles blocks
 IsLine words (cppc serial script blocks) =
     (words ≡ codes "cppc" ∷ flag_words (codes "--serial") serial ++ script ∷ blocks) × (is_dashed script ≡ false) × AreFiles blocks
@@ -96,7 +101,7 @@ IsLine words (generate count) = (word : Text) × (words ≡ codes "generate" ∷
 abbrev pub flags_of : Text → List Text
 flags_of word = if bytes_eq word (codes "show") then codes "--json" ∷ []
     else (if bytes_eq word (codes "drive") then codes "--serial" ∷ codes "--step" ∷ []
-    else (if bytes_eq word (codes "audit") then codes "--step" ∷ []
+    else (if bytes_eq word (codes "audit") then codes "--step" ∷ codes "--trace" ∷ []
     else (if bytes_eq word (codes "cppc") then codes "--serial" ∷ [] else [])))
 
 -- the word is one of these
@@ -134,22 +139,26 @@ SayTask rows _ = Unit {0}
 abbrev pub SayWay : List Row → Way → Type 0
 SayWay rows way = (is_used (codes "serial") rows ≡ way.serial) × (is_used (codes "step") rows ≡ way.step)
 
+-- the matches say whether each of the flags was given that tell how a text is audited
+abbrev pub SayReview : List Row → Review → Type 0
+SayReview rows review = (is_used (codes "step") rows ≡ review.step) × (is_used (codes "trace") rows ≡ review.trace)
+
 -- the subcommand by which it is asked for
 abbrev pub command_name : Asked → Text
 command_name (on_blocks task blocks) = task_name task
 command_name (drive way script blocks) = codes "drive"
-command_name (audit step script history blocks) = codes "audit"
+command_name (audit review script history blocks) = codes "audit"
 command_name (cppc serial script blocks) = codes "cppc"
 command_name (generate count) = codes "generate"
 
--- The matches of the subcommand have what is asked for: the task, the way or whether `--step` or `--serial` was given, and the names of
+-- The matches of the subcommand have what is asked for: the task, the way, the review or whether `--serial` was given, and the names of
 -- the files; or the number of clusters.
 abbrev pub Say : List Row → Asked → Type 0
 Say rows (on_blocks task blocks) = SayTask rows task × (all_of (codes "blocks") rows ≡ Some blocks)
 Say rows (drive way script blocks) =
     SayWay rows way × (first_of (codes "script") rows ≡ Some script) × (all_of (codes "blocks") rows ≡ Some blocks)
-Say rows (audit step script history blocks) =
-    (is_used (codes "step") rows ≡ step) × (first_of (codes "script") rows ≡ Some script)
+Say rows (audit review script history blocks) =
+    SayReview rows review × (first_of (codes "script") rows ≡ Some script)
     × (first_of (codes "history") rows ≡ Some history) × (all_of (codes "blocks") rows ≡ Some blocks)
 Say rows (cppc serial script blocks) =
     (is_used (codes "serial") rows ≡ serial) × (first_of (codes "script") rows ≡ Some script)

@@ -2,8 +2,8 @@ ghost use Rattle.std.specs.Prelude.{◌≡◌, IfOk, IsOkAnd, false};
 ghost use Rattle.clap.specs.Words.{app_of, rule_of, with_subcommand};
 ghost use Rattle.clap.specs.declared.builder.command.Command.TheViews.{out-Command as fields_of};
 ghost use Rattle.pw_words.specs.App.{audit_app, bare_app, blocks_app, blocks_rule, cppc_app};
-ghost use Rattle.pw_words.specs.App.{drive_app, flag_rule, generate_app, line_app, serial_app};
-ghost use Rattle.pw_words.specs.App.{reading_app, show_app, step_app, way_app, word_rule};
+ghost use Rattle.pw_words.specs.App.{drive_app, flag_rule, generate_app, line_app, review_app};
+ghost use Rattle.pw_words.specs.App.{named_app, reading_app, serial_app, show_app, way_app, word_rule};
 
 use clap::{Arg, ArgAction, Command};
 use std::alloc::{AllocError, Global};
@@ -68,23 +68,32 @@ fn drive<'a>(alloc: Global) -> Result<Command<'a>, AllocError>
         .arg(blocks(alloc))
 }
 
-/// `audit [--step] SCRIPT`, with no further names yet.
-fn audit_script<'a>(alloc: Global) -> Result<Command<'a>, AllocError>
-    ensures app { IfOk result (λ c. app_of c ≡ step_app) }
+/// `audit [--step] [--trace]`, with no names yet.
+fn audit_flags<'a>(alloc: Global) -> Result<Command<'a>, AllocError>
+    ensures app { IfOk result (λ c. app_of c ≡ review_app) }
     ensures local { IfOk result (λ c. (fields_of c).has_globals ≡ false) }
 {
     Command::new(alloc, "audit")
         .arg(flag(alloc, "step"))?
-        .arg(word(alloc, "script"))
+        .arg(flag(alloc, "trace"))
 }
 
-/// `audit [--step] SCRIPT HISTORY BLOCK..`.
+/// `audit [--step] [--trace] SCRIPT HISTORY`, with no blocks yet.
+fn audit_names<'a>(alloc: Global) -> Result<Command<'a>, AllocError>
+    ensures app { IfOk result (λ c. app_of c ≡ named_app) }
+    ensures local { IfOk result (λ c. (fields_of c).has_globals ≡ false) }
+{
+    audit_flags(alloc)?
+        .arg(word(alloc, "script"))?
+        .arg(word(alloc, "history"))
+}
+
+/// `audit [--step] [--trace] SCRIPT HISTORY BLOCK..`.
 fn audit<'a>(alloc: Global) -> Result<Command<'a>, AllocError>
     ensures app { IfOk result (λ c. app_of c ≡ audit_app) }
     ensures local { IfOk result (λ c. (fields_of c).has_globals ≡ false) }
 {
-    let command = audit_script(alloc)?.arg(word(alloc, "history"))?;
-    command.arg(blocks(alloc))
+    audit_names(alloc)?.arg(blocks(alloc))
 }
 
 /// `cppc [--serial]`, with no names yet.

@@ -33,6 +33,15 @@ pub struct Way {
     pub step: bool,
 }
 
+/// How a text is audited.
+#[derive(Clone, Copy)]
+pub struct Review {
+    /// `--step`: a notice moves a limit by one towards the platform's value; else to it.
+    pub step: bool,
+    /// `--trace`: it is a trace of a running system; else a printed history.
+    pub trace: bool,
+}
+
 /// What the words of a command line ask for.
 #[derive(Drop)]
 pub enum Command<'a> {
@@ -48,10 +57,10 @@ pub enum Command<'a> {
         script: &'a str,
         blocks: Vec<&'a str>,
     },
-    /// `audit [--step] SCRIPT HISTORY BLOCK..`: the history in a file checked against the script
-    /// and the blocks in 1 to 64 files.
+    /// `audit [--step] [--trace] SCRIPT HISTORY BLOCK..`: the history or the trace in a file checked
+    /// against the script and the blocks in 1 to 64 files.
     Audit {
-        step: bool,
+        review: Review,
         script: &'a str,
         history: &'a str,
         blocks: Vec<&'a str>,

@@ -7,9 +7,10 @@ ghost use Rattle.clap.specs.Words.{Text};
 ghost use Rattle.pw_words.specs.App.{line_app};
 ghost use Rattle.pw_words.specs.Stated.{IsTaken};
 ghost use Rattle.pw_words.specs.Words.{AreFiles, AreMiscounted, AskFor, Asked, IsCommand};
-ghost use Rattle.pw_words.specs.Words.{flag_words, is_bare, is_dashed, is_plain, moved, task_flags};
-ghost use Rattle.pw_words.specs.Words.{task_name, way_flags};
+ghost use Rattle.pw_words.specs.Words.{flag_words, is_bare, is_dashed, is_plain, moved, review_flags};
+ghost use Rattle.pw_words.specs.Words.{task_flags, task_name, way_flags};
 ghost use Rattle.pw_words.specs.Words.Asked.{audit, cppc, drive, generate, on_blocks};
+ghost use Rattle.pw_words.specs.declared.command.Review.{Review as review_type};
 ghost use Rattle.pw_words.specs.declared.command.Task.{Task as task_type};
 ghost use Rattle.pw_words.specs.declared.command.Task.TheVariants.{Show, ShowAsJson};
 ghost use Rattle.pw_words.specs.declared.command.Way.{Way as way_type};
@@ -25,8 +26,8 @@ pub fn few_blocks()
         AskFor words (on_blocks task blocks) → (1 ≤ length blocks) × (length blocks ≤ 64) }
     ensures drive { (words : List Text) (way : way_type) (script : Text) (blocks : List Text) →
         AskFor words (drive way script blocks) → (1 ≤ length blocks) × (length blocks ≤ 64) }
-    ensures audit { (words : List Text) (step : Bool) (script history : Text) (blocks : List Text) →
-        AskFor words (audit step script history blocks) →
+    ensures audit { (words : List Text) (review : review_type) (script history : Text) (blocks : List Text) →
+        AskFor words (audit review script history blocks) →
         (1 ≤ length blocks) × (length blocks ≤ 64) }
     ensures cppc { (words : List Text) (serial : Bool) (script : Text) (blocks : List Text) →
         AskFor words (cppc serial script blocks) → (1 ≤ length blocks) × (length blocks ≤ 64) }
@@ -53,15 +54,15 @@ pub fn usual_line()
         AreFiles blocks → filter is_bare rest ≡ script ∷ blocks →
         (filter is_dashed rest ≡ way_flags way) ⊎ (filter is_dashed rest ≡ reverse (way_flags way)) →
         AskFor (codes "drive" ∷ rest) (drive way script blocks) }
-    ensures audit { (step : Bool) (script history : Text) (blocks : List Text) →
+    ensures audit { (review : review_type) (script history : Text) (blocks : List Text) →
         is_dashed script ≡ false → is_dashed history ≡ false → AreFiles blocks →
-        AskFor (codes "audit" ∷ flag_words (codes "--step") step ++ script ∷ history ∷ blocks)
-        (audit step script history blocks) }
-    // Wherever its flag stands among the names.
-    ensures step { (step : Bool) (script history : Text) (blocks rest : List Text) →
+        AskFor (codes "audit" ∷ review_flags review ++ script ∷ history ∷ blocks)
+        (audit review script history blocks) }
+    // Wherever its flags stand among the names, in either order.
+    ensures reviews { (review : review_type) (script history : Text) (blocks rest : List Text) →
         AreFiles blocks → filter is_bare rest ≡ script ∷ history ∷ blocks →
-        filter is_dashed rest ≡ flag_words (codes "--step") step →
-        AskFor (codes "audit" ∷ rest) (audit step script history blocks) }
+        (filter is_dashed rest ≡ review_flags review) ⊎ (filter is_dashed rest ≡ reverse (review_flags review)) →
+        AskFor (codes "audit" ∷ rest) (audit review script history blocks) }
     ensures cppc { (serial : Bool) (script : Text) (blocks : List Text) →
         is_dashed script ≡ false → AreFiles blocks →
         AskFor (codes "cppc" ∷ flag_words (codes "--serial") serial ++ script ∷ blocks)

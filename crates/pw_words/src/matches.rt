@@ -3,13 +3,13 @@ ghost use Rattle.clap.specs.Words.{all_of, first_of, found_of, kind_of, rows_of}
 ghost use Rattle.clap.specs.declared.error.kind.ErrorKind.TheVariants.{OutOfMemory};
 ghost use Rattle.pw_words.specs.Command.{asked_of, slice_texts};
 ghost use Rattle.pw_words.specs.Stated.{from_words, is_used};
-ghost use Rattle.pw_words.specs.Words.{Say, SayTask, SayWay, command_name, task_name};
+ghost use Rattle.pw_words.specs.Words.{Say, SayReview, SayTask, SayWay, command_name, task_name};
 ghost use Rattle.pw_words.specs.Words.Asked.{generate};
 ghost use Rattle.pw_words.specs.declared.command.WordsFault.TheVariants.{Refused};
 ghost use Rattle.pw_words.specs.inner.Reading.{CanSay, IsOnBlocks, IsUncounted, Reads};
 
 use crate::app::line;
-use crate::command::{Command, Task, Way, WordsFault};
+use crate::command::{Command, Review, Task, Way, WordsFault};
 use crate::count::count_of;
 use clap::error::ErrorKind;
 use clap::parser::ValueSource;
@@ -60,6 +60,16 @@ fn way_in(matches: &ArgMatches<'_>) -> Way
     Way {
         serial: was_given(matches, "serial"),
         step: was_given(matches, "step"),
+    }
+}
+
+/// The review that the matches tell.
+fn review_in(matches: &ArgMatches<'_>) -> Review
+    ensures { SayReview (rows_of (found_of matches.now)) result }
+{
+    Review {
+        step: was_given(matches, "step"),
+        trace: was_given(matches, "trace"),
     }
 }
 
@@ -115,7 +125,7 @@ fn drive_in<'a>(alloc: Global, matches: &ArgMatches<'a>) -> Result<Command<'a>, 
     })
 }
 
-/// A history to check, by the matches of `audit`.
+/// A history or a trace to check, by the matches of `audit`.
 fn audit_in<'a>(alloc: Global, matches: &ArgMatches<'a>) -> Result<Command<'a>, AllocError>
     requires script { is_some (first_of (codes "script") (rows_of (found_of matches.now))) ≡ true }
     requires history { is_some (first_of (codes "history") (rows_of (found_of matches.now))) ≡ true }
@@ -123,12 +133,12 @@ fn audit_in<'a>(alloc: Global, matches: &ArgMatches<'a>) -> Result<Command<'a>, 
     ensures { IfOk result (λ c. (command_name (asked_of c) ≡ codes "audit")
         × Say (rows_of (found_of matches.now)) (asked_of c)) }
 {
-    let step = was_given(matches, "step");
+    let review = review_in(matches);
     let script = word_in(matches, "script");
     let history = word_in(matches, "history");
     let blocks = blocks_in(alloc, matches)?;
     Ok(Command::Audit {
-        step,
+        review,
         script,
         history,
         blocks,

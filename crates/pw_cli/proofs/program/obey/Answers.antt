@@ -8,7 +8,7 @@ returns-in-OnBlocks-clause-obeyed g c =
 
 pub returns-in-Audit-clause-obeyed : goal.returns-in-Audit-clause-obeyed
 returns-in-Audit-clause-obeyed g c =
-    rw c.in-Audit.is (ended_as (λ text line way. (way, refl, refl)) (rw c.as_slice-in-Audit.ensures.value at c.audit-status.ensures.did))
+    rw c.in-Audit.is (ended_as (λ text line way. (way, refl, refl)) (rw (c.form_of.ensures, c.as_slice-in-Audit.ensures.value) at c.audit-status.ensures.did))
 
 pub returns-in-Cppc-clause-obeyed : goal.returns-in-Cppc-clause-obeyed
 returns-in-Cppc-clause-obeyed g c =

@@ -15,12 +15,12 @@ returns-in_default-clause-did g c =
 pub returns-in-Err-clause-did : goal.returns-in-Err-clause-did
 returns-in-Err-clause-did g c =
     let why = c.in-Err.ensures.stopped in
-    let given = stops_given c.args.step c.args.script.now c.args.history.now (names_of c.args.blocks.now)
+    let given = stops_given c.args.form c.args.step c.args.script.now c.args.history.now (names_of c.args.blocks.now)
     (files_seen g.F.Files c.args.files.now) (files_seen g.F.Files c.read_given.new.files) why.way in
     ended_saying g.K.Sink c.args.out.now c.args.err.now c.read_given.new.err why.line c.in-Err.status (stopped given) why.said
 
 pub returns-clause-did : goal.returns-clause-did
 returns-clause-did g c =
-    let within = judging_within g.F.Files c.args.files.now c.read_given.new.files c.judge.new.files c.read_given.ensures.keeps_files c.args.history.now
+    let within = judging_within c.args.form g.F.Files c.args.files.now c.read_given.new.files c.judge.new.files c.read_given.ensures.keeps_files c.args.history.now
     c.args.step c.args.script.now (names_of c.args.blocks.now) c.in-Ok-read_given.plan c.in-Ok-read_given.lines.lines c.in-Ok-read_given.ensures.given in
     did_within within (rw c.in-Ok-read_given.ensures.quiet at c.judge.ensures.did)

@@ -10,7 +10,7 @@ use Rattle.pw_runs.proofs.auditing.judge.Goals as goal
 
 pub returns-in-Ok-clause-did : goal.returns-in-Ok-clause-did
 returns-in-Ok-clause-did g c =
-    did_within (telling_within (files_seen g.F.Files c.args.files.now) (files_seen g.F.Files c.read_history.new.files) c.args.name.now
+    did_within (telling_within c.args.form (files_seen g.F.Files c.args.files.now) (files_seen g.F.Files c.read_history.new.files) c.args.name.now
     c.args.plan.now (requests_of c.args.script.now.lines) c.in-Ok.entries c.in-Ok.ensures.held) c.print_lawful.ensures.did
 
 pub returns-in-Err-Unread-clause-did : goal.returns-in-Err-Unread-clause-did
@@ -24,5 +24,5 @@ returns-in-Err-Fault-clause-did g c =
     let why = rw c.in-Err-Fault.field-0-is at c.in-Err-Fault.ensures.unlawful in
     let fault = c.in-Err-Fault.fault in
     ended_saying g.K.Sink c.args.out.now c.args.err.now c.refuse_history.new.err (history_line fault) c.refuse_history.result
-    (rw c.refuse_history.ensures.status (stopped (stops_judging (files_seen g.F.Files c.args.files.now) (files_seen g.F.Files c.read_history.new.files) c.args.name.now
+    (rw c.refuse_history.ensures.status (stopped (stops_judging c.args.form (files_seen g.F.Files c.args.files.now) (files_seen g.F.Files c.read_history.new.files) c.args.name.now
     c.args.plan.now (requests_of c.args.script.now.lines) fault why))) c.refuse_history.ensures.line

@@ -6,11 +6,11 @@ use Rattle.pw_runs.proofs.history.read_history.Goals as goal
 pub returns-in-Ok-clause-held : goal.returns-in-Ok-clause-held
 returns-in-Ok-clause-held g c =
     let is = rw c.deref.ensures.value at c.count_entries.ensures.whole in
-    held_if c.args.plan.now (requests_of c.args.script.now.lines) (files_seen g.F.Files c.args.files.now) (files_seen g.F.Files c.read_all.new.files) c.args.name.now
+    held_if c.args.form c.args.plan.now (requests_of c.args.script.now.lines) (files_seen g.F.Files c.args.files.now) (files_seen g.F.Files c.read_all.new.files) c.args.name.now
     c.in-Ok.bytes.items c.in-Ok.ensures.content c.count_entries.result is
 
 pub returns-in-Ok-clause-unlawful : goal.returns-in-Ok-clause-unlawful
 returns-in-Ok-clause-unlawful g c =
     let none = rw c.deref.ensures.value at c.count_entries.ensures.none in
-    held_why c.args.plan.now (requests_of c.args.script.now.lines) (files_seen g.F.Files c.args.files.now) (files_seen g.F.Files c.read_all.new.files) c.args.name.now
+    held_why c.args.form c.args.plan.now (requests_of c.args.script.now.lines) (files_seen g.F.Files c.args.files.now) (files_seen g.F.Files c.read_all.new.files) c.args.name.now
     c.in-Ok.bytes.items c.in-Ok.ensures.content c.count_entries.result none

@@ -1,4 +1,4 @@
-use Rattle.pw_words.proofs.Usual.{audit_asks, cppc_asks, drive_asks, flag_asks, flags_ask, generate_asks, serial_asks, step_asks, usual_asks}
+use Rattle.pw_words.proofs.Usual.{audit_asks, cppc_asks, drive_asks, flag_asks, flags_ask, generate_asks, reviews_ask, serial_asks, usual_asks}
 use Rattle.pw_words.proofs.laws.usual_line.Goals as goal
 
 pub returns-clause-line : goal.returns-clause-line
@@ -14,10 +14,10 @@ pub returns-clause-flags : goal.returns-clause-flags
 returns-clause-flags c = λ way script blocks rest are. flags_ask way script blocks are rest
 
 pub returns-clause-audit : goal.returns-clause-audit
-returns-clause-audit c = λ step script history blocks first second are. audit_asks step script history blocks are first second
+returns-clause-audit c = λ review script history blocks first second are. audit_asks review script history blocks are first second
 
-pub returns-clause-step : goal.returns-clause-step
-returns-clause-step c = λ step script history blocks rest are. step_asks step script history blocks are rest
+pub returns-clause-reviews : goal.returns-clause-reviews
+returns-clause-reviews c = λ review script history blocks rest are. reviews_ask review script history blocks are rest
 
 pub returns-clause-cppc : goal.returns-clause-cppc
 returns-clause-cppc c = λ serial script blocks bare are. cppc_asks serial script blocks are bare
