@@ -28,6 +28,14 @@ pub(crate) struct Case {
     made: Option<u32>,
 }
 
+/// What a run is given of files and outputs.
+#[derive(Drop)]
+struct Given {
+    files: MemoryFiles,
+    out: MemorySink,
+    err: MemorySink,
+}
+
 impl Case {
     pub(crate) fn new(alloc: Global) -> Case {
         Case {
@@ -191,19 +199,26 @@ impl Case {
         status: u8,
         gate: &G,
     ) -> Option<&'static str> {
-        let mut files = self.files(alloc).ok()?;
-        let mut out = self.outside.out(alloc).ok()?;
-        let mut err = self.outside.err(alloc).ok()?;
         let regs = self.outside.regs(alloc).ok()?;
+        let Given {
+            mut files,
+            mut out,
+            mut err,
+        } = self.given(alloc)?;
         let words = self.words.as_slice();
         let outcome = run(rt, alloc, words, &mut files, &mut out, &mut err, regs, gate);
         if outcome.status != status {
             return Some("another status");
         }
-        if !self.is_made(alloc)? {
-            return Some("another block is generated");
-        }
-        Some(self.told_by(&out, &err, &outcome.regs))
+        self.told_by(self.is_made(alloc), &out, &err, &outcome.regs)
+    }
+
+    /// The files and the outputs of a run.
+    fn given(&self, alloc: Global) -> Option<Given> {
+        let files = self.files(alloc).ok()?;
+        let out = self.outside.out(alloc).ok()?;
+        let err = self.outside.err(alloc).ok()?;
+        Some(Given { files, out, err })
     }
 
     /// Whether the file `a` is the block that is generated, where it must be.
@@ -214,9 +229,17 @@ impl Case {
         Some(block_bytes(alloc, containers)?.as_slice() == self.a.as_slice())
     }
 
-    /// What the outputs and the registers tell, where the status is as it must be.
-    fn told_by(&self, out: &MemorySink, err: &MemorySink, regs: &FailingRegisters) -> &'static str {
-        if out.written() != first_of(self.out.as_slice(), self.out_first) {
+    /// What the block, the outputs and the registers tell, where the status is as it must be.
+    fn told_by(
+        &self,
+        is_made: Option<bool>,
+        out: &MemorySink,
+        err: &MemorySink,
+        regs: &FailingRegisters,
+    ) -> Option<&'static str> {
+        Some(if !is_made? {
+            "another block is generated"
+        } else if out.written() != first_of(self.out.as_slice(), self.out_first) {
             "another output"
         } else if err.written() != first_of(self.err.as_slice(), self.err_first) {
             "another line"
@@ -224,7 +247,7 @@ impl Case {
             "other operations"
         } else {
             "as it must be"
-        }
+        })
     }
 }
 
