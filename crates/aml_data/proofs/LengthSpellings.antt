@@ -75,11 +75,11 @@ len_made lead (b ∷ []) fits more none =
     subst (λ (k : ℕ). Len (lead % 16 + 16 * b) (k ∷ b ∷ [])) low (spells_two_byte_length (lead % 16) b (omega arith) (omega (arith, fits 1)))
 len_made lead (b ∷ c ∷ []) fits more none =
     let low : 128 + lead % 16 ≡ lead = let h = none (omega arith) in omega (arith, fits 0) in
-    subst (λ (k : ℕ). Len (lead % 16 + 16 * b + 4096 * c) (k ∷ b ∷ c ∷ [])) low
+    subst (λ (k : ℕ). Len (lead % 16 + 16 * b + 0x1000 * c) (k ∷ b ∷ c ∷ [])) low
     (spells_three_byte_length (lead % 16) b c (omega arith) (omega (arith, fits 1)) (omega (arith, fits 2)))
 len_made lead (b ∷ c ∷ d ∷ []) fits more none =
     let low : 192 + lead % 16 ≡ lead = let h = none (omega arith) in omega (arith, fits 0) in
-    subst (λ (k : ℕ). Len (lead % 16 + 16 * b + 4096 * c + 1048576 * d) (k ∷ b ∷ c ∷ d ∷ [])) low
+    subst (λ (k : ℕ). Len (lead % 16 + 16 * b + 0x1000 * c + 0x10_0000 * d) (k ∷ b ∷ c ∷ d ∷ [])) low
     (spells_four_byte_length (lead % 16) b c d (omega arith) (omega (arith, fits 1)) (omega (arith, fits 2)) (omega (arith, fits 3)))
 len_made lead (b ∷ c ∷ d ∷ e ∷ more_bytes) fits more none = absurd (omega (arith, fits 0))
 

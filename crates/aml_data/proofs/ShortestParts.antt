@@ -65,21 +65,21 @@ length_cases P n one two three four =
     (λ e2. by_test P (ltb n 1048573) _ _ (λ e. three (above _ _ e2) (below _ _ e))
     (λ e3. four (above _ _ e3))))
 
-two_spelled : (whole : ℕ) → whole < 4096 → Len whole (two_byte_length whole)
+two_spelled : (whole : ℕ) → whole < 0x1000 → Len whole (two_byte_length whole)
 two_spelled whole lt =
     let is : whole % 16 + 16 * (whole / 16) ≡ whole = omega arith in
     subst (λ (k : ℕ). Len k (two_byte_length whole)) is (spells_two_byte_length (whole % 16) (whole / 16) (omega arith) (omega arith))
 
-three_spelled : (whole : ℕ) → whole < 1048576 → Len whole (three_byte_length whole)
+three_spelled : (whole : ℕ) → whole < 0x10_0000 → Len whole (three_byte_length whole)
 three_spelled whole lt =
-    let is : whole % 16 + 16 * (whole / 16 % 256) + 4096 * (whole / 4096) ≡ whole = omega arith in
-    subst (λ (k : ℕ). Len k (three_byte_length whole)) is (spells_three_byte_length (whole % 16) (whole / 16 % 256) (whole / 4096) (omega arith) (omega arith) (omega arith))
+    let is : whole % 16 + 16 * (whole / 16 % 256) + 0x1000 * (whole / 0x1000) ≡ whole = omega arith in
+    subst (λ (k : ℕ). Len k (three_byte_length whole)) is (spells_three_byte_length (whole % 16) (whole / 16 % 256) (whole / 0x1000) (omega arith) (omega arith) (omega arith))
 
 four_spelled : (whole : ℕ) → whole < 268435456 → Len whole (four_byte_length whole)
 four_spelled whole lt =
-    let is : whole % 16 + 16 * (whole / 16 % 256) + 4096 * (whole / 4096 % 256) + 1048576 * (whole / 1048576) ≡ whole = omega arith in
+    let is : whole % 16 + 16 * (whole / 16 % 256) + 0x1000 * (whole / 0x1000 % 256) + 0x10_0000 * (whole / 0x10_0000) ≡ whole = omega arith in
     subst (λ (k : ℕ). Len k (four_byte_length whole)) is
-    (spells_four_byte_length (whole % 16) (whole / 16 % 256) (whole / 4096 % 256) (whole / 1048576) (omega arith) (omega arith) (omega arith) (omega arith))
+    (spells_four_byte_length (whole % 16) (whole / 16 % 256) (whole / 0x1000 % 256) (whole / 0x10_0000) (omega arith) (omega arith) (omega arith) (omega arith))
 
 pub length_spelled : (n : ℕ) → n ≤ 268435451 → Len (length (written_length n) + n) (written_length n)
 length_spelled n le =

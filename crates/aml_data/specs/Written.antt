@@ -31,11 +31,11 @@ two_byte_length whole = (64 + whole % 16) ∷ whole / 16 ∷ []
 
 -- a PkgLength of three bytes
 abbrev pub three_byte_length : ℕ → List ℕ
-three_byte_length whole = (128 + whole % 16) ∷ whole / 16 % 256 ∷ whole / 4096 ∷ []
+three_byte_length whole = (128 + whole % 16) ∷ whole / 16 % 256 ∷ whole / 0x1000 ∷ []
 
 -- a PkgLength of four bytes
 abbrev pub four_byte_length : ℕ → List ℕ
-four_byte_length whole = (192 + whole % 16) ∷ whole / 16 % 256 ∷ whole / 4096 % 256 ∷ whole / 1048576 ∷ []
+four_byte_length whole = (192 + whole % 16) ∷ whole / 16 % 256 ∷ whole / 0x1000 % 256 ∷ whole / 0x10_0000 ∷ []
 
 -- the PkgLength before so many bytes: the shortest that holds their number and its own
 abbrev pub written_length : ℕ → List ℕ

@@ -71,7 +71,7 @@ pub(crate) fn fill_length(content: usize, room: &mut [u8], end: usize) -> usize
             let whole = content + 3;
             let lead = (0x80 + whole % 16) as u8;
             fill(
-                &[lead, (whole / 16 % 256) as u8, (whole / 4096) as u8],
+                &[lead, (whole / 16 % 256) as u8, (whole / 0x1000) as u8],
                 room,
                 end,
             )
@@ -79,8 +79,8 @@ pub(crate) fn fill_length(content: usize, room: &mut [u8], end: usize) -> usize
         _ => {
             let whole = content + 4;
             let lead = (0xC0 + whole % 16) as u8;
-            let second = (whole / 4096 % 256) as u8;
-            let third = (whole / 1_048_576) as u8;
+            let second = (whole / 0x1000 % 256) as u8;
+            let third = (whole / 0x10_0000) as u8;
             fill(&[lead, (whole / 16 % 256) as u8, second, third], room, end)
         }
     }

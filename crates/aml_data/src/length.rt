@@ -11,9 +11,9 @@ fn length_value(lead: u8, following: &[u8]) -> usize
     match following {
         [] => usize::from(lead),
         [b] => low + 16 * usize::from(*b),
-        [b, c] => low + 16 * usize::from(*b) + 4096 * usize::from(*c),
+        [b, c] => low + 16 * usize::from(*b) + 0x1000 * usize::from(*c),
         [b, c, d, ..] => {
-            low + 16 * usize::from(*b) + 4096 * usize::from(*c) + 1_048_576 * usize::from(*d)
+            low + 16 * usize::from(*b) + 0x1000 * usize::from(*c) + 0x10_0000 * usize::from(*d)
         }
     }
 }

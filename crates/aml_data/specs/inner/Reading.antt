@@ -46,8 +46,8 @@ constant_at end (lead ∷ rest) =
 abbrev pub length_value : ℕ → List ℕ → ℕ
 length_value lead [] = lead
 length_value lead (b ∷ []) = lead % 16 + 16 * b
-length_value lead (b ∷ c ∷ []) = lead % 16 + 16 * b + 4096 * c
-length_value lead (b ∷ c ∷ d ∷ _) = lead % 16 + 16 * b + 4096 * c + 1048576 * d
+length_value lead (b ∷ c ∷ []) = lead % 16 + 16 * b + 0x1000 * c
+length_value lead (b ∷ c ∷ d ∷ _) = lead % 16 + 16 * b + 0x1000 * c + 0x10_0000 * d
 
 -- what is left of the length behind a PkgLength of so many following bytes
 abbrev pub left_at : ℕ → ℕ → ℕ → List ℕ → Read ℕ
