@@ -1,3 +1,6 @@
+ghost use Rattle.std.specs.Prelude.{IfOk};
+ghost use Rattle.pw_plan.specs.Parts.{PartsFit};
+
 use crate::parts::Parts;
 use crate::words::{u32_at, word_at};
 use acpi_values::{IdleKind, IdleRow, IdleTable};
@@ -135,7 +138,9 @@ fn machine_of(alloc: Global, lines: &str) -> Option<Machine> {
 
 /// The plan of the machine that lines give. Empty lines, comments and lines that ask for something are
 /// passed over.
-pub fn plan_of(alloc: Global, lines: &str) -> Result<Plan, NoPlan> {
+pub fn plan_of(alloc: Global, lines: &str) -> Result<Plan, NoPlan>
+    ensures { IfOk result (λ plan. PartsFit plan.containers plan.cpus) }
+{
     let Some(Machine { containers, cpus }) = machine_of(alloc, lines) else {
         return Err(NoPlan::Unread);
     };

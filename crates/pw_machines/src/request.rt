@@ -1,3 +1,6 @@
+ghost use Rattle.std.specs.Prelude.{◌≡◌, ◌≤◌, IfSome};
+ghost use Rattle.pw_model.specs.History.{request_of as entry_request};
+
 use crate::words::{u32_at, word_at};
 use pw_model::HistoryEntry;
 use pw_plan::Request;
@@ -43,7 +46,10 @@ fn stated(cpu: u32, code: u32, argument: u32, tolerance: u32) -> Option<Request>
 }
 
 /// The request of an entry, if its code is that of one.
-pub fn request_in(entry: &HistoryEntry) -> Option<Request> {
+pub fn request_in(entry: &HistoryEntry) -> Option<Request>
+    ensures code { IfSome result (λ _. (1 ≤ entry.now.code) × (entry.now.code ≤ 6)) }
+    ensures request { IfSome result (λ q. q ≡ entry_request entry.now) }
+{
     if entry.code < 1 || entry.code > 6 {
         return None;
     }

@@ -1,3 +1,5 @@
+ghost use Rattle.std.specs.Prelude.{◌≡◌, None, Some};
+
 use pw_base::Gate;
 use std::sync::atomic::{AtomicU64, Ordering};
 use std::thread::yield_now;
@@ -28,7 +30,10 @@ fn is_of(whom: Option<u32>, cpu: u32) -> bool {
 }
 
 impl Meeting {
-    fn new(held: Option<u32>, counted: Option<u32>, point: u32, wanted: u64) -> Meeting {
+    fn new(held: Option<u32>, counted: Option<u32>, point: u32, wanted: u64) -> Meeting
+        ensures holds { result.held ≡ held }
+        ensures counts { (result.counted ≡ counted) × (result.point ≡ point) × (result.wanted ≡ wanted) }
+    {
         Meeting {
             held,
             counted,
@@ -40,12 +45,18 @@ impl Meeting {
     }
 
     /// Holds one processor's requests until another's has been answered.
-    pub fn of_two(held: u32, other: u32) -> Meeting {
+    pub fn of_two(held: u32, other: u32) -> Meeting
+        ensures holds { result.held ≡ Some held }
+        ensures counts { (result.counted ≡ Some other) × (result.point ≡ 1) × (result.wanted ≡ 1) }
+    {
         Meeting::new(Some(held), Some(other), 1, 1)
     }
 
     /// Holds every request until so many are held.
-    pub fn of_all(wanted: u32) -> Meeting {
+    pub fn of_all(wanted: u32) -> Meeting
+        ensures holds { result.held ≡ None }
+        ensures counts { (result.counted ≡ None) × (result.point ≡ 0) × (result.wanted ≡ wanted) }
+    {
         Meeting::new(None, None, 0, u64::from(wanted))
     }
 

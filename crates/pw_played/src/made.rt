@@ -1,5 +1,7 @@
-ghost use Rattle.std.specs.Prelude.{◌≤◌, All, IfSome};
-ghost use Rattle.aml_block.specs.Written.{IsWritableBlock};
+ghost use Rattle.std.specs.Prelude.{◌≡◌, ◌≤◌, All, IfSome};
+ghost use Rattle.aml_block.specs.Written.{IsWritableBlock, written_block};
+ghost use Rattle.pw_generate.specs.Loads.{machine_load};
+ghost use Rattle.pw_generate.specs.Machines.{machine_block};
 ghost use Rattle.pw_generate.specs.declared.tables.TheConstants.{MOST_CONTAINERS};
 
 use acpi_build::{blocks_are_countable, plan};
@@ -13,6 +15,7 @@ use std::alloc::Global;
 /// The bytes of the block of so many containers.
 fn bytes_of(alloc: Global, n: u32) -> Option<Vec<u8>>
     requires { n ≤ MOST_CONTAINERS }
+    ensures { IfSome result (λ bytes. bytes.items ≡ written_block (machine_block n)) }
 {
     let made = generate_block(alloc, n).ok()?;
     encode_block(alloc, &made).ok()
@@ -39,7 +42,10 @@ fn plan_of(alloc: Global, blocks: &[Block]) -> Option<Plan>
 
 /// The plan of the machine that is generated with so many containers, and the load for it. None where there
 /// are more than a machine may have, and for want of memory.
-pub fn machine_of(alloc: Global, n: u32) -> Option<(Plan, Script)> {
+pub fn machine_of(alloc: Global, n: u32) -> Option<(Plan, Script)>
+    ensures few { IfSome result (λ made. n ≤ MOST_CONTAINERS) }
+    ensures load { IfSome result (λ made. made.1 ≡ machine_load n) }
+{
     if n > MOST_CONTAINERS {
         return None;
     }
@@ -51,7 +57,9 @@ pub fn machine_of(alloc: Global, n: u32) -> Option<(Plan, Script)> {
 
 /// The bytes of the block that is generated with so many containers. None where there are more than a
 /// machine may have, and for want of memory.
-pub fn block_bytes(alloc: Global, n: u32) -> Option<Vec<u8>> {
+pub fn block_bytes(alloc: Global, n: u32) -> Option<Vec<u8>>
+    ensures { IfSome result (λ bytes. bytes.items ≡ written_block (machine_block n)) }
+{
     if n > MOST_CONTAINERS {
         return None;
     }
