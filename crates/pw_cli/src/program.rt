@@ -1,4 +1,4 @@
-ghost use Rattle.std.specs.Prelude.{◌≡◌, ◌≤◌, codes};
+ghost use Rattle.std.specs.Prelude.{◌≡◌, ◌≤◌, None, codes};
 ghost use Rattle.pw_base.specs.Outside.{KeepsFiles, KeepsSink};
 ghost use Rattle.pw_base.specs.Seen.{sink_seen, GrewByLine};
 ghost use Rattle.pw_words.specs.Command.{asked_of};
@@ -89,6 +89,17 @@ fn form_of(review: Review) -> Form
     }
 }
 
+/// How a command ended that had no coordinator of several callers.
+fn unsealed<R>(status: u8, regs: R) -> Outcome<R>
+    ensures { result ≡ record { status = status; regs = regs; sealed = None } }
+{
+    Outcome {
+        status,
+        regs,
+        sealed: None,
+    }
+}
+
 /// Does what a command asks for.
 fn obey<T: Threads + Wait + Sync, F: Files, K: Sink, R: Registers + Send, G: Gate + Sync>(
     rt: &T,
@@ -112,72 +123,36 @@ fn obey<T: Threads + Wait + Sync, F: Files, K: Sink, R: Registers + Send, G: Gat
     match command {
         Command::OnBlocks { task, blocks } => {
             let status = do_on_blocks(alloc, *task, blocks.as_slice(), files, out, err);
-            Outcome {
-                status,
-                regs,
-                sealed: None,
-            }
+            unsealed(status, regs)
         }
         Command::Drive {
             way,
             script,
             blocks,
-        } => drive_by(
-            rt,
-            alloc,
-            *way,
-            script,
-            blocks.as_slice(),
-            files,
-            out,
-            err,
-            regs,
-            gate,
-        ),
+        } => {
+            let names = blocks.as_slice();
+            drive_by(rt, alloc, *way, script, names, files, out, err, regs, gate)
+        }
         Command::Audit {
             review,
             script,
             history,
             blocks,
         } => {
-            let status = audit(
-                alloc,
-                form_of(*review),
-                review.step,
-                script,
-                history,
-                blocks.as_slice(),
-                files,
-                out,
-                err,
-            );
-            Outcome {
-                status,
-                regs,
-                sealed: None,
-            }
+            let names = blocks.as_slice();
+            let form = form_of(*review);
+            let step = review.step;
+            let status = audit(alloc, form, step, script, history, names, files, out, err);
+            unsealed(status, regs)
         }
         Command::Cppc {
             serial,
             script,
             blocks,
         } => {
-            let (status, regs) = steer_by(
-                rt,
-                alloc,
-                *serial,
-                script,
-                blocks.as_slice(),
-                files,
-                out,
-                err,
-                regs,
-            );
-            Outcome {
-                status,
-                regs,
-                sealed: None,
-            }
+            let names = blocks.as_slice();
+            let (status, regs) = steer_by(rt, alloc, *serial, script, names, files, out, err, regs);
+            unsealed(status, regs)
         }
         Command::Generate { count } => generate(rt, alloc, *count, out, err, regs, gate),
     }
