@@ -161,15 +161,8 @@ pub(crate) fn find_lpi(
     let Some(found) = look(alloc, space, index, Name::Lpi, said)? else {
         return Ok(None);
     };
-    let Some(lpi) = tell(
-        alloc,
-        space,
-        index,
-        Name::Lpi,
-        read_lpi(alloc, found.data, found.width),
-        said,
-    )?
-    else {
+    let read = read_lpi(alloc, found.data, found.width);
+    let Some(lpi) = tell(alloc, space, index, Name::Lpi, read, said)? else {
         return Ok(None);
     };
     if lpi.states.as_slice().is_empty() {
@@ -195,15 +188,8 @@ pub(crate) fn find_cst(
     let Some(found) = look(alloc, space, index, Name::Cst, said)? else {
         return Ok(None);
     };
-    let Some(states) = tell(
-        alloc,
-        space,
-        index,
-        Name::Cst,
-        read_cst(alloc, found.data, found.width),
-        said,
-    )?
-    else {
+    let read = read_cst(alloc, found.data, found.width);
+    let Some(states) = tell(alloc, space, index, Name::Cst, read, said)? else {
         return Ok(None);
     };
     if states.is_empty() {
@@ -257,15 +243,8 @@ pub(crate) fn find_pss(
     let Some(found) = look(alloc, space, index, Name::Pss, said)? else {
         return Ok(None);
     };
-    let Some(states) = tell(
-        alloc,
-        space,
-        index,
-        Name::Pss,
-        read_pss(alloc, found.data, found.width),
-        said,
-    )?
-    else {
+    let read = read_pss(alloc, found.data, found.width);
+    let Some(states) = tell(alloc, space, index, Name::Pss, read, said)? else {
         return Ok(None);
     };
     if states.is_empty() {
@@ -292,15 +271,8 @@ pub(crate) fn find_tss(
     let Some(found) = look(alloc, space, index, Name::Tss, said)? else {
         return Ok(None);
     };
-    let Some(states) = tell(
-        alloc,
-        space,
-        index,
-        Name::Tss,
-        read_tss(alloc, found.data, found.width),
-        said,
-    )?
-    else {
+    let read = read_tss(alloc, found.data, found.width);
+    let Some(states) = tell(alloc, space, index, Name::Tss, read, said)? else {
         return Ok(None);
     };
     if states.is_empty() {
