@@ -15,7 +15,8 @@ use aml_data::{Path, Seg, Width};
 use pw_base::Memory;
 use std::alloc::Global;
 
-/// The places that are known, what is placed so far, which object stands at a place, and what was passed over.
+/// The places that are known, what is placed so far, which object stands at a place, and what was passed
+/// over.
 #[derive(Drop)]
 pub(crate) struct Building<'a> {
     pub(crate) tree: Tree,

@@ -39,7 +39,8 @@ pub fn first_known<'a>(
 fn enter_alone(plan: &Plan, cpu: u32, chain: &Chain, ops: &mut Ops)
     requires cpu { cpu < length plan.now.cpus }
     requires chain { 0 < slice_index_or chain.now.states 0 0 → IsChain chain.now }
-    requires states { 0 < slice_index_or chain.now.states 0 0 → AreStatesOf plan.now cpu (states_in chain.now) }
+    requires states { 0 < slice_index_or chain.now.states 0 0
+        → AreStatesOf plan.now cpu (states_in chain.now) }
     requires room { HasRoom ops.old 1 }
     ensures { ops.new ≡ record ops.old {
       elements = ops.old.elements ++ entered_alone plan.now cpu chain.now;

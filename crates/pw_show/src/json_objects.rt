@@ -71,7 +71,8 @@ fn put_alias<K: Sink>(
 ) -> Result<(), Failed>
     ensures { PutsText K.Sink sink.old sink.new page.old page.new
         (comma_before index
-        ++ compact_text (with_value (codes "alias") path.now (string (path_text target.now)))) (is_ok result) }
+        ++ compact_text (with_value (codes "alias") path.now (string (path_text target.now))))
+        (is_ok result) }
 {
     put_head(
         page,

@@ -63,9 +63,8 @@ fn drive<'a>(alloc: Global) -> Result<Command<'a>, AllocError>
     ensures app { IfOk result (λ c. app_of c ≡ drive_app) }
     ensures local { IfOk result (λ c. (fields_of c).has_globals ≡ false) }
 {
-    drive_flags(alloc)?
-        .arg(word(alloc, "script"))?
-        .arg(blocks(alloc))
+    let command = drive_flags(alloc)?.arg(word(alloc, "script"))?;
+    command.arg(blocks(alloc))
 }
 
 /// `audit [--step] [--trace]`, with no names yet.
@@ -83,9 +82,8 @@ fn audit_names<'a>(alloc: Global) -> Result<Command<'a>, AllocError>
     ensures app { IfOk result (λ c. app_of c ≡ named_app) }
     ensures local { IfOk result (λ c. (fields_of c).has_globals ≡ false) }
 {
-    audit_flags(alloc)?
-        .arg(word(alloc, "script"))?
-        .arg(word(alloc, "history"))
+    let command = audit_flags(alloc)?.arg(word(alloc, "script"))?;
+    command.arg(word(alloc, "history"))
 }
 
 /// `audit [--step] [--trace] SCRIPT HISTORY BLOCK..`.

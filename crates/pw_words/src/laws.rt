@@ -61,7 +61,8 @@ pub fn usual_line()
     // Wherever its flags stand among the names, in either order.
     ensures reviews { (review : review_type) (script history : Text) (blocks rest : List Text) →
         AreFiles blocks → filter is_bare rest ≡ script ∷ history ∷ blocks →
-        (filter is_dashed rest ≡ review_flags review) ⊎ (filter is_dashed rest ≡ reverse (review_flags review)) →
+        (filter is_dashed rest ≡ review_flags review)
+        ⊎ (filter is_dashed rest ≡ reverse (review_flags review)) →
         AskFor (codes "audit" ∷ rest) (audit review script history blocks) }
     ensures cppc { (serial : Bool) (script : Text) (blocks : List Text) →
         is_dashed script ≡ false → AreFiles blocks →
