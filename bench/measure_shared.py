@@ -1,5 +1,6 @@
 """Measures requests of several threads on a shared coordinator, beside plain Rust: with one lock, with a lock for each record, and with
-the proved coordinator's own steps, its turns side by side or a cache line and more apart.
+the proved coordinator's own steps, its turns side by side or a cache line and more apart. The proved program is measured with a coordinator
+that keeps its history, and with one without end.
 
 usage: measure_shared.py PROGRAM [PLAIN]
 A run makes rounds of 65,536 requests in all: a coordinator is opened, threads make the requests, each by a seat and for a
@@ -54,8 +55,8 @@ def rate(nanoseconds):
 
 
 def main():
-    programs = [[sys.argv[1]]]
-    names = ["proved"]
+    programs = [[sys.argv[1], "kept"], [sys.argv[1], "counted"]]
+    names = ["proved", "without end"]
     if len(sys.argv) > 2:
         programs += [[sys.argv[2], "shared", locks] for locks in ("one-lock", "each-lock", "each-turn", "each-turn-apart")]
         names += ["one lock", "a lock for each record", "a turn for each record", "turns apart"]
@@ -64,7 +65,8 @@ def main():
     heads = ["machine", "threads"]
     for name in names:
         heads += [f"{name}: thousand requests a second", "processor, ns a request", "processors busy"]
-    if len(programs) > 1:
+    heads += ["without end, wall clock against proved"]
+    if len(programs) > 2:
         heads += ["wall clock against one lock", "against the better", "processor against one lock", "against the better"]
         heads += ["turns in plain Rust, wall clock against the better", "turns apart"]
     print("| " + " | ".join(heads) + " |")
@@ -74,14 +76,15 @@ def main():
         cells = [machine, threads]
         for wall, took, kept in costs:
             cells += [rate(wall), f"{took:.0f}", f"{kept:.2f}"]
-        if len(costs) > 1:
+        cells += [f"{costs[1][0] / costs[0][0]:.2f}"]
+        if len(costs) > 2:
+            own, _, one, each, *turns = costs
             for place in (0, 1):
-                own, one, each = (cost[place] for cost in costs[:3])
-                cells += [f"{own / one:.2f}", f"{own / min(one, each):.2f}"]
-            cells += [f"{cost[0] / min(costs[1][0], costs[2][0]):.2f}" for cost in costs[3:]]
+                cells += [f"{own[place] / one[place]:.2f}", f"{own[place] / min(one[place], each[place]):.2f}"]
+            better = min(one[0], each[0])
+            cells += [f"{cost[0] / better:.2f}" for cost in turns]
+            ratios.add(f"{machine}, {threads} threads, against the better lock", own[0] / better, None)
         print("| " + " | ".join(str(cell) for cell in cells) + " |", flush=True)
-        if len(costs) > 1:
-            ratios.add(f"{machine}, {threads} threads, against the better lock", costs[0][0] / min(costs[1][0], costs[2][0]), None)
     ratios.show()
 
 
