@@ -1,5 +1,5 @@
 -- The records of a request in two steps, from the last on.
-use Rattle.std.proofs.Common.{◌≡◌, ◌++◌, ℕ, List, [], ◌∷◌, Option, None, Result, refl, ap, sym, subst, ◌∙◌, append_assoc, arith, ◌≤◌}
+use Rattle.std.proofs.Common.{◌≡◌, ◌++◌, ℕ, Bool, List, [], ◌∷◌, Option, None, Result, refl, ap, sym, subst, ◌∙◌, append_assoc, arith, ◌≤◌}
 use Rattle.acpi_values.specs.declared.operation.Op.{Op}
 use Rattle.pw_plan.specs.declared.plan.Plan.{Plan}
 use Rattle.pw_plan.specs.declared.request.Request.{Request}
@@ -25,9 +25,10 @@ use Rattle.pw_rule.specs.Plays.{Mine}
 use Rattle.pw_rule.specs.Promises.{Promise}
 use Rattle.pw_turns.specs.Begun.{IsReady, Reaches}
 use Rattle.pw_turns.specs.Climb.{Climbs}
-use Rattle.pw_turns.specs.HeldRecords.{AreHeld, Holds, IsHeld, in_hands, rank}
+use Rattle.pw_turns.specs.HeldRecords.{AreHeld, IsHeld, in_hands, rank}
+use Rattle.pw_turns.specs.inner.Taking.{Holds}
 use Rattle.pw_turns.specs.Settling.{part_after}
-use Rattle.pw_turns.specs.Steps.{MeetsOn, MetSince, content_part, met_on}
+use Rattle.pw_turns.specs.Steps.{MeetsBy, Since, content_part, met_on}
 use Rattle.pw_turns.specs.Told.{KeepsMet}
 use Rattle.pw_turns.specs.declared.held_record.HeldRecord.{HeldRecord}
 use Rattle.pw_turns.specs.declared.requests.Try.{Try}
@@ -94,7 +95,7 @@ module _ {R : Type 0} (given : Given) (q : Request) (has : Has given.plan q) (v 
 -- one record more below those that were taken after it
 pub holds_more : {R : Type 0} (given : Given) (q : Request) (m : Mine R) (before all : List (HeldRecord R)) (h : HeldRecord R) (x : Part)
     → IsHeld given q m.0 x h → (n : Mine R) → n ≡ (taken h.turn q x m.0, (h.turn, None) ∷ m.1) → all ≡ before ++ h ∷ []
-    → (r : Result Reply (ℕ × ℕ)) (ops : List Op) (after : List (HeldRecord R)) (w : Mine R) → Holds given q n all r ops after w
+    → (r : Result Reply Try) (ops : List Op) (after : List (HeldRecord R)) (w : Mine R) → Holds given q n all r ops after w
     → Holds given q m before r ops after w
 holds_more given q m before all h x is n taken_is all_is r ops after w o = record {
   more = h ∷ o.more;
@@ -136,26 +137,26 @@ begin_tells by promise given q number v P plan reply ops hs j n r =
       ops_are by promise given _ q r.top j n l given.plan reply ops refl a.has a.over,
     )
 
--- # Where it waited
+-- # Whom it met
 
 -- the pair that it met, and how often, stay while it takes records
 held_meets : {R : Type 0} (given : Given) (q : Request) (v u : View) (hs : List (HeldRecord R)) → AreHeld given q v hs u → KeepsMet v u
 held_meets given q v u [] a = (ap (λ (u : View). u.met) a, ap (λ (u : View). u.meets) a)
 held_meets given q v u (h ∷ hs) a = held_meets given q (taken h.turn q a.0 v) u hs a.2
 
--- it waited for its records, and then for another turn
-pub on_after : {R : Type 0} (given : Given) (q : Request) (v n : View) (hs : List (HeldRecord R)) (pair next : Option pair_met) (count more : ℕ)
-    → MeetsOn v pair count → AreHeld given q (met_on pair count v) hs n → MeetsOn n next more → MeetsOn v next more
-on_after given q v n hs pair next count more on held then =
-    let k = held_meets given q (met_on pair count v) n hs held in on_twice v n pair next count more on k.0 k.1 then
+-- whom it met on the way to its records, and then to another turn
+pub on_after : {R : Type 0} (given : Given) (q : Request) (waits : Bool) (v n : View) (hs : List (HeldRecord R)) (pair next : Option pair_met)
+    (count more : ℕ) → MeetsBy waits v pair count → AreHeld given q (met_on pair count v) hs n → MeetsBy waits n next more → MeetsBy waits v next more
+on_after given q waits v n hs pair next count more on held then =
+    let k = held_meets given q (met_on pair count v) n hs held in on_twice waits v n pair next count more on k.0 k.1 then
 
--- it waited for one record, and then for the others
-pub since_taken : (v n : View) (t : ℕ) (q : Request) (x : Part) (pair : Option pair_met) (count : ℕ) → MeetsOn v pair count
-    → n ≡ taken t q x (met_on pair count v) → (P : View → Type 0) → MetSince n P → MetSince v (λ u. P (taken t q x u))
-since_taken v n t q x pair count on is P s = record {
+-- to one record, and then to the others
+pub since_taken : (waits : Bool) (v n : View) (t : ℕ) (q : Request) (x : Part) (pair : Option pair_met) (count : ℕ) → MeetsBy waits v pair count
+    → n ≡ taken t q x (met_on pair count v) → (P : View → Type 0) → Since waits n P → Since waits v (λ u. P (taken t q x u))
+since_taken waits v n t q x pair count on is P s = record {
   pair = s.pair;
   count = s.count;
-  on = on_twice v n pair s.pair count s.count on (ap (λ (u : View). u.met) is) (ap (λ (u : View). u.meets) is) s.on;
+  on = on_twice waits v n pair s.pair count s.count on (ap (λ (u : View). u.met) is) (ap (λ (u : View). u.meets) is) s.on;
   so = subst (λ (u : View). P (met_on s.pair s.count u)) is s.so;
 }
 

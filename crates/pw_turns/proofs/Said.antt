@@ -11,7 +11,7 @@ use Rattle.pw_machine.specs.Machine.{Given}
 use Rattle.pw_machine.specs.Steps.{Kind, release_with_entry}
 use Rattle.pw_turns.specs.Asked.{entry_as}
 use Rattle.pw_turns.specs.Begun.{fault_by, told_by}
-use Rattle.pw_turns.specs.ClimbsOn.{try_of}
+use Rattle.pw_turns.specs.Finished.{try_of}
 use Rattle.pw_turns.specs.Listed.{Lists}
 use Rattle.pw_turns.specs.Told.{KeepsMet, Told}
 use Rattle.pw_turns.specs.Went.{OneMore}

@@ -14,8 +14,7 @@ use Rattle.pw_rule.specs.Rule.{given_of, promise_of}
 use Rattle.pw_rule.specs.Plays.{mine}
 use Rattle.pw_turns.specs.Asked.{entry_as}
 use Rattle.pw_turns.specs.Begun.{Reaches, fault_by, told_by}
-use Rattle.pw_turns.specs.ClimbsOn.{try_of}
-use Rattle.pw_turns.specs.Finished.{Finished}
+use Rattle.pw_turns.specs.Finished.{Finished, try_of}
 use Rattle.pw_turns.specs.Listed.{Lists}
 use Rattle.pw_turns.specs.Owning.{Owns}
 use Rattle.pw_turns.specs.Steps.{MetSince}

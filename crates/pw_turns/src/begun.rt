@@ -11,8 +11,8 @@ ghost use Rattle.pw_rule.specs.Plays.{mine};
 ghost use Rattle.pw_rule.specs.Rule.{given_of, promise_of};
 ghost use Rattle.pw_machine.specs.Walk.{walk};
 ghost use Rattle.pw_walker.specs.Places.{IsPlace, walk_of};
-ghost use Rattle.pw_turns.specs.Steps.{LedOut};
-ghost use Rattle.pw_turns.specs.declared.requests.Try.TheVariants.{Busy};
+ghost use Rattle.pw_turns.specs.Steps.{LedOut, Since};
+ghost use Rattle.pw_turns.specs.Views.{is_met};
 ghost use Rattle.pw_turns.specs.Went.{Began, GaveBack, OneMore, Turned, TurnedAt, Walked};
 
 use crate::contents::step_content;
@@ -21,6 +21,7 @@ use crate::held_record::{HeldRecord, Reached};
 use crate::keeping::Keeps;
 use crate::requests::{Try, settle};
 use crate::sleeping::Wakes;
+use crate::taking::Taking;
 use crate::waited::Done;
 use pw_core::Ops;
 use pw_journal::Journal;
@@ -32,22 +33,24 @@ use pw_walker::{Place, next_turn};
 
 impl<R: Registers, K: Keeps> Coordinator<R, K> {
     ghost use Rattle.pw_turns.specs.Climb.{Climbs};
-    ghost use Rattle.pw_turns.specs.ClimbsOn.{try_of};
-    ghost use Rattle.pw_turns.specs.HeldRecords.{Holds, rank};
+    ghost use Rattle.pw_turns.specs.Finished.{try_of};
+    ghost use Rattle.pw_turns.specs.HeldRecords.{rank};
+    ghost use Rattle.pw_turns.specs.inner.Taking.{Holds, told_in};
     ghost use Rattle.pw_turns.specs.Begun.{IsReady, Leads, MakesNone, Reaches};
     ghost use Rattle.pw_turns.specs.Told.{KeepsMet};
 
-    /// Takes the records from this place on, makes the request on them and keeps them; or answers which
-    /// turn another seat has, and which seat.
-    pub(crate) fn hold(
+    /// Takes the records from this place on, makes the request on them and keeps them; or gives up.
+    pub(crate) fn hold<T: Taking>(
         &self,
+        taking: &T,
         raw: &mut TableSeat<R>,
+        met: &mut Option<(u32, u32)>,
         ops: &mut Ops,
         records: &mut Vec<HeldRecord<R>>,
         number: u32,
         request: Request,
         place: Place,
-    ) -> Result<Reply, (u32, u32)>
+    ) -> Result<Reply, T::Told>
         requires id { raw.old.table_id ≡ self.now.table.shared.table_id }
         requires number { (number ≡ raw.old.me.0.view.number) × (number < 65536) }
         requires asks { Asks self.now.plan raw.old.me.0.view request × (raw.old.me.0.view.out ≡ []) }
@@ -55,28 +58,30 @@ impl<R: Registers, K: Keeps> Coordinator<R, K> {
         requires walk { walk self.now.plan request raw.old.me.0.view.held ≡ walk_of place ops.old.elements }
         requires room { ops_bound self.now.plan request ≤ ops.old.capacity }
         requires records { vec_len records.old + rank place ≤ vec_capacity records.old }
+        requires met { is_met met.old raw.old.me.0.view ≡ true }
         ensures id { raw.new.table_id ≡ raw.old.table_id }
         ensures capacity { ops.new.capacity ≡ ops.old.capacity }
         ensures room { vec_capacity records.new ≡ vec_capacity records.old }
+        ensures met { is_met met.new raw.new.me.0.view ≡ true }
         ensures held { let given = given_of R.Registers self.now.table.shared.key in
-            Holds given request (mine raw.old.me) records.old.items result ops.new.elements
-            records.new.items (mine raw.new.me) }
+            Since T.waits raw.old.me.0.view (λ u. Holds given request (u, raw.old.me.1) records.old.items
+            (told_in T.tried result) ops.new.elements records.new.items (mine raw.new.me)) }
         ensures own { let last = record_count self.now.plan in
-            MatchResult result (λ _. Walked false request raw.old.me.0.own raw.new.me.0.own)
-            (λ met. TurnedAt false last number request (Busy met.0 met.1) raw.old.me.0.own
+            MatchResult result (λ _. Walked T.waits request raw.old.me.0.own raw.new.me.0.own)
+            (λ told. TurnedAt T.waits last number request (T.tried told) raw.old.me.0.own
             raw.new.me.0.own) }
     {
         if let Place::Over { reply } = place {
             return Ok(reply);
         }
         let turn = next_turn(&self.plan, &place);
-        let mut content = match self.lock_record_for(raw, turn, number, request) {
+        let mut content = match taking.obtain_record(self, raw, met, turn, number, request) {
             Ok(content) => content,
-            Err(holder) => return Err((turn, holder)),
+            Err(told) => return Err(told),
         };
         let (next, old) = step_content(&self.plan, &request, place, &mut content, ops);
         records.push_reserved(HeldRecord { turn, content, old });
-        self.hold(raw, ops, records, number, request, next)
+        self.hold(taking, raw, met, ops, records, number, request, next)
     }
 
     /// Puts the records back, the last first: changed where the request was answered, and else as they
@@ -165,58 +170,61 @@ impl<R: Registers, K: Keeps> Coordinator<R, K> {
     }
 
     /// Takes the journal for a request whose records are held; or gives up.
-    pub(crate) fn lead_in(
+    pub(crate) fn lead<T: Taking>(
         &self,
+        taking: &T,
         raw: &mut TableSeat<R>,
+        met: &mut Option<(u32, u32)>,
         seen: &mut u64,
         number: u32,
         request: Request,
-    ) -> Result<Boxed<Journal<R>>, Try>
+    ) -> Result<Boxed<Journal<R>>, T::Told>
         requires id { raw.old.table_id ≡ self.now.table.shared.table_id }
         requires number { (number ≡ raw.old.me.0.view.number) × (number < 65536) }
         requires asks { Asks self.now.plan raw.old.me.0.view request × (raw.old.me.0.view.out ≡ []) }
         requires next { TellsNext self.now.plan raw.old.me.0.view request (record_count self.now.plan) }
         requires seen { seen.old ≡ length raw.old.me.0.view.seen }
+        requires met { is_met met.old raw.old.me.0.view ≡ true }
         ensures id { raw.new.table_id ≡ raw.old.table_id }
         ensures leads { IfOk result (λ j. let key = self.now.table.shared.key in
-            Leads R.Registers (promise_of R.Registers key) (given_of R.Registers key) request
-            (mine raw.old.me) j (mine raw.new.me)) }
+            Since T.waits raw.old.me.0.view (λ u. Leads R.Registers (promise_of R.Registers key)
+            (given_of R.Registers key) request (u, raw.old.me.1) j (mine raw.new.me))) }
         ensures seen { IfOk result (λ j. seen.new ≡ length j.entries) }
         ensures told { let given = given_of R.Registers self.now.table.shared.key in
-            IfErr result (λ told. Climbs given raw.old.me.0.view request told raw.new.me.0.view) }
+            IfErr result (λ told. Since T.waits raw.old.me.0.view
+            (λ u. Climbs given u request (T.tried told) raw.new.me.0.view)) }
         ensures slots { OnErr result (raw.new.me.1 ≡ raw.old.me.1) }
         ensures looked { OnErr result (seen.new ≡ length raw.new.me.0.view.seen) }
-        ensures none { IfErr result MakesNone }
+        ensures met { is_met met.new raw.new.me.0.view ≡ true }
+        ensures none { IfErr result (λ told. MakesNone (T.tried told)) }
         ensures own { let last = record_count self.now.plan in
-            MatchResult result (λ _. Began false request raw.old.me.0.own raw.new.me.0.own)
-            (λ told. TurnedAt false last number request told raw.old.me.0.own raw.new.me.0.own) }
+            MatchResult result (λ _. Began T.waits request raw.old.me.0.own raw.new.me.0.own)
+            (λ told. TurnedAt T.waits last number request (T.tried told) raw.old.me.0.own
+            raw.new.me.0.own) }
     {
-        let journal = match self.lock_journal_for(raw, number, request) {
+        let journal = match taking.obtain_journal(self, raw, met, number, request) {
             Ok(journal) => journal,
-            Err(holder) => {
-                return Err(Try::Busy {
-                    turn: self.counts.records,
-                    holder,
-                });
-            }
+            Err(told) => return Err(told),
         };
         match self.look_in(raw, journal, seen, number, request) {
             Ok(journal) => Ok(journal),
-            Err(told) => Err(told.as_try()),
+            Err(done) => Err(T::told(done)),
         }
     }
 
     /// Takes all turns of a request; or gives up, with the records that it took still held.
-    pub(crate) fn reach(
+    pub(crate) fn reach<T: Taking>(
         &self,
+        taking: &T,
         raw: &mut TableSeat<R>,
+        met: &mut Option<(u32, u32)>,
         ops: &mut Ops,
         records: &mut Vec<HeldRecord<R>>,
         seen: &mut u64,
         number: u32,
         request: Request,
         place: Place,
-    ) -> Result<Reached<R>, Try>
+    ) -> Result<Reached<R>, T::Told>
         requires id { raw.old.table_id ≡ self.now.table.shared.table_id }
         requires number { (number ≡ raw.old.me.0.view.number) × (number < 65536) }
         requires asks { Asks self.now.plan raw.old.me.0.view request × (raw.old.me.0.view.out ≡ []) }
@@ -227,27 +235,31 @@ impl<R: Registers, K: Keeps> Coordinator<R, K> {
         requires empty { length records.old.items ≡ 0 }
         requires records { rank place ≤ vec_capacity records.old }
         requires seen { seen.old ≡ length raw.old.me.0.view.seen }
+        requires met { is_met met.old raw.old.me.0.view ≡ true }
         ensures id { raw.new.table_id ≡ raw.old.table_id }
         ensures capacity { ops.new.capacity ≡ ops.old.capacity }
         ensures room { vec_capacity records.new ≡ vec_capacity records.old }
         ensures reaches { IfOk result (λ r. let key = self.now.table.shared.key in
-            Reaches R.Registers (promise_of R.Registers key) (given_of R.Registers key) request number
-            raw.old.me.0.view r.reply ops.new.elements records.new.items r.journal (mine raw.new.me)) }
+            Since T.waits raw.old.me.0.view (λ u. Reaches R.Registers (promise_of R.Registers key)
+            (given_of R.Registers key) request number u r.reply ops.new.elements records.new.items
+            r.journal (mine raw.new.me))) }
         ensures found { IfOk result (λ r. seen.new ≡ length r.journal.entries) }
         ensures told { let given = given_of R.Registers self.now.table.shared.key in
-            IfErr result (λ told. IsReady given request raw.old.me.0.view records.new.items told
-            (mine raw.new.me)) }
+            IfErr result (λ told. Since T.waits raw.old.me.0.view (λ u. IsReady given request u
+            records.new.items (T.tried told) (mine raw.new.me))) }
         ensures seen { OnErr result (seen.new ≡ length raw.new.me.0.view.seen) }
-        ensures none { IfErr result MakesNone }
+        ensures met { is_met met.new raw.new.me.0.view ≡ true }
+        ensures none { IfErr result (λ told. MakesNone (T.tried told)) }
         ensures own { let last = record_count self.now.plan in
-            MatchResult result (λ _. Began false request raw.old.me.0.own raw.new.me.0.own)
-            (λ told. TurnedAt false last number request told raw.old.me.0.own raw.new.me.0.own) }
+            MatchResult result (λ _. Began T.waits request raw.old.me.0.own raw.new.me.0.own)
+            (λ told. TurnedAt T.waits last number request (T.tried told) raw.old.me.0.own
+            raw.new.me.0.own) }
     {
-        let reply = match self.hold(raw, ops, records, number, request, place) {
+        let reply = match self.hold(taking, raw, met, ops, records, number, request, place) {
             Ok(reply) => reply,
-            Err((turn, holder)) => return Err(Try::Busy { turn, holder }),
+            Err(told) => return Err(told),
         };
-        match self.lead_in(raw, seen, number, request) {
+        match self.lead(taking, raw, met, seen, number, request) {
             Ok(journal) => Ok(Reached { reply, journal }),
             Err(told) => Err(told),
         }

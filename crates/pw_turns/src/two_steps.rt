@@ -1,11 +1,12 @@
 //! A request in two steps: between them its operations are the caller's to do, who has all its turns.
-ghost use Rattle.std.specs.Prelude.{ℕ, ◌≡◌, ◌≢◌, ◌+◌, ◌++◌, ◌∷◌, ◌<◌, ◌≤◌, ◌^◌, [], false, length, vec_capacity, IfErr, IfOk};
+ghost use Rattle.std.specs.Prelude.{ℕ, ◌≡◌, ◌≢◌, ◌+◌, ◌++◌, ◌∷◌, ◌<◌, ◌≤◌, ◌^◌, [], false, true, length, vec_capacity, IfErr, IfOk};
 ghost use Rattle.pw_plan.specs.Requests.{Has};
 ghost use Rattle.pw_model.specs.Records.{record_count};
 ghost use Rattle.pw_rule.specs.Plays.{mine, Mine};
 ghost use Rattle.pw_rule.specs.Rule.{given_of, promise_of};
 ghost use Rattle.pw_machine.specs.declared.view.View.{View as view};
 ghost use Rattle.pw_journal.specs.Reported.{ReportedHeld};
+ghost use Rattle.pw_turns.specs.Steps.{MetSince, Since};
 ghost use Rattle.pw_turns.specs.Views.{view_in};
 ghost use Rattle.pw_turns.specs.Went.{Began, Ended, OneMore, Went, own_in};
 
@@ -14,8 +15,10 @@ use crate::held_record::{HeldRecord, Reached};
 use crate::keeping::Keeps;
 use crate::requests::{Try, listed};
 use crate::sleeping::{Silent, Wakes, Waking};
+use crate::taking::{Taking, Waiting};
+use crate::waited::Done;
 use acpi_values::Op;
-use pw_base::Memory;
+use pw_base::{Memory, OpenGate};
 use pw_core::Ops;
 use pw_journal::{Journal, ReportedRegisters};
 use pw_model::Reply;
@@ -24,6 +27,7 @@ use pw_regs::Registers;
 use pw_rule::Boxed;
 use pw_walker::begin;
 use std::alloc::Global;
+use std::sync::Wait;
 
 /// Room for the records that a request in two steps holds.
 #[derive(Drop)]
@@ -75,6 +79,7 @@ pub struct NotBegun<R, T> {
 impl<R: Registers, K: Keeps> Coordinator<R, K> {
     ghost use Rattle.pw_turns.specs.Owning.{Owns};
     ghost use Rattle.pw_turns.specs.Begun.{MakesNone};
+    ghost use Rattle.pw_turns.specs.Finished.{Finished, try_of};
     ghost use Rattle.pw_turns.specs.Told.{Told};
     ghost use Rattle.pw_turns.specs.TwoSteps.{BeginTells, IsBegun};
 
@@ -84,6 +89,70 @@ impl<R: Registers, K: Keeps> Coordinator<R, K> {
     {
         let records = Vec::with_capacity(alloc, self.counts.records as usize)?;
         Ok(RecordRoom { records })
+    }
+
+    /// Begins a request: it takes all its turns, the journal's last, or gives back what it took.
+    fn start_with<T: Taking>(
+        &self,
+        taking: &T,
+        seat: Seat,
+        room: RecordRoom<R>,
+        request: Request,
+    ) -> Result<Begun<R>, NotBegun<R, T::Told>>
+        requires owns { Owns self.now.table.shared.table_id seat }
+        requires has { Has self.now.plan request }
+        requires room { record_count self.now.plan ≤ vec_capacity room.records }
+        ensures request { IfOk result (λ b. b.request ≡ request) }
+        ensures begun { let shared = self.now.table.shared in
+            IfOk result (λ b. Since T.waits (view_in seat.badge.views)
+            (λ u. IsBegun R.Registers shared.key shared.table_id u b)) }
+        ensures asked { IfOk result (λ b. BeginTells self.now.plan (view_in seat.badge.views) b) }
+        ensures began { IfOk result (λ b. Began T.waits request (own_in seat.badge.views) b.raw.me.0.own) }
+        ensures owns { IfErr result (λ e. Owns self.now.table.shared.table_id e.seat) }
+        ensures room { IfErr result (λ e. record_count self.now.plan ≤ vec_capacity e.room.records) }
+        ensures none { IfErr result (λ e. MakesNone (T.tried e.told)) }
+        ensures told { let given = given_of R.Registers self.now.table.shared.key in
+            IfErr result (λ e. Since T.waits (view_in seat.badge.views)
+            (λ u. Told given u request (T.tried e.told) (view_in e.seat.badge.views))) }
+        ensures steps { let number = (view_in seat.badge.views).number in
+            IfErr result (λ e. Went T.waits (record_count self.now.plan) number request (T.tried e.told)
+            (own_in seat.badge.views) (own_in e.seat.badge.views)) }
+    {
+        let Seat {
+            mut badge,
+            number,
+            parts,
+            mut seen,
+            mut met,
+            mut ops,
+        } = seat;
+        let RecordRoom { records: mut held } = room;
+        let mut raw: TableSeat<R> = out(&mut badge);
+        ops.clear();
+        let place = begin(&self.plan, &request, &mut ops);
+        match self.reach(
+            taking, &mut raw, &mut met, &mut ops, &mut held, &mut seen, number, request, place,
+        ) {
+            Ok(Reached { reply, journal }) => Ok(Begun {
+                raw,
+                number,
+                parts,
+                seen,
+                met,
+                ops,
+                records: held,
+                request,
+                reply,
+                journal,
+            }),
+            Err(told) => {
+                T::wake(self, self.counts.records as usize + 1);
+                self.give_back::<T>(&mut raw, &mut held, request, T::as_try(told));
+                let seat = seated(raw, number, parts, seen, met, ops);
+                let room = RecordRoom { records: held };
+                Err(NotBegun { seat, room, told })
+            }
+        }
     }
 
     /// Begins a request: it takes all its turns, the journal's last, and its operations are the caller's to
@@ -113,43 +182,42 @@ impl<R: Registers, K: Keeps> Coordinator<R, K> {
             IfErr result (λ e. Went false (record_count self.now.plan) number request e.told
             (own_in seat.badge.views) (own_in e.seat.badge.views)) }
     {
-        let Seat {
-            mut badge,
-            number,
-            parts,
-            mut seen,
-            mut met,
-            mut ops,
-        } = seat;
-        let RecordRoom { records: mut held } = room;
-        let mut raw: TableSeat<R> = out(&mut badge);
-        ops.clear();
-        let place = begin(&self.plan, &request, &mut ops);
-        match self.reach(
-            &mut raw, &mut ops, &mut held, &mut seen, number, request, place,
-        ) {
-            Ok(Reached { reply, journal }) => Ok(Begun {
-                raw,
-                number,
-                parts,
-                seen,
-                met,
-                ops,
-                records: held,
-                request,
-                reply,
-                journal,
-            }),
-            Err(told) => {
-                self.give_back::<Silent>(&mut raw, &mut held, request, told);
-                if let Try::Busy { turn, holder } = told {
-                    met = Some((turn, holder));
-                }
-                let seat = seated(raw, number, parts, seen, met, ops);
-                let room = RecordRoom { records: held };
-                Err(NotBegun { seat, room, told })
-            }
-        }
+        self.start_with(&Silent, seat, room, request)
+    }
+
+    /// Begins a request as `try_begin`, but waits where another seat has a turn that it needs, and keeps
+    /// those that it has. It takes no memory.
+    pub fn begin_request<W: Wait>(
+        &self,
+        rt: &W,
+        seat: Seat,
+        room: RecordRoom<R>,
+        request: Request,
+    ) -> Result<Begun<R>, NotBegun<R, Done>>
+        requires owns { Owns self.now.table.shared.table_id seat }
+        requires has { Has self.now.plan request }
+        requires room { record_count self.now.plan ≤ vec_capacity room.records }
+        ensures request { IfOk result (λ b. b.request ≡ request) }
+        ensures begun { let shared = self.now.table.shared in
+            IfOk result (λ b. MetSince (view_in seat.badge.views)
+            (λ u. IsBegun R.Registers shared.key shared.table_id u b)) }
+        ensures asked { IfOk result (λ b. BeginTells self.now.plan (view_in seat.badge.views) b) }
+        ensures began { IfOk result (λ b. Began true request (own_in seat.badge.views) b.raw.me.0.own) }
+        ensures owns { IfErr result (λ e. Owns self.now.table.shared.table_id e.seat) }
+        ensures room { IfErr result (λ e. record_count self.now.plan ≤ vec_capacity e.room.records) }
+        ensures none { IfErr result (λ e. MakesNone (try_of e.told)) }
+        ensures told { let given = given_of R.Registers self.now.table.shared.key in
+            IfErr result (λ e. Finished given (view_in seat.badge.views) request e.told
+            (view_in e.seat.badge.views)) }
+        ensures steps { let number = (view_in seat.badge.views).number in
+            IfErr result (λ e. Went true (record_count self.now.plan) number request (try_of e.told)
+            (own_in seat.badge.views) (own_in e.seat.badge.views)) }
+    {
+        let taking = Waiting {
+            rt,
+            gate: &OpenGate,
+        };
+        self.start_with(&taking, seat, room, request)
     }
 }
 

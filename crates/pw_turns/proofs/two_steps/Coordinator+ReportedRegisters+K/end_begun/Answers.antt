@@ -1,4 +1,4 @@
-use Rattle.std.proofs.Common.{rules, refl, ap, sym, ◌∙◌, subst, arith, ◌≡◌, ◌+◌, ◌∷◌, [], length, true, length-append}
+use Rattle.std.proofs.Common.{rules, refl, ap, sym, ◌∙◌, subst, arith, ◌∷◌, [], length, length-append}
 use Rattle.pw_machine.specs.declared.view.View.{View}
 use Rattle.pw_rule.specs.Plays.{mine}
 use Rattle.pw_rule.specs.Rule.{given_of, promise_of}
@@ -9,7 +9,7 @@ use Rattle.pw_turns.specs.Listed.{Lists}
 use Rattle.pw_turns.specs.Steps.{met_on}
 use Rattle.pw_turns.specs.Told.{Told}
 use Rattle.pw_turns.specs.TwoSteps.{IsBegun}
-use Rattle.pw_turns.specs.Views.{IsAtRest, is_met, view_in}
+use Rattle.pw_turns.specs.Views.{view_in}
 use Rattle.pw_turns.specs.Went.{own_in}
 use Rattle.pw_turns.specs.declared.requests.Try.{Try}
 use Rattle.pw_turns.proofs.Climbing.{ops_are}
