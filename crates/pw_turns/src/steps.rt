@@ -60,30 +60,6 @@ impl<R: Registers, K: Keeps> Coordinator<R, K> {
         }
     }
 
-    /// The same with what it is about picked: where another seat has the record this one gives up.
-    pub(crate) fn lock_record_for(
-        &self,
-        raw: &mut TableSeat<R>,
-        turn: u32,
-        number: u32,
-        request: Request,
-    ) -> Result<Content<R>, u32>
-        requires id { raw.old.table_id ≡ self.now.table.shared.table_id }
-        requires asks { Asks self.now.plan raw.old.me.0.view request }
-        requires turn { turn < record_count self.now.plan }
-        requires next { TellsNext self.now.plan raw.old.me.0.view request turn }
-        requires number { (number ≡ raw.old.me.0.view.number) × (number < 65536) }
-        ensures id { raw.new.table_id ≡ raw.old.table_id }
-        ensures view { let given = given_of R.Registers self.now.table.shared.key in
-            MatchResult result
-            (λ content. TookOut given request (mine raw.old.me) turn content (mine raw.new.me))
-            (λ holder. MetRecord true given request (mine raw.old.me) turn holder (mine raw.new.me)) }
-        ensures own { MatchResult result (λ _. TookOne turn request raw.old.me.0.own raw.new.me.0.own)
-            (λ _. OneMore raw.old.me.0.own (find_record_held turn request true) raw.new.me.0.own) }
-    {
-        self.lock_record::<Brand>(raw, turn, number, request)
-    }
-
     /// The journal, or the number of the seat that has it: then this one gives up, or goes on.
     pub(crate) fn lock_journal<Q: Asked>(
         &self,
@@ -123,32 +99,6 @@ impl<R: Registers, K: Keeps> Coordinator<R, K> {
             Some(Content::Log(journal)) => Ok(journal),
             _ => unreachable!(),
         }
-    }
-
-    /// The same with what it is about picked: where another seat has the journal this one gives up.
-    pub(crate) fn lock_journal_for(
-        &self,
-        raw: &mut TableSeat<R>,
-        number: u32,
-        request: Request,
-    ) -> Result<Boxed<Journal<R>>, u32>
-        requires id { raw.old.table_id ≡ self.now.table.shared.table_id }
-        requires asks { Asks self.now.plan raw.old.me.0.view request }
-        requires next { TellsNext self.now.plan raw.old.me.0.view request (record_count self.now.plan) }
-        requires number { (number ≡ raw.old.me.0.view.number) × (number < 65536) }
-        ensures id { raw.new.table_id ≡ raw.old.table_id }
-        ensures view { let given = given_of R.Registers self.now.table.shared.key in
-            let promise = promise_of R.Registers self.now.table.shared.key in
-            let last = record_count self.now.plan in
-            MatchResult result
-            (λ journal. LedOut R.Registers promise given request last (mine raw.old.me) journal
-            (mine raw.new.me))
-            (λ holder. Met true request (mine raw.old.me) last holder (mine raw.new.me)) }
-        ensures own { MatchResult result
-            (λ _. OneMore raw.old.me.0.own (take_journal request) raw.new.me.0.own)
-            (λ _. OneMore raw.old.me.0.own (find_journal_held request true) raw.new.me.0.own) }
-    {
-        self.lock_journal::<Brand>(raw, number, request)
     }
 
     /// Gives the journal back with one entry more.

@@ -14,12 +14,11 @@ use crate::keeping::Keeps;
 use crate::requests::Try;
 use crate::sleeping::{Silent, Wakes};
 use crate::waited::Done;
-use pw_base::Gate;
 use pw_journal::Journal;
 use pw_plan::Request;
 use pw_regs::Registers;
 use pw_rule::{Boxed, Content};
-use std::sync::Wait;
+use std::marker::Brand;
 
 /// How a request takes its turns. What it is told says by its type whether it may have found one held.
 pub(crate) trait Taking: Wakes {
@@ -36,9 +35,11 @@ pub(crate) trait Taking: Wakes {
     /// What one that gives up would have been told.
     ghost tried: { Self.Told → tried_as };
 
+    /// What it is told that had all its turns.
     fn told(done: Done) -> Self::Told
         ensures { tried result ≡ try_of done };
 
+    /// What one that gives up would have been told.
     fn as_try(told: Self::Told) -> Try
         ensures { result ≡ tried told };
 
@@ -124,7 +125,7 @@ impl Taking for Silent {
         number: u32,
         request: Request,
     ) -> Result<Content<R>, Try> {
-        match coordinator.lock_record_for(raw, turn, number, request) {
+        match coordinator.lock_record::<Brand>(raw, turn, number, request) {
             Ok(content) => Ok(content),
             Err(holder) => {
                 *met = Some((turn, holder));
@@ -141,7 +142,7 @@ impl Taking for Silent {
         number: u32,
         request: Request,
     ) -> Result<Boxed<Journal<R>>, Try> {
-        match coordinator.lock_journal_for(raw, number, request) {
+        match coordinator.lock_journal::<Brand>(raw, number, request) {
             Ok(journal) => Ok(journal),
             Err(holder) => {
                 let last = coordinator.counts.records;
@@ -149,61 +150,5 @@ impl Taking for Silent {
                 Err(Try::Busy { turn: last, holder })
             }
         }
-    }
-}
-
-/// It sleeps until the turn is free, and wakes who sleeps for one that it gives back. The gate is reached
-/// with all records held and the journal not taken.
-#[derive(Drop)]
-pub(crate) struct Waiting<'a, W, G> {
-    pub(crate) rt: &'a W,
-    pub(crate) gate: &'a G,
-}
-
-impl<W: Wait, G: Gate> Wakes for Waiting<'_, W, G> {
-    fn wake<R: Registers, K: Keeps>(coordinator: &Coordinator<R, K>, word: usize) {
-        coordinator.wake(word);
-    }
-}
-
-impl<W: Wait, G: Gate> Taking for Waiting<'_, W, G> {
-    ghost use Rattle.pw_turns.specs.Finished.{try_of};
-
-    type Told = Done;
-
-    ghost waits = { true };
-
-    ghost tried = { try_of };
-
-    fn told(done: Done) -> Done {
-        done
-    }
-
-    fn as_try(told: Done) -> Try {
-        told.as_try()
-    }
-
-    fn obtain_record<R: Registers, K: Keeps>(
-        &self,
-        coordinator: &Coordinator<R, K>,
-        raw: &mut TableSeat<R>,
-        met: &mut Option<(u32, u32)>,
-        turn: u32,
-        number: u32,
-        request: Request,
-    ) -> Result<Content<R>, Done> {
-        Ok(coordinator.wait_for_record(self.rt, raw, met, turn, number, request))
-    }
-
-    fn obtain_journal<R: Registers, K: Keeps>(
-        &self,
-        coordinator: &Coordinator<R, K>,
-        raw: &mut TableSeat<R>,
-        met: &mut Option<(u32, u32)>,
-        number: u32,
-        request: Request,
-    ) -> Result<Boxed<Journal<R>>, Done> {
-        self.gate.reached(request.cpu(), 0);
-        Ok(coordinator.wait_for_journal(self.rt, raw, met, number, request))
     }
 }

@@ -15,15 +15,15 @@ pub returns-in-Ok-clause-led : goal.returns-in-Ok-clause-led
 returns-in-Ok-clause-led g c =
     let by = g.R.Registers in let self = c.args.coordinator.now in let key = self.table.shared.key in let m = mine c.args.raw.now.me in
     since_now false m.0 (λ u. LedOut by (promise_of by key) (given_of by key) c.args.request (record_count self.plan) (u, m.1) c.in-Ok.journal
-    (mine c.lock_journal_for.new.raw.me)) c.in-Ok.ensures.view
+    (mine c.lock_journal.new.raw.me)) c.in-Ok.ensures.view
 
 pub returns-in-Ok-clause-own : goal.returns-in-Ok-clause-own
-returns-in-Ok-clause-own g c = began_at false c.args.request c.args.raw.now.me.0.own c.lock_journal_for.new.raw.me.0.own c.in-Ok.ensures.own
+returns-in-Ok-clause-own g c = began_at false c.args.request c.args.raw.now.me.0.own c.lock_journal.new.raw.me.0.own c.in-Ok.ensures.own
 
 pub returns-in-Err-clause-told : goal.returns-in-Err-clause-told
 returns-in-Err-clause-told g c =
     let self = c.args.coordinator.now in let given = given_of g.R.Registers self.table.shared.key in let v = c.args.raw.now.me.0.view in
-    let w = c.lock_journal_for.new.raw.me.0.view in let e = c.in-Err.ensures.view in let back = ap (λ m. m.0) e.0 in
+    let w = c.lock_journal.new.raw.me.0.view in let e = c.in-Err.ensures.view in let back = ap (λ m. m.0) e.0 in
     subst (λ turn. GivesUp given v c.args.request (Busy turn c.in-Err.holder) w) (sym self.counted.2)
     ((back, e.1.stranger, e.1.not_alone, inl (ap record_count (sym self.planned)), e.1.given), tt, ap (λ (v : View). v.seen) back)
 
@@ -34,4 +34,4 @@ pub returns-in-Err-clause-own : goal.returns-in-Err-clause-own
 returns-in-Err-clause-own g c =
     let self = c.args.coordinator.now in let q = c.args.request in
     turned_at false q (record_count self.plan) c.args.number (Busy self.counts.records c.in-Err.holder) (find_journal_held q true)
-    c.args.raw.now.me.0.own c.lock_journal_for.new.raw.me.0.own c.in-Err.ensures.own (inr (self.counted.2, refl))
+    c.args.raw.now.me.0.own c.lock_journal.new.raw.me.0.own c.in-Err.ensures.own (inr (self.counted.2, refl))

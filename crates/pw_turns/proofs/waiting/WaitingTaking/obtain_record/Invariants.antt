@@ -4,7 +4,7 @@ use Rattle.pw_turns.specs.Asked.{no_entry}
 use Rattle.pw_turns.specs.Went.{Walked}
 use Rattle.pw_turns.specs.Views.{is_met}
 use Rattle.pw_turns.proofs.Again.{IsAgain}
-use Rattle.pw_turns.proofs.coordinator.Coordinator.wait_for_record.Given as goal
+use Rattle.pw_turns.proofs.waiting.WaitingTaking.obtain_record.Given as goal
 
 abbrev pub ghosts-lock_record : goal.ghosts-lock_record
 ghosts-lock_record g a = record {

@@ -2,11 +2,11 @@ use Rattle.std.proofs.Common.{ap, false, true, refl, rules}
 use Rattle.pw_machine.specs.Steps.{find_journal_held}
 use Rattle.pw_turns.proofs.Going.{began_after, began_at, walked_none, walked_on, walked_one}
 use Rattle.pw_turns.proofs.Again.{again_first, again_met}
-use Rattle.pw_turns.proofs.coordinator.Coordinator.wait_for_journal.Goals as goal
+use Rattle.pw_turns.proofs.waiting.WaitingTaking.obtain_journal.Goals as goal
 
 pub loop-init : goal.loop-init
 loop-init g c =
-    let r = c.requires in (refl, again_first c.args.self.now.plan c.args.raw.now.me.0.view c.args.request r.asks, refl, r.met, walked_none true c.args.request c.args.raw.now.me.0.own)
+    let r = c.requires in (refl, again_first c.args.coordinator.now.plan c.args.raw.now.me.0.view c.args.request r.asks, refl, r.met, walked_none true c.args.request c.args.raw.now.me.0.own)
 
 pub loop-preserved : goal.loop-preserved
 loop-preserved g c = (

@@ -1,7 +1,7 @@
 use Rattle.std.proofs.Common.{true, Some}
 use Rattle.pw_rule.specs.Rule.{given_of, promise_of}
 use Rattle.pw_turns.specs.Asked.{no_entry}
-use Rattle.pw_turns.proofs.coordinator.Coordinator.lock_journal_for.Given as goal
+use Rattle.pw_turns.proofs.taking.SilentTaking.obtain_journal.Given as goal
 
 abbrev pub ghosts-lock_journal : goal.ghosts-lock_journal
 ghosts-lock_journal g a = record {
