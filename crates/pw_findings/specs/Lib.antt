@@ -3,3 +3,4 @@ pub mod Findings
 pub mod Firsts
 pub mod Scales
 pub mod Domains
+pub mod inner

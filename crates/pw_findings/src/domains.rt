@@ -1,4 +1,4 @@
-ghost use Rattle.std.specs.Prelude.{◌≡◌, ◌++◌, find, option_copied, unwrap_or, IfOk, OnOk};
+ghost use Rattle.std.specs.Prelude.{◌≡◌, ◌++◌, find, IfOk, OnOk};
 ghost use Rattle.std.specs.Option.{option_map};
 ghost use Rattle.std.specs.List.{flat_map};
 ghost use Rattle.pw_plan.specs.Domains.{as_dependency, declared_of, dependency_in, entry_of};
@@ -13,6 +13,7 @@ ghost use Rattle.pw_findings.specs.Domains.{reason};
 ghost use Rattle.pw_findings.specs.Domains.{shown_in, unfit_findings};
 
 use crate::adding::add;
+use crate::differing::{Differing, member_where};
 use crate::finding::{DomainId, Finding, FindingKind, OfDomain, OfMember, Shared};
 use crate::members::find_in_members;
 use acpi_values::{CDependency, Coord, Dependency};
@@ -153,7 +154,7 @@ fn length_in(cpus: &[CpuParts], domain: &Domain, cpu: u32) -> usize
 }
 
 /// Whether a member declares another coordination type than the first.
-fn has_other_type(cpus: &[CpuParts], domain: &Domain, cpu: u32) -> bool
+pub(crate) fn has_other_type(cpus: &[CpuParts], domain: &Domain, cpu: u32) -> bool
     ensures { result ≡ has_other_type cpus.now domain.now cpu }
 {
     let first = shown_in(cpus, domain, lead(domain));
@@ -161,7 +162,7 @@ fn has_other_type(cpus: &[CpuParts], domain: &Domain, cpu: u32) -> bool
 }
 
 /// Whether it declares another number of processors than the first.
-fn has_other_number(cpus: &[CpuParts], domain: &Domain, cpu: u32) -> bool
+pub(crate) fn has_other_number(cpus: &[CpuParts], domain: &Domain, cpu: u32) -> bool
     ensures { result ≡ has_other_number cpus.now domain.now cpu }
 {
     let first = shown_in(cpus, domain, lead(domain));
@@ -169,7 +170,7 @@ fn has_other_number(cpus: &[CpuParts], domain: &Domain, cpu: u32) -> bool
 }
 
 /// Whether it has another number of states than the first.
-fn has_other_length(cpus: &[CpuParts], domain: &Domain, cpu: u32) -> bool
+pub(crate) fn has_other_length(cpus: &[CpuParts], domain: &Domain, cpu: u32) -> bool
     ensures { result ≡ has_other_length cpus.now domain.now cpu }
 {
     length_in(cpus, domain, cpu) != length_in(cpus, domain, lead(domain))
@@ -177,7 +178,7 @@ fn has_other_length(cpus: &[CpuParts], domain: &Domain, cpu: u32) -> bool
 
 /// Whether it has states of the domain's kind and no control register.
 #[tactic(auto, unfolding(pw_plan::specs::Parts::no_cpu))]
-fn lacks_register(cpus: &[CpuParts], domain: &Domain, cpu: u32) -> bool
+pub(crate) fn lacks_register(cpus: &[CpuParts], domain: &Domain, cpu: u32) -> bool
     ensures { result ≡ lacks_register cpus.now domain.now cpu }
 {
     match cpus.get(cpu as usize) {
@@ -189,75 +190,12 @@ fn lacks_register(cpus: &[CpuParts], domain: &Domain, cpu: u32) -> bool
     }
 }
 
-/// The member that was found, or the first.
-fn or_lead(domain: &Domain, found: Option<&u32>) -> u32
-    ensures { result ≡ unwrap_or (option_copied found.entry) (lead domain.now) }
-{
-    match found {
-        None => lead(domain),
-        Some(member) => *member,
-    }
-}
-
-/// The first of these members that is of another coordination type.
-fn member_of_other_type<'a>(
-    cpus: &[CpuParts],
-    domain: &Domain,
-    members: &'a [u32],
-) -> Option<&'a u32>
-    ensures { option_copied result ≡ find (has_other_type cpus.now domain.now) members.now }
-{
-    members
-        .iter()
-        .find(|member| has_other_type(cpus, domain, **member))
-}
-
-/// The first of these members that declares another number of processors.
-fn member_of_other_number<'a>(
-    cpus: &[CpuParts],
-    domain: &Domain,
-    members: &'a [u32],
-) -> Option<&'a u32>
-    ensures { option_copied result ≡ find (has_other_number cpus.now domain.now) members.now }
-{
-    members
-        .iter()
-        .find(|member| has_other_number(cpus, domain, **member))
-}
-
-/// The first of these members with another number of states.
-fn member_of_other_length<'a>(
-    cpus: &[CpuParts],
-    domain: &Domain,
-    members: &'a [u32],
-) -> Option<&'a u32>
-    ensures { option_copied result ≡ find (has_other_length cpus.now domain.now) members.now }
-{
-    members
-        .iter()
-        .find(|member| has_other_length(cpus, domain, **member))
-}
-
-/// The first of these members without a control register.
-fn member_without_register<'a>(
-    cpus: &[CpuParts],
-    domain: &Domain,
-    members: &'a [u32],
-) -> Option<&'a u32>
-    ensures { option_copied result ≡ find (lacks_register cpus.now domain.now) members.now }
-{
-    members
-        .iter()
-        .find(|member| lacks_register(cpus, domain, **member))
-}
-
 /// That a member declares another coordination type than the first.
 fn other_type(alloc: Global, cpus: &[CpuParts], domain: &Domain) -> Result<FindingKind, Memory>
     ensures { IfOk result (λ amiss. amiss ≡ other_type cpus.now domain.now
         (member_where (has_other_type cpus.now domain.now) domain.now)) }
 {
-    let members = domain.members.as_slice();
-    let other = or_lead(domain, member_of_other_type(cpus, domain, members));
+    let other = member_where(Differing::Type, cpus, domain);
     let of = OfDomain::OtherType {
         coord: shown_in(cpus, domain, lead(domain)).coord,
         other: path_at(alloc, cpus, other)?,
@@ -274,8 +212,7 @@ fn other_number(alloc: Global, cpus: &[CpuParts], domain: &Domain) -> Result<Fin
     ensures { IfOk result (λ amiss. amiss ≡ other_number cpus.now domain.now
         (member_where (has_other_number cpus.now domain.now) domain.now)) }
 {
-    let members = domain.members.as_slice();
-    let other = or_lead(domain, member_of_other_number(cpus, domain, members));
+    let other = member_where(Differing::Number, cpus, domain);
     let of = OfDomain::OtherNumber {
         processors: shown_in(cpus, domain, lead(domain)).processors,
         other: path_at(alloc, cpus, other)?,
@@ -306,8 +243,7 @@ fn other_length(alloc: Global, cpus: &[CpuParts], domain: &Domain) -> Result<Fin
     ensures { IfOk result (λ amiss. amiss ≡ other_length cpus.now domain.now
         (member_where (has_other_length cpus.now domain.now) domain.now)) }
 {
-    let members = domain.members.as_slice();
-    let other = or_lead(domain, member_of_other_length(cpus, domain, members));
+    let other = member_where(Differing::Length, cpus, domain);
     let of = OfMember::OtherLength {
         count: length_in(cpus, domain, lead(domain)),
         other: path_at(alloc, cpus, other)?,
@@ -324,8 +260,7 @@ fn no_register(alloc: Global, cpus: &[CpuParts], domain: &Domain) -> Result<Find
     ensures { IfOk result (λ amiss. amiss ≡ no_register cpus.now domain.now
         (member_where (lacks_register cpus.now domain.now) domain.now)) }
 {
-    let members = domain.members.as_slice();
-    let other = or_lead(domain, member_without_register(cpus, domain, members));
+    let other = member_where(Differing::NoRegister, cpus, domain);
     let of = OfMember::NoRegister {
         other: path_at(alloc, cpus, other)?,
     };

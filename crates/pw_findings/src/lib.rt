@@ -4,6 +4,7 @@
 
 mod adding;
 mod controls;
+mod differing;
 mod domains;
 mod finding;
 mod firsts;

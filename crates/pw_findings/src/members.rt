@@ -1,6 +1,6 @@
 //! How the members of a domain differ that software coordinates.
 
-ghost use Rattle.std.specs.Prelude.{◌≡◌, ◌++◌, find, option_copied, IfOk, OnOk};
+ghost use Rattle.std.specs.Prelude.{◌≡◌, ◌++◌, option_copied, IfOk, OnOk};
 ghost use Rattle.pw_plan.specs.Groups.{is_software};
 ghost use Rattle.pw_findings.specs.Domains.{apart, control_at, controls_of, has_other_control};
 ghost use Rattle.pw_findings.specs.Domains.{has_other_register};
@@ -9,6 +9,7 @@ ghost use Rattle.pw_findings.specs.Domains.{scale_at, unlike};
 
 use crate::adding::add;
 use crate::controls::{are_same, register_in};
+use crate::differing::{Differing, first_member};
 use crate::domains::{id_of, lead, path_at};
 use crate::finding::{Finding, FindingKind, OfMember};
 use crate::firsts::{first_other, number_in};
@@ -67,37 +68,19 @@ fn other_state(cpus: &[CpuParts], domain: &Domain, cpu: u32) -> Option<usize>
 }
 
 /// Whether there is one.
-fn has_other_control(cpus: &[CpuParts], domain: &Domain, cpu: u32) -> bool
+pub(crate) fn has_other_control(cpus: &[CpuParts], domain: &Domain, cpu: u32) -> bool
     ensures { result ≡ has_other_control cpus.now domain.now cpu }
 {
     other_state(cpus, domain, cpu).is_some()
 }
 
 /// Whether a member has another control register than the first.
-fn has_other_register(cpus: &[CpuParts], domain: &Domain, cpu: u32) -> bool
+pub(crate) fn has_other_register(cpus: &[CpuParts], domain: &Domain, cpu: u32) -> bool
     ensures { result ≡ has_other_register cpus.now domain.now cpu }
 {
     let first = register_in(scale_at(cpus, domain, lead(domain)));
     let scale = scale_at(cpus, domain, cpu);
     scale.is_some() && !are_same(first, register_in(scale))
-}
-
-/// The first of these members with another control register.
-fn member_apart<'a>(cpus: &[CpuParts], domain: &Domain, members: &'a [u32]) -> Option<&'a u32>
-    ensures { option_copied result ≡ find (has_other_register cpus.now domain.now) members.now }
-{
-    members
-        .iter()
-        .find(|member| has_other_register(cpus, domain, **member))
-}
-
-/// The first of these members with another control value.
-fn member_unlike<'a>(cpus: &[CpuParts], domain: &Domain, members: &'a [u32]) -> Option<&'a u32>
-    ensures { option_copied result ≡ find (has_other_control cpus.now domain.now) members.now }
-{
-    members
-        .iter()
-        .find(|member| has_other_control(cpus, domain, **member))
 }
 
 /// Adds that this member has another control register than the first.
@@ -186,8 +169,8 @@ pub(crate) fn find_in_members(
         return Ok(());
     }
     let members = domain.members.as_slice();
-    let other = member_apart(cpus, domain, members);
+    let other = first_member(Differing::Register, cpus, domain, members);
     find_apart(alloc, cpus, domain, other, found)?;
-    let other = member_unlike(cpus, domain, members);
+    let other = first_member(Differing::Control, cpus, domain, members);
     find_unlike(alloc, cpus, domain, other, found)
 }

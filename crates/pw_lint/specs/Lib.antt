@@ -5,3 +5,4 @@ pub mod Notes
 pub mod Passed
 pub mod Machine
 pub mod Laws
+pub mod inner

@@ -6,6 +6,7 @@ ghost use Rattle.std.specs.List.{list_any};
 ghost use Rattle.acpi_build.specs.Tables.{AreCountable};
 ghost use Rattle.pw_findings.specs.Findings.{of_each};
 ghost use Rattle.pw_lint.specs.CpcDomains.{are_apart, at_member, cpc_domain_findings, declared_amiss};
+ghost use Rattle.pw_lint.specs.inner.Differing.{differs};
 ghost use Rattle.pw_lint.specs.CpcDomains.{has_other_number};
 ghost use Rattle.pw_lint.specs.CpcDomains.{has_other_range, has_other_type, id_of, is_in, led, led_by};
 ghost use Rattle.pw_lint.specs.CpcDomains.{member_at};
@@ -158,6 +159,37 @@ fn has_other_range(first: Member, member: Option<Member>) -> bool
     }
 }
 
+/// How a member of a domain may differ from the first.
+#[derive(Clone, Copy)]
+pub(crate) enum Differing {
+    /// It declares another coordination type.
+    Type,
+    /// It declares another number of processors.
+    Number,
+    /// It goes from or to another level.
+    Range,
+}
+
+/// Whether a processor is a member that differs so.
+fn differs(way: Differing, first: Member, member: Option<Member>) -> bool
+    ensures { result ≡ differs way first member }
+{
+    match way {
+        Differing::Type => has_other_type(first, member),
+        Differing::Number => has_other_number(first, member),
+        Differing::Range => has_other_range(first, member),
+    }
+}
+
+/// The first that is.
+fn other_member(way: Differing, members: &[Option<Member>], first: Member) -> Option<usize>
+    ensures { result ≡ position (differs way first) members.now }
+{
+    members
+        .iter()
+        .position(|member| differs(way, first, *member))
+}
+
 /// The domain of a member.
 fn id_of(first: Member) -> DomainId
     ensures { result ≡ id_of first }
@@ -167,15 +199,6 @@ fn id_of(first: Member) -> DomainId
         number: Some(first.declared.domain),
         index: 0,
     }
-}
-
-/// The first that declares another coordination type.
-fn other_type(members: &[Option<Member>], first: Member) -> Option<usize>
-    ensures { result ≡ position (has_other_type first) members.now }
-{
-    members
-        .iter()
-        .position(|member| has_other_type(first, *member))
 }
 
 /// Adds that a member declares another coordination type.
@@ -190,7 +213,7 @@ fn find_type(
     ensures { OnOk result (found.new.items ≡ found.old.items ++ type_amiss cpus.now members.now path.now first
         (position (has_other_type first) members.now)) }
 {
-    let Some(p) = other_type(members, first) else {
+    let Some(p) = other_member(Differing::Type, members, first) else {
         return Ok(());
     };
     let of = OfDomain::OtherType {
@@ -200,15 +223,6 @@ fn find_type(
     };
     let domain = id_of(first);
     add(alloc, path, FindingKind::Domain { domain, of }, found)
-}
-
-/// The first that declares another number of processors.
-fn other_number(members: &[Option<Member>], first: Member) -> Option<usize>
-    ensures { result ≡ position (has_other_number first) members.now }
-{
-    members
-        .iter()
-        .position(|member| has_other_number(first, *member))
 }
 
 /// Adds that a member declares another number of processors.
@@ -223,7 +237,7 @@ fn find_number(
     ensures { OnOk result (found.new.items ≡ found.old.items
         ++ number_amiss cpus.now members.now path.now first (position (has_other_number first) members.now)) }
 {
-    let Some(p) = other_number(members, first) else {
+    let Some(p) = other_member(Differing::Number, members, first) else {
         return Ok(());
     };
     let of = OfDomain::OtherNumber {
@@ -293,15 +307,6 @@ fn find_ranges(
     add(alloc, path, FindingKind::Member { domain, of }, found)
 }
 
-/// The first that goes from or to another level.
-fn other_range(members: &[Option<Member>], first: Member) -> Option<usize>
-    ensures { result ≡ position (has_other_range first) members.now }
-{
-    members
-        .iter()
-        .position(|member| has_other_range(first, *member))
-}
-
 /// Adds that some member does.
 fn find_range(
     alloc: Global,
@@ -314,7 +319,7 @@ fn find_range(
     ensures { OnOk result (found.new.items ≡ found.old.items
         ++ range_amiss cpus.now members.now path.now first (position (has_other_range first) members.now)) }
 {
-    let Some(p) = other_range(members, first) else {
+    let Some(p) = other_member(Differing::Range, members, first) else {
         return Ok(());
     };
     let other = path_in(alloc, cpus, p)?;
