@@ -12,7 +12,7 @@ ghost use Rattle.pw_findings.specs.Domains.{other_length, other_number, other_si
 ghost use Rattle.pw_findings.specs.Domains.{reason};
 ghost use Rattle.pw_findings.specs.Domains.{shown_in, unfit_findings};
 
-use crate::adding::add;
+use crate::adding::add_at;
 use crate::differing::{Differing, member_where};
 use crate::finding::{DomainId, Finding, FindingKind, OfDomain, OfMember, Shared};
 use crate::members::find_in_members;
@@ -298,7 +298,7 @@ fn find_unfit(
     }
     let path = path_at(alloc, cpus, lead(domain))?;
     let kind = reason(alloc, cpus, domain)?;
-    add(alloc, &path, kind, found)
+    add_at(path, kind, found)
 }
 
 /// Adds what is found of a domain.

@@ -7,7 +7,7 @@ ghost use Rattle.pw_findings.specs.Domains.{has_other_register};
 ghost use Rattle.pw_findings.specs.Domains.{is_written, lead, member_findings, other_control, other_state};
 ghost use Rattle.pw_findings.specs.Domains.{scale_at, unlike};
 
-use crate::adding::add;
+use crate::adding::add_at;
 use crate::controls::{are_same, register_in};
 use crate::differing::{Differing, first_member};
 use crate::domains::{id_of, lead, path_at};
@@ -103,7 +103,7 @@ fn find_apart(
         domain: id_of(domain),
         of: OfMember::OtherRegister { other },
     };
-    add(alloc, &path, kind, found)
+    add_at(path, kind, found)
 }
 
 /// The control value of a state at a member.
@@ -152,7 +152,7 @@ fn find_unlike(
     let path = path_at(alloc, cpus, lead(domain))?;
     let state = other_state(cpus, domain, *member).unwrap_or(0);
     let kind = other_control(alloc, cpus, domain, *member, state)?;
-    add(alloc, &path, kind, found)
+    add_at(path, kind, found)
 }
 
 /// Adds how the members of a domain differ.
