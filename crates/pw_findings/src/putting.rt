@@ -1,6 +1,7 @@
 ghost use Rattle.std.specs.Prelude.{◌≡◌, ◌∷◌, ◌++◌, decimal, is_ok};
 ghost use Rattle.std.specs.List.{flat_map};
 ghost use Rattle.pw_text.specs.Puts.{PutsText};
+ghost use Rattle.pw_findings.specs.declared.finding.Shared.TheVariants.{States};
 ghost use Rattle.pw_findings.specs.Words.{domain_words, number_words, pace_words, place_words};
 ghost use Rattle.pw_findings.specs.Words.{shared_words, state_words, word_text};
 
@@ -78,17 +79,30 @@ fn put_domain_number<K: Sink>(
     }
 }
 
+/// Puts of which states a domain is.
+fn put_of_states<K: Sink>(
+    page: &mut Page,
+    sink: &mut K,
+    kind: DomainKind,
+    index: u32,
+) -> Result<(), Failed>
+    ensures { PutsText K.Sink sink.old sink.new page.old page.new
+        (shared_words (States kind) index) (is_ok result) }
+{
+    match kind {
+        DomainKind::Perf => page.put(sink, b" of performance"),
+        DomainKind::Throttle => page.put(sink, b" of throttling"),
+        DomainKind::Idle => put_labelled(page, sink, b" of C state ", u64::from(index) + 1),
+    }
+}
+
 /// Puts what a domain's members share.
 fn put_shared<K: Sink>(page: &mut Page, sink: &mut K, of: Shared, index: u32) -> Result<(), Failed>
     ensures { PutsText K.Sink sink.old sink.new page.old page.new
         (shared_words of index) (is_ok result) }
 {
     match of {
-        Shared::States(DomainKind::Perf) => page.put(sink, b" of performance"),
-        Shared::States(DomainKind::Throttle) => page.put(sink, b" of throttling"),
-        Shared::States(DomainKind::Idle) => {
-            put_labelled(page, sink, b" of C state ", u64::from(index) + 1)
-        }
+        Shared::States(kind) => put_of_states(page, sink, kind, index),
         Shared::Cpc => page.put(sink, b" of _CPC"),
     }
 }

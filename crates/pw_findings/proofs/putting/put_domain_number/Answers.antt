@@ -1,4 +1,7 @@
 use Rattle.pw_findings.proofs.putting.put_domain_number.Goals as goal
 
+pub returns-in-None : goal.returns-in-None
+returns-in-None g c = rw c.in-None.is c.put.ensures
+
 pub returns-in-Some : goal.returns-in-Some
 returns-in-Some g c = rw c.in-Some.is (rw c.from.ensures at c.put_labelled.ensures)
