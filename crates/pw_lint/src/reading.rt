@@ -1,10 +1,10 @@
 //! What is read of objects again, of which a plan keeps a part alone.
 
 ghost use Rattle.std.specs.Prelude.{◌≡◌, ◌∷◌, ◌++◌, [], map, IfOk, IfSome};
+ghost use Rattle.std.specs.Prelude.{List as list_type};
 ghost use Rattle.std.specs.Option.{option_map};
 ghost use Rattle.aml_data.specs.Countable.{IsCountable};
-ghost use Rattle.acpi_idle.specs.CStates.{cst_of};
-ghost use Rattle.acpi_perf.specs.Scales.{pss_of, tss_of};
+ghost use Rattle.acpi_fields.specs.Reading.{Gives, Read};
 ghost use Rattle.acpi_space.specs.Things.{thing};
 ghost use Rattle.acpi_build.specs.Tables.{AreCountable};
 ghost use Rattle.pw_lint.specs.Tables.{below, c_states, dependency, dependency_read, frequencies, given_at};
@@ -128,12 +128,12 @@ pub(crate) fn integer_below(
     }
 }
 
-/// The C states that an object means.
-fn c_states_in(alloc: Global, given: Given<'_>) -> Result<Vec<CState>, Memory>
-    requires { IsCountable given.object.now }
-    ensures { IfOk result (λ r. r.items ≡ states_read (cst_of given.entry.width given.entry.object.now)) }
+/// The states that were read of an object, none where it means nothing.
+fn states_read<S: Drop>(alloc: Global, read: Result<Vec<S>, ReadFault>) -> Result<Vec<S>, Memory>
+    ensures { (states : Read (list_type S)) → Gives (λ r. r.items) read states
+        → IfOk result (λ r. r.items ≡ states_read states) }
 {
-    match read_cst(alloc, given.object, given.width) {
+    match read {
         Ok(states) => Ok(states),
         Err(ReadFault::Shape { place: _, why: _ }) => Ok(Vec::new(alloc)),
         Err(ReadFault::Memory) => Err(Memory),
@@ -152,19 +152,7 @@ pub(crate) fn c_states(
 {
     match given_below(alloc, space, path, Seg::of_segment(*b"_CST"))? {
         None => Ok(Vec::new(alloc)),
-        Some(given) => c_states_in(alloc, given),
-    }
-}
-
-/// The performance states that an object means.
-fn p_states_in(alloc: Global, given: Given<'_>) -> Result<Vec<PState>, Memory>
-    requires { IsCountable given.object.now }
-    ensures { IfOk result (λ r. r.items ≡ states_read (pss_of given.entry.width given.entry.object.now)) }
-{
-    match read_pss(alloc, given.object, given.width) {
-        Ok(states) => Ok(states),
-        Err(ReadFault::Shape { place: _, why: _ }) => Ok(Vec::new(alloc)),
-        Err(ReadFault::Memory) => Err(Memory),
+        Some(given) => states_read(alloc, read_cst(alloc, given.object, given.width)),
     }
 }
 
@@ -180,19 +168,7 @@ pub(crate) fn p_states(
 {
     match given_below(alloc, space, path, Seg::of_segment(*b"_PSS"))? {
         None => Ok(Vec::new(alloc)),
-        Some(given) => p_states_in(alloc, given),
-    }
-}
-
-/// The throttling states that an object means.
-fn t_states_in(alloc: Global, given: Given<'_>) -> Result<Vec<TState>, Memory>
-    requires { IsCountable given.object.now }
-    ensures { IfOk result (λ r. r.items ≡ states_read (tss_of given.entry.width given.entry.object.now)) }
-{
-    match read_tss(alloc, given.object, given.width) {
-        Ok(states) => Ok(states),
-        Err(ReadFault::Shape { place: _, why: _ }) => Ok(Vec::new(alloc)),
-        Err(ReadFault::Memory) => Err(Memory),
+        Some(given) => states_read(alloc, read_pss(alloc, given.object, given.width)),
     }
 }
 
@@ -208,7 +184,7 @@ pub(crate) fn t_states(
 {
     match given_below(alloc, space, path, Seg::of_segment(*b"_TSS"))? {
         None => Ok(Vec::new(alloc)),
-        Some(given) => t_states_in(alloc, given),
+        Some(given) => states_read(alloc, read_tss(alloc, given.object, given.width)),
     }
 }
 
