@@ -1,13 +1,15 @@
 ghost use Rattle.std.specs.Prelude.{◌≡◌, ◌++◌, IfOk, OnOk};
 ghost use Rattle.acpi_build.specs.Tables.{AreCountable};
-ghost use Rattle.pw_lint.specs.Machine.{findings, outcome_findings, AreFindings};
+ghost use Rattle.std.specs.List.{flat_map};
+ghost use Rattle.pw_lint.specs.Machine.{findings, object_findings, outcome_findings, AreFindings};
+ghost use Rattle.pw_lint.specs.Passed.{passed_findings};
 
 use crate::cpc_domains::find_in_cpc_domains;
 use crate::devices::find_twins;
 use crate::notes::{find_in_faults, find_in_notes, find_past_limit};
 use crate::passed::find_passed;
 use crate::processors::{find_in_containers, find_in_cpus};
-use acpi_build::{Note, Outcome, survey_objects};
+use acpi_build::{Note, Outcome, Survey, survey_objects};
 use acpi_space::{PassedOver, Space};
 use pw_base::Memory;
 use pw_findings::{Finding, find_in_domains};
@@ -58,6 +60,29 @@ fn find_in_outcome(
     }
 }
 
+/// Adds what is found of terms that were passed over, of objects that mean nothing, and of what the others make.
+fn find_in_survey(
+    alloc: Global,
+    space: &Space<'_>,
+    passed: &[PassedOver],
+    survey: &Survey,
+    found: &mut Vec<Finding>,
+) -> Result<(), Memory>
+    requires { AreCountable space.now }
+    ensures { OnOk result (found.new.items ≡ found.old.items ++ (flat_map passed_findings passed.now
+        ++ object_findings space.now survey.now.faults survey.now.outcome survey.now.notes)) }
+{
+    find_passed(alloc, passed, found)?;
+    find_in_faults(alloc, survey.faults.as_slice(), found)?;
+    find_in_outcome(
+        alloc,
+        space,
+        &survey.outcome,
+        survey.notes.as_slice(),
+        found,
+    )
+}
+
 /// What is found of the objects of a namespace (ACPI 6.5, 8.4), beside the terms that were passed over: of
 /// each of these, then of each object that means nothing, and then of the plan that the others tell of, in
 /// the order of its notes, containers, processors and domains.
@@ -71,9 +96,6 @@ pub fn find_all(
 {
     let survey = survey_objects(alloc, space)?;
     let mut found = Vec::new(alloc);
-    find_passed(alloc, passed, &mut found)?;
-    find_in_faults(alloc, survey.faults.as_slice(), &mut found)?;
-    let notes = survey.notes.as_slice();
-    find_in_outcome(alloc, space, &survey.outcome, notes, &mut found)?;
+    find_in_survey(alloc, space, passed, &survey, &mut found)?;
     Ok(found)
 }

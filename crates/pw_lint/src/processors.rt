@@ -3,6 +3,10 @@
 ghost use Rattle.std.specs.Prelude.{◌≡◌, ◌++◌, option_copied, IfOk, OnOk};
 ghost use Rattle.std.specs.List.{flat_map};
 ghost use Rattle.acpi_build.specs.Tables.{AreCountable};
+ghost use Rattle.pw_plan.specs.declared.domain.DomainKind.TheVariants.{Perf, Throttle};
+ghost use Rattle.pw_findings.specs.Scales.{latency_findings, rate_findings};
+ghost use Rattle.pw_states.specs.CStates.{cst_findings};
+ghost use Rattle.pw_lint.specs.Tables.{frequencies, p_states, percentages, t_states};
 ghost use Rattle.pw_lint.specs.Machine.{container_findings, cpu_findings, cpu_idle_findings, device_findings};
 ghost use Rattle.pw_lint.specs.Machine.{known_of, perf_findings, stateless};
 ghost use Rattle.pw_lint.specs.Machine.{throttle_findings, unlimited, unused_perf, unused_throttle};
@@ -13,7 +17,7 @@ use crate::reading::{
     c_states, frequencies, is_known, p_states, path_below, percentages, registers, stands, t_states,
 };
 use acpi_space::Space;
-use acpi_values::CState;
+use acpi_values::{CState, PState, TState};
 use aml_data::{FullPath, Seg};
 use pw_base::Memory;
 use pw_findings::{
@@ -76,6 +80,21 @@ fn used_c_states(alloc: Global, space: &Space<'_>, cpu: &CpuParts) -> Result<Vec
     Ok(Vec::new(alloc))
 }
 
+/// Adds what is found of the C states that a processor idles in.
+fn find_in_c_states(
+    alloc: Global,
+    space: &Space<'_>,
+    cpu: &CpuParts,
+    found: &mut Vec<Finding>,
+) -> Result<(), Memory>
+    requires { AreCountable space.now }
+    ensures { OnOk result (found.new.items ≡ found.old.items
+        ++ cst_findings cpu.now.path (used_c_states space.now cpu.now)) }
+{
+    let states = used_c_states(alloc, space, cpu)?;
+    find_in_cst(alloc, &cpu.path, &states, found)
+}
+
 /// Adds what is found of a processor's idle states, beside the first that has C states.
 #[tactic(auto, unfolding(crate::specs::Machine::cpu_idle_findings))]
 fn find_in_cpu_idle(
@@ -90,12 +109,11 @@ fn find_in_cpu_idle(
     ensures { OnOk result (found.new.items ≡ found.old.items
         ++ cpu_idle_findings space.now containers.now (option_copied first.entry) cpu.now) }
 {
-    let states = used_c_states(alloc, space, cpu)?;
     let parent = around(containers, cpu.parent);
     let known = is_known(alloc, space, &cpu.path, Seg::of_segment(*b"_LPI"))?;
     find_in_idle(alloc, &cpu.path, &cpu.idle, found)?;
     find_counted(alloc, cpu, first, found)?;
-    find_in_cst(alloc, &cpu.path, &states, found)?;
+    find_in_c_states(alloc, space, cpu, found)?;
     find_integers(alloc, &cpu.path, &cpu.idle, found)?;
     find_beside_parent(alloc, &cpu.path, known, parent, &cpu.idle, found)
 }
@@ -190,6 +208,37 @@ fn known_of(
     })
 }
 
+/// Adds what is found of how fast performance states are, and how fast one changes to them.
+fn find_of_p_states(
+    alloc: Global,
+    path: &FullPath,
+    states: &[PState],
+    found: &mut Vec<Finding>,
+) -> Result<(), Memory>
+    ensures { OnOk result (found.new.items ≡ found.old.items
+        ++ (rate_findings Perf path.now (frequencies states.now) ++ latency_findings path.now states.now)) }
+{
+    let rates = frequencies(alloc, states)?;
+    find_in_rates(alloc, DomainKind::Perf, path, &rates, found)?;
+    find_hasty(alloc, path, states, found)
+}
+
+/// Adds what is found of those of `_PSS` below a path.
+fn find_in_p_states(
+    alloc: Global,
+    space: &Space<'_>,
+    path: &FullPath,
+    found: &mut Vec<Finding>,
+) -> Result<(), Memory>
+    requires { AreCountable space.now }
+    ensures { OnOk result (found.new.items ≡ found.old.items
+        ++ (rate_findings Perf path.now (frequencies (p_states space.now path.now))
+        ++ latency_findings path.now (p_states space.now path.now))) }
+{
+    let states = p_states(alloc, space, path)?;
+    find_of_p_states(alloc, path, &states, found)
+}
+
 /// Adds what is found of a processor's performance states.
 #[tactic(auto, unfolding(crate::specs::Machine::perf_findings))]
 fn find_in_perf(
@@ -203,18 +252,43 @@ fn find_in_perf(
     ensures { OnOk result (found.new.items ≡ found.old.items
         ++ perf_findings space.now (option_copied declaring.entry) cpu.now) }
 {
-    let kind = DomainKind::Perf;
     let pct = Seg::of_segment(*b"_PCT");
     let psd = Seg::of_segment(*b"_PSD");
     let known = known_of(alloc, space, &cpu.path, pct, psd)?;
     let pair = registers(alloc, space, &cpu.path)?;
-    let states = p_states(alloc, space, &cpu.path)?;
-    let rates = frequencies(alloc, &states)?;
-    find_in_scale(alloc, kind, cpu, known, declaring, found)?;
+    find_in_scale(alloc, DomainKind::Perf, cpu, known, declaring, found)?;
     find_two_spaces(alloc, &cpu.path, pair, found)?;
-    find_in_rates(alloc, kind, &cpu.path, &rates, found)?;
-    find_hasty(alloc, &cpu.path, &states, found)?;
+    find_in_p_states(alloc, space, &cpu.path, found)?;
     find_unused_perf(alloc, space, &cpu.path, found)
+}
+
+/// Adds what is found of how fast throttling states are.
+fn find_of_t_states(
+    alloc: Global,
+    path: &FullPath,
+    states: &[TState],
+    found: &mut Vec<Finding>,
+) -> Result<(), Memory>
+    ensures { OnOk result (found.new.items ≡ found.old.items
+        ++ rate_findings Throttle path.now (percentages states.now)) }
+{
+    let rates = percentages(alloc, states)?;
+    find_in_rates(alloc, DomainKind::Throttle, path, &rates, found)
+}
+
+/// Adds what is found of those of `_TSS` below a path.
+fn find_in_t_states(
+    alloc: Global,
+    space: &Space<'_>,
+    path: &FullPath,
+    found: &mut Vec<Finding>,
+) -> Result<(), Memory>
+    requires { AreCountable space.now }
+    ensures { OnOk result (found.new.items ≡ found.old.items
+        ++ rate_findings Throttle path.now (percentages (t_states space.now path.now))) }
+{
+    let states = t_states(alloc, space, path)?;
+    find_of_t_states(alloc, path, &states, found)
 }
 
 /// Adds what is found of a processor's throttling states.
@@ -230,16 +304,13 @@ fn find_in_throttle(
     ensures { OnOk result (found.new.items ≡ found.old.items
         ++ throttle_findings space.now (option_copied declaring.entry) cpu.now) }
 {
-    let kind = DomainKind::Throttle;
     let ptc = Seg::of_segment(*b"_PTC");
     let tsd = Seg::of_segment(*b"_TSD");
     let known = known_of(alloc, space, &cpu.path, ptc, tsd)?;
-    let states = t_states(alloc, space, &cpu.path)?;
-    let rates = percentages(alloc, &states)?;
-    find_in_scale(alloc, kind, cpu, known, declaring, found)?;
+    find_in_scale(alloc, DomainKind::Throttle, cpu, known, declaring, found)?;
     find_shared(alloc, cpu, found)?;
     find_unlimited(alloc, space, cpu, found)?;
-    find_in_rates(alloc, kind, &cpu.path, &rates, found)?;
+    find_in_t_states(alloc, space, &cpu.path, found)?;
     find_unused_throttle(alloc, space, &cpu.path, found)
 }
 
