@@ -1,9 +1,7 @@
 -- Why blocks make no plan, from their parts.
-use Rattle.std.proofs.Common.{◌≡◌, ℕ, List, refl, Result, Ok, Err}
-use Rattle.std.specs.Prelude.{IfErr, IfOk}
+use Rattle.std.proofs.Common.{ℕ, List, refl}
 use Rattle.aml_block.specs.declared.block.Block.{Block as block}
 use Rattle.pw_embed.specs.declared.faults.FaultNumbers.{FaultNumbers}
-use Rattle.pw_embed.specs.declared.machine.Machine.{Machine}
 use Rattle.pw_embed.specs.declared.machine.Machine.TheVariants.{Blocks}
 use Rattle.pw_embed.specs.declared.status.Status.{Status}
 use Rattle.pw_embed.specs.declared.status.Status.TheVariants as statuses

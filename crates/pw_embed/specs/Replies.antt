@@ -1,5 +1,5 @@
 -- The numbers of replies.
-use Rattle.std.specs.Prelude.{ℕ, List, replicate}
+use Rattle.std.specs.Prelude.{ℕ, replicate}
 use Rattle.pw_model.specs.declared.reply.Reply.{Reply}
 use Rattle.pw_model.specs.declared.reply.Reply.TheVariants as replies
 use Rattle.pw_embed.specs.declared.replies.ReplyNumbers.{ReplyNumbers}

@@ -1,5 +1,5 @@
 -- What calls on a seat come to, also once its coordinator has ended.
-use Rattle.std.specs.Prelude.{◌≡◌, ◌⊎◌, ◌<◌, ℕ, List, Option, Some, None, Result, Ok, Err, IfErr, IfOk, length, slice_get}
+use Rattle.std.specs.Prelude.{◌≡◌, ◌⊎◌, ◌<◌, ℕ, List, Some, None, Result, Ok, Err, IfErr, IfOk, length, slice_get}
 use Rattle.pw_plan.specs.declared.plan.Plan.{Plan}
 use Rattle.pw_plan.specs.Limits.{in_32_bits}
 use Rattle.pw_model.specs.declared.entry.HistoryEntry.{HistoryEntry}

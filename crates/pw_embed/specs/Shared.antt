@@ -1,5 +1,5 @@
 -- What calls on a seat of a shared coordinator come to.
-use Rattle.std.specs.Prelude.{◌≡◌, ◌⊎◌, ◌<◌, ◌≤◌, ℕ, List, [], Bool, true, false, Option, Some, None, Result, Ok, Err, length, if◌then◌else◌}
+use Rattle.std.specs.Prelude.{◌≡◌, ◌<◌, ℕ, List, [], Bool, true, false, Option, Some, None, Result, Ok, Err, length}
 use Rattle.std.specs.Arc.{arc_value}
 use Rattle.acpi_values.specs.declared.operation.Op.{Op}
 use Rattle.pw_base.specs.Room.{Bounded}
@@ -12,12 +12,10 @@ use Rattle.pw_machine.specs.declared.view.View.{View}
 use Rattle.pw_machine.specs.Machine.{Given}
 use Rattle.pw_rule.specs.Rule.{given_of, promise_of}
 use Rattle.pw_turns.specs.declared.coordinator.Coordinator.{Coordinator}
-use Rattle.pw_turns.specs.declared.coordinator.Seat.{Seat as place}
 use Rattle.pw_turns.specs.declared.keeping.Keeps.{Ghosts as Keeps}
 use Rattle.pw_turns.specs.declared.keeping.Kept.{Kept}
 use Rattle.pw_turns.specs.declared.requests.Try.{Try}
 use Rattle.pw_turns.specs.declared.seats.SplitFault.TheVariants.{Many}
-use Rattle.pw_regs.specs.declared.registers.Registers.{Ghosts as Registers}
 use Rattle.pw_turns.specs.declared.close.Closed.{Closed}
 use Rattle.pw_turns.specs.Ends.{Ends}
 use Rattle.pw_turns.specs.Listed.{Lists}

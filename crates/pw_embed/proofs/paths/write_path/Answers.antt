@@ -1,4 +1,4 @@
-use Rattle.std.proofs.Common.{◌≡◌, ◌*◌, List, ℕ, ◌∷◌, ◌++◌, ◌∙◌, suc, length, drop, sym, ap, arith}
+use Rattle.std.proofs.Common.{◌≡◌, ◌*◌, ℕ, ◌∷◌, ◌++◌, ◌∙◌, length, drop, sym, ap, arith}
 use Rattle.std.specs.List.{join_with_byte}
 use Rattle.pw_embed.proofs.Leading.{led-next}
 use Rattle.pw_embed.proofs.paths.write_path.Goals as goal
