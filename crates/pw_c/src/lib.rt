@@ -63,17 +63,16 @@ pub extern "C" fn yeq_machine_plan(
 
 /// Counts the parts of the plan.
 #[unsafe(no_mangle)]
-pub extern "C" fn yeq_machine_counts(alloc: Global, h: &mut Handle, counts: &mut Counts) -> i32
+pub extern "C" fn yeq_machine_counts(h: &mut Handle, counts: &mut Counts) -> i32
     ensures { Tells result (λ s. OnMachine h.old h.new s (counts.new ≡ counts.old)
         (λ m n t. (n ≡ m) × Counted m counts.old counts.new t)) }
 {
-    h.count(alloc, counts).code()
+    h.count(counts).code()
 }
 
 /// Tells of a processor of the plan.
 #[unsafe(no_mangle)]
 pub extern "C" fn yeq_machine_cpu(
-    alloc: Global,
     h: &mut Handle,
     cpu: u32,
     told: &mut CpuNumbers,
@@ -85,7 +84,7 @@ pub extern "C" fn yeq_machine_cpu(
         (λ m n t. (n ≡ m)
         × TellsCpu m cpu (told.old, path.old, length.old) (told.new, path.new, length.new) t)) }
 {
-    h.tell_cpu(alloc, cpu, told, path, length).code()
+    h.tell_cpu(cpu, told, path, length).code()
 }
 
 /// Starts the coordinator of one caller.
@@ -99,7 +98,6 @@ pub extern "C" fn yeq_machine_start(alloc: Global, h: &mut Handle) -> i32
 /// Makes a request.
 #[unsafe(no_mangle)]
 pub extern "C" fn yeq_machine_ask(
-    alloc: Global,
     h: &mut Handle,
     asked: &RequestNumbers,
     reply: &mut ReplyNumbers,
@@ -107,21 +105,16 @@ pub extern "C" fn yeq_machine_ask(
     ensures { Tells result (λ s. OnMachine h.old h.new s (reply.new ≡ reply.old)
         (λ m n t. Asks m asked.now reply.old n reply.new t)) }
 {
-    h.ask(alloc, asked, reply).code()
+    h.ask(asked, reply).code()
 }
 
 /// Tells the operations of the last request that was made, or those at the start.
 #[unsafe(no_mangle)]
-pub extern "C" fn yeq_machine_ops(
-    alloc: Global,
-    h: &mut Handle,
-    out: &mut [OpNumbers],
-    count: &mut u32,
-) -> i32
+pub extern "C" fn yeq_machine_ops(h: &mut Handle, out: &mut [OpNumbers], count: &mut u32) -> i32
     ensures { Tells result (λ s. OnMachine h.old h.new s ((out.new ≡ out.old) × (count.new ≡ count.old))
         (λ m n t. (n ≡ m) × Lists m out.old count.old out.new count.new t)) }
 {
-    h.ops(alloc, out, count).code()
+    h.ops(out, count).code()
 }
 
 /// Closes an open handle.
@@ -162,7 +155,6 @@ pub extern "C" fn yeq_seat_split(
 /// Makes a request by a seat, or gives up where another seat has what it needs.
 #[unsafe(no_mangle)]
 pub extern "C" fn yeq_seat_ask(
-    alloc: Global,
     h: &mut Handle,
     asked: &RequestNumbers,
     reply: &mut ReplyNumbers,
@@ -170,13 +162,12 @@ pub extern "C" fn yeq_seat_ask(
     ensures { Tells result (λ s. OnSeat h.old h.new s (reply.new ≡ reply.old)
         (λ t u st. SeatAsks t asked.now reply.old u reply.new st)) }
 {
-    h.ask_seat(alloc, asked, reply).code()
+    h.ask_seat(asked, reply).code()
 }
 
 /// Tells the operations of a seat's last request, or those at the start, and the request's number.
 #[unsafe(no_mangle)]
 pub extern "C" fn yeq_seat_ops(
-    alloc: Global,
     h: &mut Handle,
     out: &mut [OpNumbers],
     count: &mut u32,
@@ -187,16 +178,16 @@ pub extern "C" fn yeq_seat_ops(
         (λ t u st. (u ≡ t)
         × SeatLists t (out.old, count.old, number.old) (out.new, count.new, number.new) st)) }
 {
-    h.seat_ops(alloc, out, count, number).code()
+    h.seat_ops(out, count, number).code()
 }
 
 /// Tells what a seat knows.
 #[unsafe(no_mangle)]
-pub extern "C" fn yeq_seat_tell(alloc: Global, h: &mut Handle, facts: &mut SeatFacts) -> i32
+pub extern "C" fn yeq_seat_tell(h: &mut Handle, facts: &mut SeatFacts) -> i32
     ensures { Tells result (λ s. OnSeat h.old h.new s (facts.new ≡ facts.old)
         (λ t u st. (u ≡ t) × Shows t facts.old facts.new st)) }
 {
-    h.tell_seat(alloc, facts).code()
+    h.tell_seat(facts).code()
 }
 
 /// Joins another seat of the same coordinator into this one, and closes the other handle.
@@ -210,33 +201,28 @@ pub extern "C" fn yeq_seat_join(alloc: Global, h: &mut Handle, other: &mut Handl
 
 /// Ends the coordinator of its only seat.
 #[unsafe(no_mangle)]
-pub extern "C" fn yeq_seat_seal(alloc: Global, h: &mut Handle) -> i32
+pub extern "C" fn yeq_seat_seal(h: &mut Handle) -> i32
     ensures { Tells result (λ s. OnSeat h.old h.new s (Unit {0}) Seals) }
 {
-    h.seal_seat(alloc).code()
+    h.seal_seat().code()
 }
 
 /// Counts the entries of the history of a coordinator that has ended.
 #[unsafe(no_mangle)]
-pub extern "C" fn yeq_seat_entries(alloc: Global, h: &mut Handle, count: &mut u32) -> i32
+pub extern "C" fn yeq_seat_entries(h: &mut Handle, count: &mut u32) -> i32
     ensures { Tells result (λ s. OnSeat h.old h.new s (count.new ≡ count.old)
         (λ t u st. (u ≡ t) × SeatCounts t count.old count.new st)) }
 {
-    h.seat_entries(alloc, count).code()
+    h.seat_entries(count).code()
 }
 
 /// Tells the entry of this index of the history of a coordinator that has ended.
 #[unsafe(no_mangle)]
-pub extern "C" fn yeq_seat_entry(
-    alloc: Global,
-    h: &mut Handle,
-    index: u32,
-    entry: &mut EntryNumbers,
-) -> i32
+pub extern "C" fn yeq_seat_entry(h: &mut Handle, index: u32, entry: &mut EntryNumbers) -> i32
     ensures { Tells result (λ s. OnSeat h.old h.new s (entry.new ≡ entry.old)
         (λ t u st. (u ≡ t) × TellsEntry t index entry.old entry.new st)) }
 {
-    h.seat_entry(alloc, index, entry).code()
+    h.seat_entry(index, entry).code()
 }
 
 /// Closes an open handle.
@@ -272,7 +258,6 @@ pub extern "C" fn yeq_endless_split(
 /// Begins a request by a seat, or gives up where another seat has what it needs.
 #[unsafe(no_mangle)]
 pub extern "C" fn yeq_endless_begin(
-    alloc: Global,
     h: &mut Handle,
     asked: &RequestNumbers,
     reply: &mut ReplyNumbers,
@@ -280,38 +265,33 @@ pub extern "C" fn yeq_endless_begin(
     ensures { Tells result (λ s. OnEndless h.old h.new s (reply.new ≡ reply.old)
         (λ t u st. BeginsAt t asked.now reply.old u reply.new st)) }
 {
-    h.begin_endless(alloc, asked, reply).code()
+    h.begin_endless(asked, reply).code()
 }
 
 /// Tells the operations of the request that a seat has begun, or those at the start.
 #[unsafe(no_mangle)]
-pub extern "C" fn yeq_endless_ops(
-    alloc: Global,
-    h: &mut Handle,
-    out: &mut [OpNumbers],
-    count: &mut u32,
-) -> i32
+pub extern "C" fn yeq_endless_ops(h: &mut Handle, out: &mut [OpNumbers], count: &mut u32) -> i32
     ensures { Tells result (λ s. OnEndless h.old h.new s ((out.new ≡ out.old) × (count.new ≡ count.old))
         (λ t u st. (u ≡ t) × Listed (listed t) out.old out.new count.new st)) }
 {
-    h.endless_ops(alloc, out, count).code()
+    h.endless_ops(out, count).code()
 }
 
 /// Finishes the request that a seat has begun, with so many of its operations done.
 #[unsafe(no_mangle)]
-pub extern "C" fn yeq_endless_finish(alloc: Global, h: &mut Handle, done: u32) -> i32
+pub extern "C" fn yeq_endless_finish(h: &mut Handle, done: u32) -> i32
     ensures { Tells result (λ s. OnEndless h.old h.new s (Unit {0}) (λ t u st. EndsAt t done u st)) }
 {
-    h.finish_endless(alloc, done).code()
+    h.finish_endless(done).code()
 }
 
 /// Tells what a seat knows that has begun no request.
 #[unsafe(no_mangle)]
-pub extern "C" fn yeq_endless_tell(alloc: Global, h: &mut Handle, facts: &mut SeatFacts) -> i32
+pub extern "C" fn yeq_endless_tell(h: &mut Handle, facts: &mut SeatFacts) -> i32
     ensures { Tells result (λ s. OnEndless h.old h.new s (facts.new ≡ facts.old)
         (λ t u st. (u ≡ t) × EndlessShows t facts.old facts.new st)) }
 {
-    h.tell_endless(alloc, facts).code()
+    h.tell_endless(facts).code()
 }
 
 /// Joins another seat of the same coordinator into this one, and closes the other handle.
@@ -343,7 +323,6 @@ pub extern "C" fn yeq_cppc_open(alloc: Global, h: &mut Handle, machine: &mut Han
 /// Makes a request for a performance.
 #[unsafe(no_mangle)]
 pub extern "C" fn yeq_cppc_ask(
-    alloc: Global,
     h: &mut Handle,
     asked: &CppcRequestNumbers,
     reply: &mut CppcReplyNumbers,
@@ -351,21 +330,16 @@ pub extern "C" fn yeq_cppc_ask(
     ensures { Tells result (λ s. OnCppc h.old h.new s (reply.new ≡ reply.old)
         (λ c d t. Asked c asked.now reply.old d reply.new t)) }
 {
-    h.ask_cppc(alloc, asked, reply).code()
+    h.ask_cppc(asked, reply).code()
 }
 
 /// Tells the operations of the last request for a performance, or those at the start.
 #[unsafe(no_mangle)]
-pub extern "C" fn yeq_cppc_ops(
-    alloc: Global,
-    h: &mut Handle,
-    out: &mut [OpNumbers],
-    count: &mut u32,
-) -> i32
+pub extern "C" fn yeq_cppc_ops(h: &mut Handle, out: &mut [OpNumbers], count: &mut u32) -> i32
     ensures { Tells result (λ s. OnCppc h.old h.new s ((out.new ≡ out.old) × (count.new ≡ count.old))
         (λ c d t. (d ≡ c) × Listed c.ops.elements out.old out.new count.new t)) }
 {
-    h.cppc_ops(alloc, out, count).code()
+    h.cppc_ops(out, count).code()
 }
 
 /// Closes an open handle.

@@ -2,3 +2,4 @@ pub mod Asking
 pub mod Leading
 pub mod Refusing
 pub mod Writing
+pub mod Starting

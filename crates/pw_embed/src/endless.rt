@@ -4,12 +4,17 @@ ghost use Rattle.pw_embed.specs.declared.resting.Resting.{Resting as resting};
 ghost use Rattle.pw_embed.specs.Endless.{AreOfOneSeat, BeginsAt, EndsAt, IsFirstOf, IsNoFirst, JoinsSeats, OpensEndless};
 ghost use Rattle.pw_embed.specs.Endless.{Shows, SplitsOff, is_begun, listed};
 ghost use Rattle.pw_embed.specs.Operations.{Listed};
+ghost use Rattle.pw_embed.specs.inner.Starting.{MayStart, StartsAt};
 
 use crate::ongoing::Ongoing;
 use crate::resting::Resting;
+use crate::told::{put_reply, status_of};
 use crate::{
     FaultNumbers, Machine, OpNumbers, Planned, ReplyNumbers, RequestNumbers, SeatFacts, Status,
 };
+use core::mem::replace_with;
+use pw_plan::Request;
+use pw_turns::{NotBegun, Try};
 use std::alloc::Global;
 
 /// A seat of a coordinator without end: between its requests, or with one that it has begun.
@@ -35,6 +40,50 @@ fn open_on(alloc: Global, planned: &Planned) -> Result<Endless, Status>
     }
 }
 
+/// A seat that has begun this request, or is as it was, where another has what it needs.
+fn started(seat: Endless, request: Request) -> (Endless, Try)
+    requires { MayStart seat request }
+    ensures { StartsAt seat request result.0 result.1 }
+{
+    match seat {
+        Endless::Resting(resting) => {
+            let Resting {
+                coordinator,
+                seat,
+                room,
+                opening,
+            } = resting;
+            match coordinator.try_begin(seat, room, request) {
+                Ok(begun) => {
+                    let told = Try::Answer(begun.reply());
+                    (Endless::Ongoing(Ongoing { coordinator, begun }), told)
+                }
+                Err(NotBegun { seat, room, told }) => {
+                    let resting = Resting {
+                        coordinator,
+                        seat,
+                        room,
+                        opening,
+                    };
+                    (Endless::Resting(resting), told)
+                }
+            }
+        }
+        Endless::Ongoing(_) => unreachable!(),
+    }
+}
+
+/// A seat whose request is finished, where it has begun one with so many operations.
+#[tactic(auto, unfolding(crate::specs::Endless::EndsAt))]
+fn ended(seat: Endless, done: u32) -> (Endless, Status)
+    ensures { EndsAt seat done result.0 result.1 }
+{
+    match seat {
+        Endless::Resting(resting) => (Endless::Resting(resting), Status::NotBegun),
+        Endless::Ongoing(ongoing) => ongoing.finish(done),
+    }
+}
+
 impl Endless {
     /// The first seat of a new coordinator of a machine's plan.
     #[tactic(auto, unfolding(crate::specs::Endless::OpensEndless))]
@@ -57,26 +106,28 @@ impl Endless {
         }
     }
 
-    /// Begins the request that the numbers ask for, or gives up where another seat has what it needs.
+    /// Begins the request that the numbers ask for, or gives up where another seat has what it needs. The
+    /// seat is replaced where it lies, since what it holds is long.
     #[tactic(auto, unfolding(crate::specs::Endless::BeginsAt))]
-    pub fn begin(self, asked: &RequestNumbers, reply: &mut ReplyNumbers) -> (Endless, Status)
-        ensures { BeginsAt self asked.now reply.old result.0 reply.new result.1 }
+    pub fn begin(&mut self, asked: &RequestNumbers, reply: &mut ReplyNumbers) -> Status
+        ensures { BeginsAt self.old asked.now reply.old self.new reply.new result }
     {
-        match self {
-            Endless::Resting(resting) => resting.begin(asked, reply),
-            Endless::Ongoing(ongoing) => (Endless::Ongoing(ongoing), Status::Begun),
-        }
+        let Endless::Resting(resting) = self else {
+            return Status::Begun;
+        };
+        let Some(request) = asked.request_of(resting.coordinator.plan()) else {
+            return Status::Range;
+        };
+        let told = replace_with(self, request, started);
+        put_reply(told, reply);
+        status_of(told)
     }
 
-    /// Finishes the request that it has begun, with so many of its operations done.
-    #[tactic(auto, unfolding(crate::specs::Endless::EndsAt))]
-    pub fn finish(self, done: u32) -> (Endless, Status)
-        ensures { EndsAt self done result.0 result.1 }
+    /// Finishes the request that it has begun, with so many of its operations done, where it has as many.
+    pub fn finish(&mut self, done: u32) -> Status
+        ensures { EndsAt self.old done self.new result }
     {
-        match self {
-            Endless::Resting(resting) => (Endless::Resting(resting), Status::NotBegun),
-            Endless::Ongoing(ongoing) => ongoing.finish(done),
-        }
+        replace_with(self, done, ended)
     }
 
     /// Writes the operations of the request that it has begun, or those at the start, and how many they

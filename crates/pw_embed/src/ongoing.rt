@@ -30,7 +30,7 @@ impl Ongoing {
     ghost use Rattle.std.specs.Prelude.{◌≡◌, ◌<◌, ◌≤◌, IfErr, length};
     ghost use Rattle.pw_embed.specs.Endless.{Ends};
     ghost use Rattle.pw_embed.specs.Operations.{Listed};
-    ghost use Rattle.pw_embed.specs.Resting.{BeganHere, IsFinished, Says};
+    ghost use Rattle.pw_embed.specs.Resting.{BeganHere, Says};
 
     /// What a caller says who did so many of these operations: that all were done, or that a register
     /// failed then.
@@ -52,33 +52,25 @@ impl Ongoing {
         ensures { BeganHere self.now }
     {}
 
-    /// Finishes it, with so many of its operations done, where it has as many.
-    fn end(self, done: u32) -> Resting
-        requires began { BeganHere self }
-        requires within { done ≤ length self.begun.ops.elements }
-        ensures { IsFinished self done result }
-    {
-        let Ongoing { coordinator, begun } = self;
-        let word = Ongoing::said(done, begun.ops());
-        let (seat, room, _) = coordinator.finish_begun(begun, word);
-        Resting {
-            coordinator,
-            seat,
-            room,
-            opening: None,
-        }
-    }
-
     /// Finishes it, where it has so many operations: all were done, or a register failed after these.
     #[tactic(auto, unfolding(crate::specs::Endless::Ends))]
-    pub fn finish(self, done: u32) -> (Endless, Status)
+    pub(crate) fn finish(self, done: u32) -> (Endless, Status)
         ensures { Ends self done result.0 result.1 }
     {
         if done as usize > self.begun.ops().len() {
             return (Endless::Ongoing(self), Status::Range);
         }
         self.began();
-        (Endless::Resting(self.end(done)), Status::Done)
+        let Ongoing { coordinator, begun } = self;
+        let word = Ongoing::said(done, begun.ops());
+        let (seat, room, _) = coordinator.finish_begun(begun, word);
+        let resting = Resting {
+            coordinator,
+            seat,
+            room,
+            opening: None,
+        };
+        (Endless::Resting(resting), Status::Done)
     }
 
     /// Writes its operations, and how many they are.

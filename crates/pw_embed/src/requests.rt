@@ -1,7 +1,9 @@
-ghost use Rattle.std.specs.Prelude.{◌≡◌};
+ghost use Rattle.std.specs.Prelude.{◌≡◌, MatchOption, Some};
+ghost use Rattle.pw_plan.specs.declared.request.Request.{Request as request};
+ghost use Rattle.pw_plan.specs.Requests.{Has};
 ghost use Rattle.pw_embed.specs.Requests.{request_in};
 
-use pw_plan::Request;
+use pw_plan::{Plan, Request};
 
 /// What a processor asks for: 1 to go idle, 2 to run again, 3 a performance state, 4 a throttling state,
 /// 5 a limit of performance states, 6 a limit of throttling states.
@@ -41,6 +43,18 @@ impl RequestNumbers {
             5 => Some(Request::PerfLimit { cpu, n: argument }),
             6 => Some(Request::ThrottleLimit { cpu, n: argument }),
             _ => None,
+        }
+    }
+    /// The request that the numbers ask for, where the plan has its processor.
+    pub fn request_of(&self, plan: &Plan) -> Option<Request>
+        ensures { MatchOption result ((q : request) → request_in self.now ≡ Some q → Has plan.now q → ⊥)
+            (λ q. (request_in self.now ≡ Some q) × Has plan.now q) }
+    {
+        let request = self.request()?;
+        if plan.has(&request) {
+            Some(request)
+        } else {
+            None
         }
     }
 }

@@ -3,16 +3,12 @@ ghost use Rattle.std.specs.Arc.{arc_value};
 ghost use Rattle.pw_model.specs.Records.{record_count};
 ghost use Rattle.pw_turns.specs.Owning.{Owns};
 
-use crate::endless::Endless;
-use crate::ongoing::Ongoing;
 use crate::sharing::SeatFacts;
-use crate::told::status_of;
-use crate::{OpNumbers, ReplyNumbers, RequestNumbers, Status, tell_ops};
+use crate::{OpNumbers, Status, tell_ops};
 use pw_core::{Ops, open_all};
-use pw_plan::{Plan, Request};
+use pw_plan::Plan;
 use pw_turns::{
-    Coordinator, EndlessCoordinator, NotBegun, OpenFault, RecordRoom, ReportedRegisters, Seat,
-    SplitFault, Try,
+    Coordinator, EndlessCoordinator, OpenFault, RecordRoom, ReportedRegisters, Seat, SplitFault,
 };
 use std::alloc::Global;
 use std::sync::Arc;
@@ -32,11 +28,9 @@ pub struct Resting {
 
 impl Resting {
     ghost use Rattle.std.specs.Prelude.{◌≡◌, ◌⊎◌, Some, IfErr, IfOk};
-    ghost use Rattle.pw_plan.specs.Requests.{Has};
     ghost use Rattle.pw_embed.specs.declared.status.Status.TheVariants.{NoMemory, Stopped};
-    ghost use Rattle.pw_embed.specs.Endless.{Begins};
     ghost use Rattle.pw_embed.specs.Operations.{Listed};
-    ghost use Rattle.pw_embed.specs.Resting.{AreOfOne, HasBegun, HasNotBegun, IsFirst, Joins, Splits, facts_of, opening_in};
+    ghost use Rattle.pw_embed.specs.Resting.{AreOfOne, IsFirst, Joins, Splits, facts_of, opening_in};
 
     /// The first seat of a coordinator that was opened, with the operations at the start.
     fn first(
@@ -78,51 +72,6 @@ impl Resting {
             Ok((coordinator, seat)) => Resting::first(alloc, coordinator, seat, ops),
             Err(OpenFault::Memory { .. }) => Err(Status::NoMemory),
             Err(OpenFault::RegisterFault { .. }) => Err(Status::Stopped),
-        }
-    }
-
-    /// Begins a request, or gives up where another seat has what it needs.
-    fn start(self, request: Request) -> Result<Ongoing, (Resting, Try)>
-        requires { Has (arc_value self.coordinator).plan request }
-        ensures begun { IfOk result (λ o. HasBegun self request o) }
-        ensures not_begun { IfErr result (λ e. HasNotBegun self request e.1 e.0) }
-    {
-        let Resting {
-            coordinator,
-            seat,
-            room,
-            opening,
-        } = self;
-        match coordinator.try_begin(seat, room, request) {
-            Ok(begun) => Ok(Ongoing { coordinator, begun }),
-            Err(NotBegun { seat, room, told }) => {
-                let resting = Resting {
-                    coordinator,
-                    seat,
-                    room,
-                    opening,
-                };
-                Err((resting, told))
-            }
-        }
-    }
-
-    /// Begins the request that the numbers ask for, or gives up where another seat has what it needs.
-    pub fn begin(self, asked: &RequestNumbers, reply: &mut ReplyNumbers) -> (Endless, Status)
-        ensures { Begins self asked.now reply.old result.0 reply.new result.1 }
-    {
-        let Some(request) = asked.request() else {
-            return (Endless::Resting(self), Status::Range);
-        };
-        if !self.coordinator.plan().has(&request) {
-            return (Endless::Resting(self), Status::Range);
-        }
-        match self.start(request) {
-            Ok(ongoing) => {
-                *reply = ReplyNumbers::of(ongoing.begun.reply());
-                (Endless::Ongoing(ongoing), Status::Done)
-            }
-            Err((resting, told)) => (Endless::Resting(resting), status_of(told)),
         }
     }
 

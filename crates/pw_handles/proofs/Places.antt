@@ -23,10 +23,10 @@ use Rattle.pw_handles.specs.contracts.place.Place as place
 abbrev pub alone : Val → Val
 alone v = vstruct (vcons v vnil)
 
-abbrev R : RattleType
+abbrev pub R : RattleType
 R = thing.the_row
 
-abbrev P : RattleType
+abbrev pub P : RattleType
 P = place.the_row
 
 module _ {M : Type 1} {𝓤 : Ura M} {𝓛 : Logic 𝓤} {K : Type 0} {Γ : List (Item 𝓤)} {G : Goal 𝓤 𝓛.H} where

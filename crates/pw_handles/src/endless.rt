@@ -3,72 +3,14 @@ ghost use Rattle.std.specs.Prelude.{◌≡◌, false};
 ghost use Rattle.pw_embed.specs.Endless.{BeginsAt, EndsAt, OpensEndless, Shows, listed};
 ghost use Rattle.pw_embed.specs.Operations.{Listed};
 ghost use Rattle.pw_handles.specs.Handled.{KeptSo, OfMachine};
-ghost use Rattle.pw_handles.specs.Endless.{AtEndless, Becomes, JoinsEndless, JoinsKept, OfSplit, OnEndless};
+ghost use Rattle.pw_handles.specs.Endless.{Becomes, JoinsEndless, JoinsKept, OfSplit, OnEndless};
 ghost use Rattle.pw_handles.specs.Endless.{OpensEndlessOf, OweOneEndless, OwesOne, SplitsEndless};
 
 use crate::handle::Handle;
 use crate::kept::{Kept, empty_box, put_in, with};
-use core::mem::replace_with;
 use pw_embed::{Endless, OpNumbers, ReplyNumbers, RequestNumbers, SeatFacts, Status};
 use std::alloc::Global;
 use std::mem::replace;
-
-#[tactic(auto, unfolding(crate::specs::Endless::AtEndless))]
-fn ops(kept: &mut Kept, out: &mut [OpNumbers], count: &mut u32) -> Status
-    ensures { AtEndless kept.old kept.new result ((out.new ≡ out.old) × (count.new ≡ count.old))
-        (λ t u s. (u ≡ t) × Listed (listed t) out.old out.new count.new s) }
-{
-    match kept {
-        Kept::Endless(seat) => seat.ops(out, count),
-        _ => Status::Kind,
-    }
-}
-
-#[tactic(auto, unfolding(crate::specs::Endless::AtEndless))]
-fn tell(kept: &mut Kept, facts: &mut SeatFacts) -> Status
-    ensures { AtEndless kept.old kept.new result (facts.new ≡ facts.old)
-        (λ t u s. (u ≡ t) × Shows t facts.old facts.new s) }
-{
-    match kept {
-        Kept::Endless(seat) => seat.tell(facts),
-        _ => Status::Kind,
-    }
-}
-
-/// A seat with the request begun that the numbers ask for, and the numbers of its reply, which were these.
-fn begun(seat: Endless, asked: (RequestNumbers, ReplyNumbers)) -> (Endless, (Status, ReplyNumbers))
-    ensures { BeginsAt seat asked.0 asked.1 result.0 result.1.1 result.1.0 }
-{
-    let (asked, mut reply) = asked;
-    let (seat, status) = seat.begin(&asked, &mut reply);
-    (seat, (status, reply))
-}
-
-/// Begins it where a seat is kept: in its place, since the largest of what may be kept is long.
-#[tactic(auto, unfolding(crate::specs::Endless::AtEndless))]
-fn begin(kept: &mut Kept, asked: &RequestNumbers, reply: &mut ReplyNumbers) -> Status
-    ensures { AtEndless kept.old kept.new result (reply.new ≡ reply.old)
-        (λ t u s. BeginsAt t asked.now reply.old u reply.new s) }
-{
-    match kept {
-        Kept::Endless(seat) => {
-            let (status, told) = replace_with(seat, (*asked, *reply), begun);
-            *reply = told;
-            status
-        }
-        _ => Status::Kind,
-    }
-}
-
-#[tactic(auto, unfolding(crate::specs::Endless::AtEndless))]
-fn finish(kept: &mut Kept, done: u32) -> Status
-    ensures { AtEndless kept.old kept.new result (Unit {0}) (λ t u s. EndsAt t done u s) }
-{
-    match kept {
-        Kept::Endless(seat) => replace_with(seat, done, Endless::finish),
-        _ => Status::Kind,
-    }
-}
 
 /// The first seat of a new coordinator of a machine that is kept.
 #[tactic(auto, unfolding(crate::specs::Handled::OfMachine))]
@@ -125,12 +67,10 @@ impl Handle {
         if self.is_open() {
             return Status::Open;
         }
-        let Some(kept) = machine.take(alloc) else {
+        if !machine.is_open() {
             return Status::Closed;
-        };
-        let made = first(&kept, alloc);
-        machine.put(kept);
-        match made {
+        }
+        match first(machine.kept(), alloc) {
             Ok(seat) => self.fill(alloc, Kept::Endless(seat)),
             Err(status) => status,
         }
@@ -143,15 +83,13 @@ impl Handle {
         if other.is_open() {
             return Status::Open;
         }
-        let Some(mut kept) = self.take(alloc) else {
+        if !self.is_open() {
             return Status::Closed;
-        };
+        }
         let Some(room) = empty_box(alloc) else {
-            self.put(kept);
             return Status::NoMemory;
         };
-        let made = split(&mut kept, alloc, parts);
-        self.put(kept);
+        let made = split(self.kept(), alloc, parts);
         other.fill_endless(room, made)
     }
 
@@ -171,64 +109,63 @@ impl Handle {
     }
 
     /// Begins the request that the numbers ask for.
-    #[tactic(auto, unfolding(crate::specs::Handled::Handled))]
-    pub fn begin_endless(
-        &mut self,
-        alloc: Global,
-        asked: &RequestNumbers,
-        reply: &mut ReplyNumbers,
-    ) -> Status
+    #[tactic(auto, unfolding(crate::specs::Handled::Handled, crate::specs::Endless::AtEndless))]
+    pub fn begin_endless(&mut self, asked: &RequestNumbers, reply: &mut ReplyNumbers) -> Status
         ensures { OnEndless self.old self.new result (reply.new ≡ reply.old)
             (λ t u s. BeginsAt t asked.now reply.old u reply.new s) }
     {
-        let Some(mut kept) = self.take(alloc) else {
+        if !self.is_open() {
             return Status::Closed;
-        };
-        let status = begin(&mut kept, asked, reply);
-        self.put(kept);
-        status
+        }
+        match self.kept() {
+            Kept::Endless(seat) => seat.begin(asked, reply),
+            _ => Status::Kind,
+        }
     }
 
     /// Writes the operations of the request that it has begun, or those at the start, and how many they
     /// are.
-    #[tactic(auto, unfolding(crate::specs::Handled::Handled))]
-    pub fn endless_ops(&mut self, alloc: Global, out: &mut [OpNumbers], count: &mut u32) -> Status
+    #[tactic(auto, unfolding(crate::specs::Handled::Handled, crate::specs::Endless::AtEndless))]
+    pub fn endless_ops(&mut self, out: &mut [OpNumbers], count: &mut u32) -> Status
         ensures { OnEndless self.old self.new result ((out.new ≡ out.old) × (count.new ≡ count.old))
             (λ t u s. (u ≡ t) × Listed (listed t) out.old out.new count.new s) }
     {
-        let Some(mut kept) = self.take(alloc) else {
+        if !self.is_open() {
             return Status::Closed;
-        };
-        let status = ops(&mut kept, out, count);
-        self.put(kept);
-        status
+        }
+        match self.kept() {
+            Kept::Endless(seat) => seat.ops(out, count),
+            _ => Status::Kind,
+        }
     }
 
     /// Finishes the request that it has begun, with so many of its operations done.
-    #[tactic(auto, unfolding(crate::specs::Handled::Handled))]
-    pub fn finish_endless(&mut self, alloc: Global, done: u32) -> Status
+    #[tactic(auto, unfolding(crate::specs::Handled::Handled, crate::specs::Endless::AtEndless))]
+    pub fn finish_endless(&mut self, done: u32) -> Status
         ensures { OnEndless self.old self.new result (Unit {0}) (λ t u s. EndsAt t done u s) }
     {
-        let Some(mut kept) = self.take(alloc) else {
+        if !self.is_open() {
             return Status::Closed;
-        };
-        let status = finish(&mut kept, done);
-        self.put(kept);
-        status
+        }
+        match self.kept() {
+            Kept::Endless(seat) => seat.finish(done),
+            _ => Status::Kind,
+        }
     }
 
     /// Tells what a seat knows.
-    #[tactic(auto, unfolding(crate::specs::Handled::Handled))]
-    pub fn tell_endless(&mut self, alloc: Global, facts: &mut SeatFacts) -> Status
+    #[tactic(auto, unfolding(crate::specs::Handled::Handled, crate::specs::Endless::AtEndless))]
+    pub fn tell_endless(&mut self, facts: &mut SeatFacts) -> Status
         ensures { OnEndless self.old self.new result (facts.new ≡ facts.old)
             (λ t u s. (u ≡ t) × Shows t facts.old facts.new s) }
     {
-        let Some(mut kept) = self.take(alloc) else {
+        if !self.is_open() {
             return Status::Closed;
-        };
-        let status = tell(&mut kept, facts);
-        self.put(kept);
-        status
+        }
+        match self.kept() {
+            Kept::Endless(seat) => seat.tell(facts),
+            _ => Status::Kind,
+        }
     }
 
     /// Joins the seat of another handle into this one's. The other is closed then.
@@ -236,15 +173,13 @@ impl Handle {
         requires { OweOneEndless self.old other.old }
         ensures { JoinsEndless self.old other.old self.new other.new result }
     {
-        let Some(mut one) = self.take(alloc) else {
+        if !self.is_open() {
             return Status::Closed;
-        };
+        }
         let Some(mut two) = other.take(alloc) else {
-            self.put(one);
             return Status::Closed;
         };
-        let status = join(&mut one, &mut two);
-        self.put(one);
+        let status = join(self.kept(), &mut two);
         other.put_left(two, status);
         status
     }

@@ -1,4 +1,5 @@
 ghost use Rattle.std.specs.Prelude.{◌≡◌, nat_eq, true, false, MatchOption};
+ghost use Rattle.std.specs.Borrow.{sem};
 
 use crate::kept::Kept;
 use crate::place::Place;
@@ -20,6 +21,7 @@ pub struct Handle {
 
 impl Handle {
     ghost use Rattle.pw_handles.specs.Handled.{Closes, LeftBy, Opened};
+    ghost use Rattle.pw_handles.specs.Lending.{LendsHandle};
 
     fn empty() -> Handle
         ensures { result.place.full ≡ false }
@@ -35,6 +37,15 @@ impl Handle {
         ensures { result ≡ self.now.place.full }
     {
         self.mark == OPEN
+    }
+
+    /// What an open handle keeps, where it lies.
+    pub(crate) fn kept(&mut self) -> &mut Kept
+        requires { self.old.place.full ≡ true }
+        ensures* writes_back { sem 𝓛 (LendsHandle self.entry result) }
+        ensures value { result.now ≡ self.old.place.value }
+    {
+        self.place.get_mut()
     }
 
     /// What an open handle has. It is closed then.

@@ -3,7 +3,7 @@ ghost use Rattle.std.specs.Prelude.{◌≡◌, []};
 ghost use Rattle.pw_embed.specs.declared.machine.Machine.TheVariants.{Blocks as blocks};
 ghost use Rattle.pw_embed.specs.Machines.{AddsBlock, Asks, Counts as counted, Lists, Plans, Starts, TellsCpu};
 ghost use Rattle.pw_handles.specs.declared.kept.Kept.TheVariants.{Machine as machine};
-ghost use Rattle.pw_handles.specs.Handled.{AtMachine, OnMachine, Opens};
+ghost use Rattle.pw_handles.specs.Handled.{OnMachine, Opens};
 
 use crate::handle::Handle;
 use crate::kept::Kept;
@@ -11,90 +11,6 @@ use pw_embed::{
     Counts, CpuNumbers, FaultNumbers, Machine, OpNumbers, ReplyNumbers, RequestNumbers, Status,
 };
 use std::alloc::Global;
-
-#[tactic(auto, unfolding(crate::specs::Handled::AtMachine))]
-fn add_block(kept: &mut Kept, alloc: Global, bytes: &[u8], fault: &mut FaultNumbers) -> Status
-    ensures { AtMachine kept.old kept.new result (fault.new ≡ fault.old)
-        (λ m n s. AddsBlock m bytes.now fault.old n fault.new s) }
-{
-    match kept {
-        Kept::Machine(machine) => machine.add_block(alloc, bytes, fault),
-        _ => Status::Kind,
-    }
-}
-
-#[tactic(auto, unfolding(crate::specs::Handled::AtMachine))]
-fn plan(kept: &mut Kept, alloc: Global, fault: &mut FaultNumbers, path: &mut [u8]) -> Status
-    ensures { AtMachine kept.old kept.new result ((fault.new ≡ fault.old) × (path.new ≡ path.old))
-        (λ m n s. Plans m fault.old path.old n fault.new path.new s) }
-{
-    match kept {
-        Kept::Machine(machine) => machine.plan(alloc, fault, path),
-        _ => Status::Kind,
-    }
-}
-
-#[tactic(auto, unfolding(crate::specs::Handled::AtMachine))]
-fn count(kept: &mut Kept, counts: &mut Counts) -> Status
-    ensures { AtMachine kept.old kept.new result (counts.new ≡ counts.old)
-        (λ m n s. (n ≡ m) × counted m counts.old counts.new s) }
-{
-    match kept {
-        Kept::Machine(machine) => machine.count(counts),
-        _ => Status::Kind,
-    }
-}
-
-#[tactic(auto, unfolding(crate::specs::Handled::AtMachine))]
-fn tell_cpu(
-    kept: &mut Kept,
-    cpu: u32,
-    told: &mut CpuNumbers,
-    path: &mut [u8],
-    length: &mut usize,
-) -> Status
-    ensures { AtMachine kept.old kept.new result
-        ((told.new ≡ told.old) × (path.new ≡ path.old) × (length.new ≡ length.old))
-        (λ m n s. (n ≡ m)
-        × TellsCpu m cpu (told.old, path.old, length.old) (told.new, path.new, length.new) s) }
-{
-    match kept {
-        Kept::Machine(machine) => machine.tell_cpu(cpu, told, path, length),
-        _ => Status::Kind,
-    }
-}
-
-#[tactic(auto, unfolding(crate::specs::Handled::AtMachine))]
-fn start(kept: &mut Kept, alloc: Global) -> Status
-    ensures { AtMachine kept.old kept.new result (Unit {0}) Starts }
-{
-    match kept {
-        Kept::Machine(machine) => machine.start(alloc),
-        _ => Status::Kind,
-    }
-}
-
-#[tactic(auto, unfolding(crate::specs::Handled::AtMachine))]
-fn ask(kept: &mut Kept, asked: &RequestNumbers, reply: &mut ReplyNumbers) -> Status
-    ensures { AtMachine kept.old kept.new result (reply.new ≡ reply.old)
-        (λ m n s. Asks m asked.now reply.old n reply.new s) }
-{
-    match kept {
-        Kept::Machine(machine) => machine.ask(asked, reply),
-        _ => Status::Kind,
-    }
-}
-
-#[tactic(auto, unfolding(crate::specs::Handled::AtMachine))]
-fn ops(kept: &mut Kept, out: &mut [OpNumbers], count: &mut u32) -> Status
-    ensures { AtMachine kept.old kept.new result ((out.new ≡ out.old) × (count.new ≡ count.old))
-        (λ m n s. (n ≡ m) × Lists m out.old count.old out.new count.new s) }
-{
-    match kept {
-        Kept::Machine(machine) => machine.ops(out, count),
-        _ => Status::Kind,
-    }
-}
 
 impl Handle {
     /// Opens it for a machine without blocks.
@@ -109,52 +25,54 @@ impl Handle {
     }
 
     /// Puts the block that the bytes spell behind the machine's others.
-    #[tactic(auto, unfolding(crate::specs::Handled::Handled))]
+    #[tactic(auto, unfolding(crate::specs::Handled::Handled, crate::specs::Handled::AtMachine))]
     pub fn add_block(&mut self, alloc: Global, bytes: &[u8], fault: &mut FaultNumbers) -> Status
         ensures { OnMachine self.old self.new result (fault.new ≡ fault.old)
             (λ m n s. AddsBlock m bytes.now fault.old n fault.new s) }
     {
-        let Some(mut kept) = self.take(alloc) else {
+        if !self.is_open() {
             return Status::Closed;
-        };
-        let status = add_block(&mut kept, alloc, bytes, fault);
-        self.put(kept);
-        status
+        }
+        match self.kept() {
+            Kept::Machine(machine) => machine.add_block(alloc, bytes, fault),
+            _ => Status::Kind,
+        }
     }
 
     /// Makes the plan of the machine's blocks.
-    #[tactic(auto, unfolding(crate::specs::Handled::Handled))]
+    #[tactic(auto, unfolding(crate::specs::Handled::Handled, crate::specs::Handled::AtMachine))]
     pub fn plan(&mut self, alloc: Global, fault: &mut FaultNumbers, path: &mut [u8]) -> Status
         ensures { OnMachine self.old self.new result ((fault.new ≡ fault.old) × (path.new ≡ path.old))
             (λ m n s. Plans m fault.old path.old n fault.new path.new s) }
     {
-        let Some(mut kept) = self.take(alloc) else {
+        if !self.is_open() {
             return Status::Closed;
-        };
-        let status = plan(&mut kept, alloc, fault, path);
-        self.put(kept);
-        status
+        }
+        match self.kept() {
+            Kept::Machine(machine) => machine.plan(alloc, fault, path),
+            _ => Status::Kind,
+        }
     }
 
     /// Counts the parts of the machine's plan.
-    #[tactic(auto, unfolding(crate::specs::Handled::Handled))]
-    pub fn count(&mut self, alloc: Global, counts: &mut Counts) -> Status
+    #[tactic(auto, unfolding(crate::specs::Handled::Handled, crate::specs::Handled::AtMachine))]
+    pub fn count(&mut self, counts: &mut Counts) -> Status
         ensures { OnMachine self.old self.new result (counts.new ≡ counts.old)
             (λ m n s. (n ≡ m) × counted m counts.old counts.new s) }
     {
-        let Some(mut kept) = self.take(alloc) else {
+        if !self.is_open() {
             return Status::Closed;
-        };
-        let status = count(&mut kept, counts);
-        self.put(kept);
-        status
+        }
+        match self.kept() {
+            Kept::Machine(machine) => machine.count(counts),
+            _ => Status::Kind,
+        }
     }
 
     /// Tells of a processor of the machine's plan.
-    #[tactic(auto, unfolding(crate::specs::Handled::Handled))]
+    #[tactic(auto, unfolding(crate::specs::Handled::Handled, crate::specs::Handled::AtMachine))]
     pub fn tell_cpu(
         &mut self,
-        alloc: Global,
         cpu: u32,
         told: &mut CpuNumbers,
         path: &mut [u8],
@@ -165,52 +83,56 @@ impl Handle {
             (λ m n s. (n ≡ m)
             × TellsCpu m cpu (told.old, path.old, length.old) (told.new, path.new, length.new) s) }
     {
-        let Some(mut kept) = self.take(alloc) else {
+        if !self.is_open() {
             return Status::Closed;
-        };
-        let status = tell_cpu(&mut kept, cpu, told, path, length);
-        self.put(kept);
-        status
+        }
+        match self.kept() {
+            Kept::Machine(machine) => machine.tell_cpu(cpu, told, path, length),
+            _ => Status::Kind,
+        }
     }
 
     /// Starts the coordinator of one caller on the machine's plan.
-    #[tactic(auto, unfolding(crate::specs::Handled::Handled))]
+    #[tactic(auto, unfolding(crate::specs::Handled::Handled, crate::specs::Handled::AtMachine))]
     pub fn start(&mut self, alloc: Global) -> Status
         ensures { OnMachine self.old self.new result (Unit {0}) Starts }
     {
-        let Some(mut kept) = self.take(alloc) else {
+        if !self.is_open() {
             return Status::Closed;
-        };
-        let status = start(&mut kept, alloc);
-        self.put(kept);
-        status
+        }
+        match self.kept() {
+            Kept::Machine(machine) => machine.start(alloc),
+            _ => Status::Kind,
+        }
     }
 
     /// Makes the request that the numbers ask for.
-    #[tactic(auto, unfolding(crate::specs::Handled::Handled))]
-    pub fn ask(&mut self, alloc: Global, asked: &RequestNumbers, reply: &mut ReplyNumbers) -> Status
+    #[tactic(auto, unfolding(crate::specs::Handled::Handled, crate::specs::Handled::AtMachine))]
+    pub fn ask(&mut self, asked: &RequestNumbers, reply: &mut ReplyNumbers) -> Status
         ensures { OnMachine self.old self.new result (reply.new ≡ reply.old)
             (λ m n s. Asks m asked.now reply.old n reply.new s) }
     {
-        let Some(mut kept) = self.take(alloc) else {
+        if !self.is_open() {
             return Status::Closed;
-        };
-        let status = ask(&mut kept, asked, reply);
-        self.put(kept);
-        status
+        }
+        match self.kept() {
+            Kept::Machine(machine) => machine.ask(asked, reply),
+            _ => Status::Kind,
+        }
     }
 
     /// Writes the operations of the last request that was made, or those at the start, and how many they are.
-    #[tactic(auto, unfolding(crate::specs::Handled::Handled))]
-    pub fn ops(&mut self, alloc: Global, out: &mut [OpNumbers], count: &mut u32) -> Status
+    #[tactic(auto, unfolding(crate::specs::Handled::Handled, crate::specs::Handled::AtMachine))]
+    pub fn ops(&mut self, out: &mut [OpNumbers], count: &mut u32) -> Status
         ensures { OnMachine self.old self.new result ((out.new ≡ out.old) × (count.new ≡ count.old))
             (λ m n s. (n ≡ m) × Lists m out.old count.old out.new count.new s) }
     {
-        let Some(mut kept) = self.take(alloc) else {
+        if !self.is_open() {
             return Status::Closed;
-        };
-        let status = ops(&mut kept, out, count);
-        self.put(kept);
-        status
+        }
+        match self.kept() {
+            Kept::Machine(machine) => machine.ops(out, count),
+            _ => Status::Kind,
+        }
     }
 }

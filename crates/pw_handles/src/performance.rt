@@ -3,34 +3,12 @@ ghost use Rattle.std.specs.Prelude.{◌≡◌};
 ghost use Rattle.pw_embed.specs.Cppc.{Asked, IsSteered};
 ghost use Rattle.pw_embed.specs.Machines.{Steers};
 ghost use Rattle.pw_embed.specs.Operations.{Listed};
-ghost use Rattle.pw_handles.specs.Handled.{AtCppc, KeptSo, OfMachine, OnCppc, OpensCppc};
+ghost use Rattle.pw_handles.specs.Handled.{KeptSo, OfMachine, OnCppc, OpensCppc};
 
 use crate::handle::Handle;
 use crate::kept::Kept;
 use pw_embed::{Cppc, CppcReplyNumbers, CppcRequestNumbers, OpNumbers, Status};
 use std::alloc::Global;
-
-#[tactic(auto, unfolding(crate::specs::Handled::AtCppc))]
-fn ask(kept: &mut Kept, asked: &CppcRequestNumbers, reply: &mut CppcReplyNumbers) -> Status
-    ensures { AtCppc kept.old kept.new result (reply.new ≡ reply.old)
-        (λ c d s. Asked c asked.now reply.old d reply.new s) }
-{
-    match kept {
-        Kept::Cppc(cppc) => cppc.ask(asked, reply),
-        _ => Status::Kind,
-    }
-}
-
-#[tactic(auto, unfolding(crate::specs::Handled::AtCppc))]
-fn ops(kept: &mut Kept, out: &mut [OpNumbers], count: &mut u32) -> Status
-    ensures { AtCppc kept.old kept.new result ((out.new ≡ out.old) × (count.new ≡ count.old))
-        (λ c d s. (d ≡ c) × Listed c.ops.elements out.old out.new count.new s) }
-{
-    match kept {
-        Kept::Cppc(cppc) => cppc.ops(out, count),
-        _ => Status::Kind,
-    }
-}
 
 /// The coordinator by `_CPC` of a machine that is kept.
 #[tactic(auto, unfolding(crate::specs::Handled::OfMachine))]
@@ -52,48 +30,43 @@ impl Handle {
         if self.is_open() {
             return Status::Open;
         }
-        let Some(kept) = machine.take(alloc) else {
+        if !machine.is_open() {
             return Status::Closed;
-        };
-        let made = steered(&kept, alloc);
-        machine.put(kept);
-        match made {
+        }
+        match steered(machine.kept(), alloc) {
             Ok(cppc) => self.fill(alloc, Kept::Cppc(cppc)),
             Err(status) => status,
         }
     }
 
     /// Makes the request for a performance that the numbers ask for.
-    #[tactic(auto, unfolding(crate::specs::Handled::Handled))]
-    pub fn ask_cppc(
-        &mut self,
-        alloc: Global,
-        asked: &CppcRequestNumbers,
-        reply: &mut CppcReplyNumbers,
-    ) -> Status
+    #[tactic(auto, unfolding(crate::specs::Handled::Handled, crate::specs::Handled::AtCppc))]
+    pub fn ask_cppc(&mut self, asked: &CppcRequestNumbers, reply: &mut CppcReplyNumbers) -> Status
         ensures { OnCppc self.old self.new result (reply.new ≡ reply.old)
             (λ c d s. Asked c asked.now reply.old d reply.new s) }
     {
-        let Some(mut kept) = self.take(alloc) else {
+        if !self.is_open() {
             return Status::Closed;
-        };
-        let status = ask(&mut kept, asked, reply);
-        self.put(kept);
-        status
+        }
+        match self.kept() {
+            Kept::Cppc(cppc) => cppc.ask(asked, reply),
+            _ => Status::Kind,
+        }
     }
 
     /// Writes the operations of the last request for a performance, or those at the start, and how many
     /// they are.
-    #[tactic(auto, unfolding(crate::specs::Handled::Handled))]
-    pub fn cppc_ops(&mut self, alloc: Global, out: &mut [OpNumbers], count: &mut u32) -> Status
+    #[tactic(auto, unfolding(crate::specs::Handled::Handled, crate::specs::Handled::AtCppc))]
+    pub fn cppc_ops(&mut self, out: &mut [OpNumbers], count: &mut u32) -> Status
         ensures { OnCppc self.old self.new result ((out.new ≡ out.old) × (count.new ≡ count.old))
             (λ c d s. (d ≡ c) × Listed c.ops.elements out.old out.new count.new s) }
     {
-        let Some(mut kept) = self.take(alloc) else {
+        if !self.is_open() {
             return Status::Closed;
-        };
-        let status = ops(&mut kept, out, count);
-        self.put(kept);
-        status
+        }
+        match self.kept() {
+            Kept::Cppc(cppc) => cppc.ops(out, count),
+            _ => Status::Kind,
+        }
     }
 }

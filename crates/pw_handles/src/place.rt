@@ -1,5 +1,6 @@
 //! A box as C keeps it.
 ghost use Rattle.std.specs.Prelude.{◌≡◌, Bool, true, false};
+ghost use Rattle.std.specs.Borrow.{sem};
 ghost use Rattle.pw_handles.specs.declared.kept.Kept.{Kept};
 ghost use Rattle.pw_handles.specs.Handles.{held, kept_coded};
 
@@ -22,6 +23,8 @@ impl Model for Place {
 }
 
 impl Place {
+    ghost use Rattle.pw_handles.specs.Lending.{LendsPlace};
+
     fn of_parts(parts: Parts<Kept, Global>) -> Place
         ensures { (result.full ≡ true) × (result.value ≡ parts.value) }
     {
@@ -60,6 +63,15 @@ impl Place {
         ensures { result.value ≡ self.value }
     {
         self.into_parts(alloc).into_box()
+    }
+
+    /// What it owns, where it lies.
+    pub(crate) fn get_mut(&mut self) -> &mut Kept
+        requires { self.old.full ≡ true }
+        ensures* writes_back { sem 𝓛 (LendsPlace self.entry result) }
+        ensures value { result.now ≡ self.old.value }
+    {
+        unsafe { &mut *(self.at as *mut Kept) }
     }
 }
 

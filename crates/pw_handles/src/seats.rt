@@ -2,91 +2,21 @@
 ghost use Rattle.std.specs.Prelude.{◌≡◌, false};
 ghost use Rattle.pw_embed.specs.Seats.{Asks, Counts, Lists, OpensSeat, Seals, Shows, TellsEntry};
 ghost use Rattle.pw_handles.specs.Handled.{KeptSo, OfMachine};
-ghost use Rattle.pw_handles.specs.Seated.{AtSeat, Becomes, JoinsKept, JoinsTo, OfSplit, OnSeat, OpensSeatOf};
+ghost use Rattle.pw_handles.specs.Seated.{Becomes, JoinsKept, JoinsTo, OfSplit, OnSeat, OpensSeatOf};
 ghost use Rattle.pw_handles.specs.Seated.{OweOneCoordinator, OweOneKept, SplitsTo};
 
 use crate::handle::Handle;
 use crate::kept::{Kept, empty_box, put_in, with};
+use core::mem::replace_with;
 use pw_embed::{EntryNumbers, OpNumbers, ReplyNumbers, RequestNumbers, Seat, SeatFacts, Status};
 use std::alloc::Global;
 use std::mem::replace;
 
-#[tactic(auto, unfolding(crate::specs::Seated::AtSeat))]
-fn ask(kept: &mut Kept, asked: &RequestNumbers, reply: &mut ReplyNumbers) -> Status
-    ensures { AtSeat kept.old kept.new result (reply.new ≡ reply.old)
-        (λ t u s. Asks t asked.now reply.old u reply.new s) }
-{
-    match kept {
-        Kept::Seat(seat) => seat.ask(asked, reply),
-        _ => Status::Kind,
-    }
-}
-
-#[tactic(auto, unfolding(crate::specs::Seated::AtSeat))]
-fn ops(kept: &mut Kept, out: &mut [OpNumbers], count: &mut u32, number: &mut u64) -> Status
-    ensures { AtSeat kept.old kept.new result
-        ((out.new ≡ out.old) × (count.new ≡ count.old) × (number.new ≡ number.old))
-        (λ t u s. (u ≡ t) × Lists t (out.old, count.old, number.old) (out.new, count.new, number.new) s) }
-{
-    match kept {
-        Kept::Seat(seat) => seat.ops(out, count, number),
-        _ => Status::Kind,
-    }
-}
-
-#[tactic(auto, unfolding(crate::specs::Seated::AtSeat))]
-fn tell(kept: &mut Kept, facts: &mut SeatFacts) -> Status
-    ensures { AtSeat kept.old kept.new result (facts.new ≡ facts.old)
-        (λ t u s. (u ≡ t) × Shows t facts.old facts.new s) }
-{
-    match kept {
-        Kept::Seat(seat) => seat.tell(facts),
-        _ => Status::Kind,
-    }
-}
-
-#[tactic(auto, unfolding(crate::specs::Seated::AtSeat))]
-fn entries(kept: &mut Kept, count: &mut u32) -> Status
-    ensures { AtSeat kept.old kept.new result (count.new ≡ count.old)
-        (λ t u s. (u ≡ t) × Counts t count.old count.new s) }
-{
-    match kept {
-        Kept::Seat(seat) => seat.entries(count),
-        _ => Status::Kind,
-    }
-}
-
-#[tactic(auto, unfolding(crate::specs::Seated::AtSeat))]
-fn entry(kept: &mut Kept, index: u32, told: &mut EntryNumbers) -> Status
-    ensures { AtSeat kept.old kept.new result (told.new ≡ told.old)
-        (λ t u s. (u ≡ t) × TellsEntry t index told.old told.new s) }
-{
-    match kept {
-        Kept::Seat(seat) => seat.entry(index, told),
-        _ => Status::Kind,
-    }
-}
-
 /// The same with a coordinator that has ended, where this was its only seat.
-#[tactic(auto, unfolding(crate::specs::Seated::AtSeat))]
-fn sealed(kept: Kept) -> (Kept, Status)
-    ensures { AtSeat kept result.0 result.1 (Unit {0}) Seals }
+fn sealed(seat: Seat, _: ()) -> (Seat, Status)
+    ensures { Seals seat result.0 result.1 }
 {
-    match kept {
-        Kept::Seat(seat) => {
-            let (seat, status) = seat.sealed();
-            (Kept::Seat(seat), status)
-        }
-        other => (other, Status::Kind),
-    }
-}
-
-fn seal(kept: &mut Kept) -> Status
-    ensures { AtSeat kept.old kept.new result (Unit {0}) Seals }
-{
-    let (next, status) = sealed(replace(kept, Kept::Nothing));
-    put_in(kept, next);
-    status
+    seat.sealed()
 }
 
 /// The first seat of a new coordinator of a machine that is kept.
@@ -144,12 +74,10 @@ impl Handle {
         if self.is_open() {
             return Status::Open;
         }
-        let Some(kept) = machine.take(alloc) else {
+        if !machine.is_open() {
             return Status::Closed;
-        };
-        let made = first(&kept, alloc, entries);
-        machine.put(kept);
-        match made {
+        }
+        match first(machine.kept(), alloc, entries) {
             Ok(seat) => self.fill(alloc, Kept::Seat(seat)),
             Err(status) => status,
         }
@@ -162,15 +90,13 @@ impl Handle {
         if other.is_open() {
             return Status::Open;
         }
-        let Some(mut kept) = self.take(alloc) else {
+        if !self.is_open() {
             return Status::Closed;
-        };
+        }
         let Some(room) = empty_box(alloc) else {
-            self.put(kept);
             return Status::NoMemory;
         };
-        let made = split(&mut kept, alloc, parts);
-        self.put(kept);
+        let made = split(self.kept(), alloc, parts);
         other.fill_with(room, made)
     }
 
@@ -190,58 +116,50 @@ impl Handle {
     }
 
     /// Makes the request that the numbers ask for by a seat.
-    #[tactic(auto, unfolding(crate::specs::Handled::Handled))]
-    pub fn ask_seat(
-        &mut self,
-        alloc: Global,
-        asked: &RequestNumbers,
-        reply: &mut ReplyNumbers,
-    ) -> Status
+    #[tactic(auto, unfolding(crate::specs::Handled::Handled, crate::specs::Seated::AtSeat))]
+    pub fn ask_seat(&mut self, asked: &RequestNumbers, reply: &mut ReplyNumbers) -> Status
         ensures { OnSeat self.old self.new result (reply.new ≡ reply.old)
             (λ t u s. Asks t asked.now reply.old u reply.new s) }
     {
-        let Some(mut kept) = self.take(alloc) else {
+        if !self.is_open() {
             return Status::Closed;
-        };
-        let status = ask(&mut kept, asked, reply);
-        self.put(kept);
-        status
+        }
+        match self.kept() {
+            Kept::Seat(seat) => seat.ask(asked, reply),
+            _ => Status::Kind,
+        }
     }
 
     /// Writes the operations of a seat's last request, or those at the start, how many they are, and its
     /// number.
-    #[tactic(auto, unfolding(crate::specs::Handled::Handled))]
-    pub fn seat_ops(
-        &mut self,
-        alloc: Global,
-        out: &mut [OpNumbers],
-        count: &mut u32,
-        number: &mut u64,
-    ) -> Status
+    #[tactic(auto, unfolding(crate::specs::Handled::Handled, crate::specs::Seated::AtSeat))]
+    pub fn seat_ops(&mut self, out: &mut [OpNumbers], count: &mut u32, number: &mut u64) -> Status
         ensures { OnSeat self.old self.new result
             ((out.new ≡ out.old) × (count.new ≡ count.old) × (number.new ≡ number.old))
             (λ t u s. (u ≡ t) × Lists t (out.old, count.old, number.old) (out.new, count.new, number.new) s) }
     {
-        let Some(mut kept) = self.take(alloc) else {
+        if !self.is_open() {
             return Status::Closed;
-        };
-        let status = ops(&mut kept, out, count, number);
-        self.put(kept);
-        status
+        }
+        match self.kept() {
+            Kept::Seat(seat) => seat.ops(out, count, number),
+            _ => Status::Kind,
+        }
     }
 
     /// Tells what a seat knows.
-    #[tactic(auto, unfolding(crate::specs::Handled::Handled))]
-    pub fn tell_seat(&mut self, alloc: Global, facts: &mut SeatFacts) -> Status
+    #[tactic(auto, unfolding(crate::specs::Handled::Handled, crate::specs::Seated::AtSeat))]
+    pub fn tell_seat(&mut self, facts: &mut SeatFacts) -> Status
         ensures { OnSeat self.old self.new result (facts.new ≡ facts.old)
             (λ t u s. (u ≡ t) × Shows t facts.old facts.new s) }
     {
-        let Some(mut kept) = self.take(alloc) else {
+        if !self.is_open() {
             return Status::Closed;
-        };
-        let status = tell(&mut kept, facts);
-        self.put(kept);
-        status
+        }
+        match self.kept() {
+            Kept::Seat(seat) => seat.tell(facts),
+            _ => Status::Kind,
+        }
     }
 
     /// Joins the seat of another handle into this one's. The other is closed then.
@@ -249,57 +167,58 @@ impl Handle {
         requires { OweOneCoordinator self.old other.old }
         ensures { JoinsTo self.old other.old self.new other.new result }
     {
-        let Some(mut one) = self.take(alloc) else {
+        if !self.is_open() {
             return Status::Closed;
-        };
+        }
         let Some(mut two) = other.take(alloc) else {
-            self.put(one);
             return Status::Closed;
         };
-        let status = join(&mut one, &mut two);
-        self.put(one);
+        let status = join(self.kept(), &mut two);
         other.put_left(two, status);
         status
     }
 
     /// Ends the coordinator of its only seat.
-    #[tactic(auto, unfolding(crate::specs::Handled::Handled))]
-    pub fn seal_seat(&mut self, alloc: Global) -> Status
+    #[tactic(auto, unfolding(crate::specs::Handled::Handled, crate::specs::Seated::AtSeat))]
+    pub fn seal_seat(&mut self) -> Status
         ensures { OnSeat self.old self.new result (Unit {0}) Seals }
     {
-        let Some(mut kept) = self.take(alloc) else {
+        if !self.is_open() {
             return Status::Closed;
-        };
-        let status = seal(&mut kept);
-        self.put(kept);
-        status
+        }
+        match self.kept() {
+            Kept::Seat(seat) => replace_with(seat, (), sealed),
+            _ => Status::Kind,
+        }
     }
 
     /// Counts the entries of the history of a coordinator that has ended.
-    #[tactic(auto, unfolding(crate::specs::Handled::Handled))]
-    pub fn seat_entries(&mut self, alloc: Global, count: &mut u32) -> Status
+    #[tactic(auto, unfolding(crate::specs::Handled::Handled, crate::specs::Seated::AtSeat))]
+    pub fn seat_entries(&mut self, count: &mut u32) -> Status
         ensures { OnSeat self.old self.new result (count.new ≡ count.old)
             (λ t u s. (u ≡ t) × Counts t count.old count.new s) }
     {
-        let Some(mut kept) = self.take(alloc) else {
+        if !self.is_open() {
             return Status::Closed;
-        };
-        let status = entries(&mut kept, count);
-        self.put(kept);
-        status
+        }
+        match self.kept() {
+            Kept::Seat(seat) => seat.entries(count),
+            _ => Status::Kind,
+        }
     }
 
     /// Tells the entry of this index of the history of a coordinator that has ended.
-    #[tactic(auto, unfolding(crate::specs::Handled::Handled))]
-    pub fn seat_entry(&mut self, alloc: Global, index: u32, told: &mut EntryNumbers) -> Status
+    #[tactic(auto, unfolding(crate::specs::Handled::Handled, crate::specs::Seated::AtSeat))]
+    pub fn seat_entry(&mut self, index: u32, told: &mut EntryNumbers) -> Status
         ensures { OnSeat self.old self.new result (told.new ≡ told.old)
             (λ t u s. (u ≡ t) × TellsEntry t index told.old told.new s) }
     {
-        let Some(mut kept) = self.take(alloc) else {
+        if !self.is_open() {
             return Status::Closed;
-        };
-        let status = entry(&mut kept, index, told);
-        self.put(kept);
-        status
+        }
+        match self.kept() {
+            Kept::Seat(seat) => seat.entry(index, told),
+            _ => Status::Kind,
+        }
     }
 }

@@ -1,6 +1,10 @@
-use Rattle.std.proofs.Common.{sym, ◌∙◌}
+use Rattle.std.proofs.Common.{refl, sym, ◌∙◌}
+use Rattle.pw_handles.specs.Endless.{AtEndless}
 use Rattle.pw_handles.proofs.Handling.{handled}
 use Rattle.pw_handles.proofs.handle.Handle.begin_endless.Goals as goal
 
-pub returns : goal.returns
-returns c = handled _ _ _ _ _ _ _ _ _ c.in-Some.ensures.taken.0 (c.in-Some.ensures.taken.1 ∙ sym c.deref_mut.ensures.value) c.put.ensures.0 c.put.ensures.1 c.begin-status.ensures
+pub returns-in-Endless : goal.returns-in-Endless
+unfolding AtEndless
+returns-in-Endless c =
+    let full = sym c.is_open.ensures ∙ c.if-not-is_open.false in
+    handled _ _ _ _ _ _ _ _ _ full (sym c.kept.ensures.value) full refl (rw c.in-Endless.is (c.begin.new.self, refl, c.begin.ensures))

@@ -1,6 +1,10 @@
-use Rattle.std.proofs.Common.{sym, ◌∙◌}
+use Rattle.std.proofs.Common.{refl, sym, ◌∙◌}
+use Rattle.pw_handles.specs.Handled.{AtCppc}
 use Rattle.pw_handles.proofs.Handling.{handled}
 use Rattle.pw_handles.proofs.handle.Handle.cppc_ops.Goals as goal
 
-pub returns : goal.returns
-returns c = handled _ _ _ _ _ _ _ _ _ c.in-Some.ensures.taken.0 (c.in-Some.ensures.taken.1 ∙ sym c.deref_mut.ensures.value) c.put.ensures.0 c.put.ensures.1 c.ops-status.ensures
+pub returns-in-Cppc : goal.returns-in-Cppc
+unfolding AtCppc
+returns-in-Cppc c =
+    let full = sym c.is_open.ensures ∙ c.if-not-is_open.false in
+    handled _ _ _ _ _ _ _ _ _ full (sym c.kept.ensures.value) full refl (rw c.in-Cppc.is (c.in-Cppc.cppc, refl, (refl, c.ops.ensures)))

@@ -1,5 +1,5 @@
 use Rattle.pw_embed.specs.Endless.{EndsAt}
-use Rattle.pw_embed.proofs.endless.Endless.finish.Goals as goal
+use Rattle.pw_embed.proofs.endless.ended.Goals as goal
 
 pub returns-in-Ongoing : goal.returns-in-Ongoing
 unfolding EndsAt

@@ -1,7 +1,0 @@
-use Rattle.std.proofs.Common.{refl}
-use Rattle.pw_handles.specs.Handled.{AtCppc}
-use Rattle.pw_handles.proofs.performance.ops.Goals as goal
-
-pub returns-in-Cppc : goal.returns-in-Cppc
-unfolding AtCppc
-returns-in-Cppc c = rw c.in-Cppc.is (c.in-Cppc.cppc, refl, (refl, c.ops.ensures))
