@@ -120,11 +120,11 @@ pub fn planned(
 }
 
 /// The coordinator by `_CPC` of a machine's processors, at its start. The machine is that of these objects.
-fn steered_on(alloc: Global, space: &Space<'_>, machine: &Plan) -> Result<Cppc, Memory>
-    requires planned { (notes : list note) × IsPlanFrom space.now machine.now notes }
+fn steered_on(alloc: Global, space: &Space<'_>, machine: Plan) -> Result<Cppc, Memory>
+    requires planned { (notes : list note) × IsPlanFrom space.now machine notes }
     ensures { IfOk result (λ c. IsPlanOver space.now c.plan × IsOpening c) }
 {
-    let plan = cppc_plan(alloc, space, machine)?;
+    let plan = cppc_plan(alloc, space, &machine)?;
     Cppc::open(alloc, plan)
 }
 
@@ -138,7 +138,7 @@ fn steered(alloc: Global, space: &Space<'_>) -> Result<Cppc, Status>
     let mut fault = FaultNumbers::NONE;
     let mut path = [0; 0];
     match planned(alloc, space, &mut fault, &mut path) {
-        Ok((plan, _notes)) => match steered_on(alloc, space, &plan) {
+        Ok((plan, _notes)) => match steered_on(alloc, space, plan) {
             Ok(cppc) => Ok(cppc),
             Err(_) => Err(Status::NoMemory),
         },

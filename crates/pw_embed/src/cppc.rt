@@ -23,6 +23,20 @@ pub struct Cppc {
     ghost room: { 257 ≤ ops.capacity },
 }
 
+/// The numbers at the start, and the operations at the start in a list with room for those of any request.
+fn opened(alloc: Global, plan: &CppcPlan) -> Result<(CppcState, Ops), Memory>
+    ensures state { IfOk result (λ r. r.0 ≡ opening plan.now) }
+    ensures fits { IfOk result (λ r. AreNumbers plan.now r.0) }
+    ensures ops { IfOk result (λ r. r.1.elements ≡ opening_ops plan.now) }
+    ensures room { IfOk result (λ r. 257 ≤ r.1.capacity) }
+{
+    let state = CppcState::open(alloc, plan)?;
+    let most = plan.opening_bound().max(MOST_OF_A_REQUEST);
+    let mut ops = Ops::new(alloc, most)?;
+    open_all(plan, &mut ops);
+    Ok((state, ops))
+}
+
 impl Cppc {
     ghost use Rattle.pw_cppc.specs.Answers.{answer};
     ghost use Rattle.pw_embed.specs.Cppc.{Asked, IsOpening, Stepped};
@@ -32,10 +46,7 @@ impl Cppc {
     pub fn open(alloc: Global, plan: CppcPlan) -> Result<Cppc, Memory>
         ensures { IfOk result (λ c. (c.plan ≡ plan) × IsOpening c) }
     {
-        let state = CppcState::open(alloc, &plan)?;
-        let most = plan.opening_bound().max(MOST_OF_A_REQUEST);
-        let mut ops = Ops::new(alloc, most)?;
-        open_all(&plan, &mut ops);
+        let (state, ops) = opened(alloc, &plan)?;
         Ok(Cppc { plan, state, ops })
     }
 

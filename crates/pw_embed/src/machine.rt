@@ -11,6 +11,7 @@ use crate::replies::ReplyNumbers;
 use crate::requests::RequestNumbers;
 use crate::single::{Single, opened};
 use crate::status::Status;
+use core::mem::replace_with;
 use pw_plan::Plan;
 use std::alloc::Global;
 use std::mem::replace;
@@ -73,7 +74,7 @@ impl Machine {
         ensures { Plans self.old fault.old path.old self.new fault.new path.new result }
     {
         let (next, status) = replace(self, Machine::new(alloc)).with_plan(alloc, fault, path);
-        *self = next;
+        drop(replace(self, next));
         status
     }
 
@@ -154,9 +155,7 @@ impl Machine {
     pub fn start(&mut self, alloc: Global) -> Status
         ensures { Starts self.old self.new result }
     {
-        let (next, status) = replace(self, Machine::new(alloc)).with_coordinator(alloc);
-        *self = next;
-        status
+        replace_with(self, alloc, Machine::with_coordinator)
     }
 
     /// Makes the request that the numbers ask for.

@@ -1,10 +1,13 @@
-ghost use Rattle.std.specs.Prelude.{◌≤◌, vec_capacity};
+ghost use Rattle.std.specs.Prelude.{◌≡◌, ◌⊎◌, ◌≤◌, vec_capacity, IfOk};
 ghost use Rattle.std.specs.Arc.{arc_value};
+ghost use Rattle.pw_model.specs.Operations.{opening_ops};
 ghost use Rattle.pw_model.specs.Records.{record_count};
 ghost use Rattle.pw_turns.specs.Owning.{Owns};
+ghost use Rattle.pw_embed.specs.declared.status.Status.TheVariants.{NoMemory, Stopped};
 
 use crate::sharing::SeatFacts;
 use crate::{OpNumbers, Status, tell_ops};
+use pw_base::Memory;
 use pw_core::{Ops, open_all};
 use pw_plan::Plan;
 use pw_turns::{
@@ -12,6 +15,27 @@ use pw_turns::{
 };
 use std::alloc::Global;
 use std::sync::Arc;
+
+/// The operations at the start.
+pub fn opening(alloc: Global, plan: &Plan) -> Result<Ops, Memory>
+    ensures { IfOk result (λ ops. ops.elements ≡ opening_ops plan.now) }
+{
+    let mut ops = Ops::new(alloc, plan.opening_bound())?;
+    open_all(plan, &mut ops);
+    Ok(ops)
+}
+
+/// The status with which there is no coordinator, for this reason.
+fn unopened(fault: OpenFault<ReportedRegisters>) -> Status
+    ensures { (result ≡ NoMemory) ⊎ (result ≡ Stopped) }
+{
+    let status = match &fault {
+        OpenFault::Memory { .. } => Status::NoMemory,
+        OpenFault::RegisterFault { .. } => Status::Stopped,
+    };
+    drop(fault);
+    status
+}
 
 /// A seat at a coordinator without end, between its requests.
 #[derive(Drop)]
@@ -27,8 +51,7 @@ pub struct Resting {
 }
 
 impl Resting {
-    ghost use Rattle.std.specs.Prelude.{◌≡◌, ◌⊎◌, Some, IfErr, IfOk};
-    ghost use Rattle.pw_embed.specs.declared.status.Status.TheVariants.{NoMemory, Stopped};
+    ghost use Rattle.std.specs.Prelude.{Some, IfErr};
     ghost use Rattle.pw_embed.specs.Operations.{Listed};
     ghost use Rattle.pw_embed.specs.Resting.{AreOfOne, IsFirst, Joins, Splits, facts_of, opening_in};
 
@@ -64,14 +87,13 @@ impl Resting {
         ensures opened { IfOk result (λ r. IsFirst plan r) }
         ensures refused { IfErr result (λ s. (s ≡ NoMemory) ⊎ (s ≡ Stopped)) }
     {
-        let Ok(mut ops) = Ops::new(alloc, plan.opening_bound()) else {
+        let Ok(ops) = opening(alloc, &plan) else {
+            drop(plan);
             return Err(Status::NoMemory);
         };
-        open_all(&plan, &mut ops);
         match Coordinator::open_endless(alloc, plan, ReportedRegisters::new()) {
             Ok((coordinator, seat)) => Resting::first(alloc, coordinator, seat, ops),
-            Err(OpenFault::Memory { .. }) => Err(Status::NoMemory),
-            Err(OpenFault::RegisterFault { .. }) => Err(Status::Stopped),
+            Err(fault) => Err(unopened(fault)),
         }
     }
 

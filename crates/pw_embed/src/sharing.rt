@@ -1,15 +1,35 @@
+ghost use Rattle.std.specs.Prelude.{◌≡◌};
 ghost use Rattle.std.specs.Arc.{arc_value};
+ghost use Rattle.pw_plan.specs.declared.plan.Plan.{Plan as plan};
+ghost use Rattle.pw_turns.specs.Opens.{OpenFails};
 ghost use Rattle.pw_turns.specs.Owning.{Owns};
+ghost use Rattle.pw_embed.specs.declared.registers.NoRegisters.{NoRegisters as no_registers};
+ghost use Rattle.pw_embed.specs.declared.status.Status.TheVariants.{NoMemory};
+ghost use Rattle.pw_embed.specs.Registers.{by_none};
 
 use crate::registers::NoRegisters;
+use crate::resting::opening;
 use crate::told::{put_reply, status_of};
 use crate::{OpNumbers, ReplyNumbers, RequestNumbers, Status, tell_ops};
 use acpi_values::Op;
-use pw_core::{Ops, open_all};
+use pw_core::Ops;
 use pw_plan::{Plan, Request};
 use pw_turns::{Closed, Coordinator, OpenFault, Seat, SplitFault, Try};
 use std::alloc::Global;
 use std::sync::Arc;
+
+/// The status with which there is no coordinator, for this reason: memory alone, since no register fails.
+fn unopened(fault: OpenFault<NoRegisters>) -> Status
+    requires { (P : plan) × (regs : no_registers) × OpenFails by_none P regs fault }
+    ensures { result ≡ NoMemory }
+{
+    let status = match &fault {
+        OpenFault::Memory { .. } => Status::NoMemory,
+        OpenFault::RegisterFault { .. } => unreachable!(),
+    };
+    drop(fault);
+    status
+}
 
 /// A seat at a coordinator that others share.
 #[derive(Drop)]
@@ -35,12 +55,37 @@ pub struct SeatFacts {
 }
 
 impl Sharing {
-    ghost use Rattle.std.specs.Prelude.{◌≡◌, ◌≤◌, IfErr, IfOk};
-    ghost use Rattle.std.specs.Arc.{arc_value};
+    ghost use Rattle.std.specs.Prelude.{◌≤◌, IfErr, IfOk, Some};
     ghost use Rattle.pw_plan.specs.Requests.{Has};
-    ghost use Rattle.pw_embed.specs.declared.status.Status.TheVariants.{NoMemory};
     ghost use Rattle.pw_embed.specs.Operations.{Listed};
     ghost use Rattle.pw_embed.specs.Shared.{AreOfOne, Asked, IsEnded, IsFirst, Joins, Splits, Tried, facts_of, listed};
+
+    /// The first seat of a coordinator that was opened, with the operations at the start.
+    fn first(
+        alloc: Global,
+        coordinator: Coordinator<NoRegisters>,
+        seat: Seat,
+        ops: Ops,
+    ) -> Result<Sharing, Status>
+        requires { Owns coordinator.table.shared.table_id seat }
+        ensures coordinator { IfOk result (λ s. arc_value s.coordinator ≡ coordinator) }
+        ensures seat { IfOk result (λ s. s.seat ≡ seat) }
+        ensures opening { IfOk result (λ s. s.opening ≡ Some ops) }
+        ensures refused { IfErr result (λ s. s ≡ NoMemory) }
+    {
+        match Arc::new(alloc, coordinator) {
+            Ok(coordinator) => Ok(Sharing {
+                coordinator,
+                seat,
+                opening: Some(ops),
+                answered: false,
+            }),
+            Err(failed) => {
+                drop(failed);
+                Err(Status::NoMemory)
+            }
+        }
+    }
 
     /// The first seat of a new coordinator of a plan, with room for so many entries, at the start.
     pub fn open(alloc: Global, plan: Plan, entries: u32) -> Result<Sharing, Status>
@@ -48,22 +93,13 @@ impl Sharing {
         ensures opened { IfOk result (λ s. IsFirst plan entries s) }
         ensures refused { IfErr result (λ s. s ≡ NoMemory) }
     {
-        let Ok(mut ops) = Ops::new(alloc, plan.opening_bound()) else {
+        let Ok(ops) = opening(alloc, &plan) else {
+            drop(plan);
             return Err(Status::NoMemory);
         };
-        open_all(&plan, &mut ops);
         match Coordinator::open(alloc, plan, NoRegisters, entries) {
-            Ok((coordinator, seat)) => match Arc::new(alloc, coordinator) {
-                Ok(coordinator) => Ok(Sharing {
-                    coordinator,
-                    seat,
-                    opening: Some(ops),
-                    answered: false,
-                }),
-                Err(_) => Err(Status::NoMemory),
-            },
-            Err(OpenFault::Memory { .. }) => Err(Status::NoMemory),
-            Err(OpenFault::RegisterFault { .. }) => unreachable!(),
+            Ok((coordinator, seat)) => Sharing::first(alloc, coordinator, seat, ops),
+            Err(fault) => Err(unopened(fault)),
         }
     }
 

@@ -83,7 +83,10 @@ impl Handle {
                 self.put(kept);
                 Status::Done
             }
-            Err(_) => Status::NoMemory,
+            Err(failed) => {
+                drop(failed);
+                Status::NoMemory
+            }
         }
     }
 

@@ -2,6 +2,7 @@ ghost use Rattle.std.specs.Prelude.{◌≡◌};
 
 use pw_embed::{Cppc, Endless, Machine, Seat};
 use std::alloc::Global;
+use std::mem::replace;
 
 /// What a handle is open for.
 #[derive(Drop)]
@@ -28,11 +29,11 @@ impl Kept {
     }
 }
 
-/// Puts this in place of what is kept. It stands by itself, since dropping what was kept has many ways.
+/// Puts this in place of what is kept, which is dropped by a call, since that has many ways.
 pub(crate) fn put_in(kept: &mut Kept, next: Kept)
     ensures { kept.new ≡ next }
 {
-    *kept = next;
+    drop(replace(kept, next));
 }
 
 /// A box for what a handle is to keep.

@@ -6,7 +6,7 @@ use Rattle.pw_embed.proofs.blocks.steered_on.Goals as goal
 pub returns : goal.returns
 returns c =
     let over : IsPlanOver c.args.space.now c.in_ok-plan.plan = record {
-      machine = c.args.machine.now;
+      machine = c.args.machine;
       notes = c.requires.planned.0;
       made = c.requires.planned.1;
       paths = c.in_ok-plan.ensures.paths;

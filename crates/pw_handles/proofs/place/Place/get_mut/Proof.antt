@@ -76,7 +76,8 @@ module _ {M : Type 1} {𝓤 : Ura M} (𝓛 : Logic 𝓤) (at_mem : Memory → SP
   Post z = (walk_of 𝓛 F.ended stayed held).post (spelled z)
 
   exits : (z : Bound) (b o : ℕ) (γ : GName)
-      → ent 𝓤 (sep 𝓤 (sem 𝓛 ((MutRef (named 0) z.0.0.0 R).own_val (record { ref_ptr = (b, o); ghost_name = γ; now = z.0.3.0.now.value }) (vptr b o ∷ []))) (sep 𝓤 (A.lft z.0.0.0 z.0.1.0) (sem 𝓛 (follows P R z.0.3.0.ghost_name γ (with_value z.0.3.0.now))))) (Post z (vptr b o))
+      → ent 𝓤 (sep 𝓤 (sem 𝓛 ((MutRef (named 0) z.0.0.0 R).own_val (record { ref_ptr = (b, o); ghost_name = γ; now = z.0.3.0.now.value }) (vptr b o ∷ [])))
+      (sep 𝓤 (A.lft z.0.0.0 z.0.1.0) (sem 𝓛 (follows P R z.0.3.0.ghost_name γ (with_value z.0.3.0.now))))) (Post z (vptr b o))
   exits z b o γ =
       let r : MutBor R.Denot = record { ref_ptr = (b, o); ghost_name = γ; now = z.0.3.0.now.value } in
       qed 𝓛 (‵ ((MutRef (named 0) z.0.0.0 R).own_val r (vptr b o ∷ [])) ∷ ‵ (flft z.0.0.0 z.0.1.0) ∷ ‵ (follows P R z.0.3.0.ghost_name γ (with_value z.0.3.0.now)) ∷ []) ∵
