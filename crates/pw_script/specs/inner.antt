@@ -2,5 +2,6 @@ pub mod Behind
 pub mod Cuts
 pub mod Feeds
 pub mod Known
+pub mod Names
 pub mod Openings
 pub mod Paths

@@ -1,7 +1,8 @@
-ghost use Rattle.std.specs.Prelude.{◌≡◌, ◌++◌, ◌≤◌, [], IfOk, Some, None, if◌then◌else◌, length};
+ghost use Rattle.std.specs.Prelude.{◌≡◌, [], IfOk, Some, None, if◌then◌else◌};
 ghost use Rattle.aml_data.specs.Segment.{is_letter, is_word};
 ghost use Rattle.pw_script.specs.Lines.{parts};
 ghost use Rattle.pw_script.specs.Forms.{filled, is_short, name_of, names_of};
+ghost use Rattle.pw_script.specs.inner.Names.{filled_few};
 
 use crate::lines::cut;
 use pw_base::Memory;
@@ -20,34 +21,29 @@ fn is_word(byte: u8) -> bool
     is_letter(byte) || byte.is_ascii_digit()
 }
 
-/// Whether it is one to four characters of a segment.
-fn is_short(text: &[u8]) -> bool
-    ensures { result ≡ is_short text.now }
+/// One to four bytes, filled up to four by `_`. None where there are more, or none.
+fn filled(text: &[u8]) -> Option<[u8; 4]>
+    ensures { result ≡ filled_few text.now }
 {
     match text {
-        [] => false,
-        [first, others @ ..] => {
-            let mut left = others;
-            while let [byte, rest @ ..] = left {
-                if !is_word(*byte) {
-                    return false;
-                }
-                left = rest;
-            }
-            is_letter(*first) && others.len() <= 3
-        }
+        [a] => Some([*a, b'_', b'_', b'_']),
+        [a, b] => Some([*a, *b, b'_', b'_']),
+        [a, b, c] => Some([*a, *b, *c, b'_']),
+        [a, b, c, d] => Some([*a, *b, *c, *d]),
+        _ => None,
     }
 }
 
-/// Puts a segment, filled up to four characters, behind the name.
-fn put_filled(name: &mut Vec<u8>, text: &[u8]) -> Result<(), Memory>
-    requires { length text.now ≤ 4 }
-    ensures { IfOk result (λ _. name.new.items ≡ name.old.items ++ filled text.now) }
+/// A segment of one to four characters, filled up to four. None where it is none.
+fn segment_of(text: &[u8]) -> Option<[u8; 4]>
+    ensures { result ≡ (if is_short text.now then Some (filled text.now) else None) }
 {
-    let fill = b"____";
-    name.extend_from_slice(text)?;
-    name.extend_from_slice(&fill[text.len()..])?;
-    Ok(())
+    let seg = filled(text)?;
+    if is_letter(seg[0]) && is_word(seg[1]) && is_word(seg[2]) && is_word(seg[3]) {
+        Some(seg)
+    } else {
+        None
+    }
 }
 
 /// Puts segments that dots join behind a name that is empty. False where one of them is none.
@@ -58,10 +54,10 @@ fn put_segments(name: &mut Vec<u8>, text: &[u8]) -> Result<bool, Memory>
     let mut left = text;
     loop {
         let (part, behind) = cut(left, b'.');
-        if !is_short(part) {
+        let Some(seg) = segment_of(part) else {
             return Ok(false);
-        }
-        put_filled(name, part)?;
+        };
+        name.extend_from_slice(&seg)?;
         match behind {
             None => return Ok(true),
             Some(rest) => left = rest,
