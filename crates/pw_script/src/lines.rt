@@ -4,6 +4,8 @@ ghost use Rattle.pw_script.specs.Lines.{parts, lines_of, fields_of, onto_fields,
 ghost use Rattle.pw_script.specs.inner.Cuts.{parts_after};
 ghost use Rattle.pw_script.specs.inner.Feeds.{is_open};
 
+use memchr::memchr;
+
 /// The part up to the first byte that is `at`, and what stands behind that byte.
 pub(crate) fn cut(bytes: &[u8], at: u8) -> (&[u8], Option<&[u8]>)
     ensures value { parts at bytes.now ≡ parts_after at result.0.now (option_copied result.1) }
@@ -16,6 +18,18 @@ pub(crate) fn cut(bytes: &[u8], at: u8) -> (&[u8], Option<&[u8]>)
         }
     }
     (bytes, None)
+}
+
+/// The same, where that byte is likely to be farther off: many bytes are looked at at once.
+fn cut_far(bytes: &[u8], at: u8) -> (&[u8], Option<&[u8]>)
+    ensures value { parts at bytes.now ≡ parts_after at result.0.now (option_copied result.1) }
+    ensures whole { IfNone result.1 (result.0.now ≡ bytes.now) }
+    ensures shorter { IfSome result.1 (λ rest. length rest.now < length bytes.now) }
+{
+    match memchr(at, bytes) {
+        None => (bytes, None),
+        Some(index) => (&bytes[..index], Some(&bytes[index + 1..])),
+    }
 }
 
 /// Without a carriage return at the end.
@@ -34,7 +48,7 @@ pub fn first_line(bytes: &[u8]) -> (&[u8], &[u8])
     ensures value { lines_of bytes.now ≡ result.0.now ∷ lines_of result.1.now }
     ensures shorter { length result.1.now < length bytes.now }
 {
-    let (part, behind) = cut(bytes, b'\n');
+    let (part, behind) = cut_far(bytes, b'\n');
     match behind {
         None => (part, &[]),
         Some(rest) => (without_return(part), rest),
@@ -60,8 +74,9 @@ pub fn first_field(line: &[u8]) -> (&[u8], &[u8])
     }
 }
 
-/// How many line feeds there are.
-fn count_feeds(bytes: &[u8]) -> usize
+/// How many line feeds there are among a few bytes: a count of 8 bits is had of many at once.
+fn few_feeds(bytes: &[u8]) -> u8
+    requires { length bytes.now ≤ 255 }
     ensures { result ≡ count_by (λ b. b == 10) bytes.now }
 {
     let mut feeds = 0;
@@ -71,6 +86,20 @@ fn count_feeds(bytes: &[u8]) -> usize
         }
     }
     feeds
+}
+
+/// How many line feeds there are.
+fn count_feeds(bytes: &[u8]) -> usize
+    ensures { result ≡ count_by (λ b. b == 10) bytes.now }
+{
+    let mut feeds = 0;
+    let mut left = bytes;
+    while left.len() > 128 {
+        let (few, rest) = left.split_at(128);
+        feeds += usize::from(few_feeds(few));
+        left = rest;
+    }
+    feeds + usize::from(few_feeds(left))
 }
 
 /// Whether the last line has no line feed.
