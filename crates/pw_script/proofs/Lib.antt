@@ -6,6 +6,7 @@ pub mod Existing
 pub mod Feeds
 pub mod Replied
 pub mod Leading
+pub mod Limiting
 pub mod Lined
 pub mod Sourced
 pub mod Making

@@ -1,5 +1,5 @@
 -- One request, or one line, more.
-use Rattle.std.proofs.Common.{◌≡◌, ◌∙◌, ◌+◌, ℕ, suc, List, [], ◌∷◌, ◌++◌, refl, sym, ap, Ok, Err, Option, Some, None, Result, append_assoc, add-one, length, arith}
+use Rattle.std.proofs.Common.{◌≡◌, ◌∙◌, ◌+◌, ℕ, suc, List, [], ◌∷◌, ◌++◌, refl, ap, Ok, Err, Option, Some, None, Result, append_assoc, add-one, length, arith}
 use Rattle.pw_plan.specs.declared.plan.Plan.{Plan}
 use Rattle.pw_plan.specs.declared.request.Request.{Request}
 use Rattle.pw_model.specs.declared.state.State.{State}
@@ -65,12 +65,6 @@ past_on P c m whole items number texts text rest e w so_far more h =
     let one : number + 1 ≡ suc number = add-one number in
     let there = rw one at h in
     so_far more (lines_none P c m (requests_of items) (suc number) texts text rest more e w there)
-
-pub made_on : (P : Plan) (S T U : State) (items new : List line) (number : ℕ) (q : Request) → new ≡ items ++ record { number = number; request = q } ∷ [] → T ≡ made_from P S (requests_of items)
-    → U ≡ after P T q → U ≡ made_from P S (requests_of new)
-made_on P S T U items new number q is before then =
-    let asked_for : requests_of new ≡ requests_of items ++ q ∷ [] = ap requests_of is ∙ map-append _ items _ in
-    then ∙ ap (λ X. after P X q) before ∙ sym (made_more P S (requests_of items) q) ∙ ap (made_from P S) (sym asked_for)
 
 pub no_texts : (xs : List ℕ) → length xs ≡ 0 → lines_of xs ≡ []
 no_texts [] e = refl

@@ -5,9 +5,12 @@ ghost use Rattle.pw_notice.specs.Limits.{AnsweredBy, IsAnswer, kind_of, made_fro
 ghost use Rattle.pw_plan.specs.declared.request.Request.{Request as request};
 ghost use Rattle.pw_plan.specs.Parts.{scale_of};
 ghost use Rattle.pw_plan.specs.Places.{cpu_at};
-ghost use Rattle.pw_plan.specs.Requests.{cpu_of};
+ghost use Rattle.pw_plan.specs.Requests.{Has, cpu_of};
+ghost use Rattle.pw_model.specs.declared.state.State.{State as lists};
 ghost use Rattle.pw_model.specs.States.{IsState, limit_of, opening};
+ghost use Rattle.pw_model.specs.Answers.{after};
 ghost use Rattle.pw_script.specs.Reading.{asker, IsAsked, LawfullyChosen};
+ghost use Rattle.pw_script.specs.inner.Limiting.{SameLimits};
 
 use crate::wish::Wish;
 use acpi_values::IdleTable;
@@ -55,7 +58,21 @@ fn limit_of<P: Fn(u32, u32, u32) -> u32, T: Fn(u32, u32, u32) -> u32>(
     }
 }
 
-/// The request that a wish becomes in this state, once the governor or a handler has answered.
+/// Notes a request where it sets a limit: no line is answered by what the others change.
+pub(crate) fn note(plan: &Plan, state: &mut State, request: Request)
+    requires request { Has plan.now request }
+    requires fits { IsState plan.now state.old }
+    ensures limits { (T : lists) → SameLimits state.old T → SameLimits state.new (after plan.now T request) }
+    ensures fits { IsState plan.now state.new }
+{
+    match request {
+        Request::PerfLimit { .. } => state.apply(plan, request),
+        Request::ThrottleLimit { .. } => state.apply(plan, request),
+        _ => {}
+    }
+}
+
+/// The request that a wish becomes where these limits stand, once the governor or a handler has answered.
 pub(crate) fn request_of<
     F: Fn(&IdleTable, u32, u32) -> u32,
     P: Fn(u32, u32, u32) -> u32,
@@ -72,7 +89,7 @@ pub(crate) fn request_of<
     requires throttle { Handles (T.pre handlers.now.1) (T.post handlers.now.1) }
     requires cpu { asker wish < length plan.now.cpus }
     requires fits { IsState plan.now state.now }
-    ensures asked { (before : list request) → state.now ≡ made_from plan.now (opening plan.now) before
+    ensures asked { (before : list request) → SameLimits state.now (made_from plan.now (opening plan.now) before)
         → IsAsked plan.now (LawfullyChosen (F.post governor.now))
         (AnsweredBy (P.post handlers.now.0) (T.post handlers.now.1)) before wish result }
     ensures cpu { cpu_of result ≡ asker wish }

@@ -11,7 +11,7 @@ ghost use Rattle.pw_script.specs.Asking.{CanBeAsked};
 ghost use Rattle.pw_script.specs.Reading.{AreLines, Fit, LawfullyChosen, first_bad, operations, refused};
 ghost use Rattle.pw_script.specs.Reading.{requests_of, too_long};
 
-use crate::asking::request_of;
+use crate::asking::{note, request_of};
 use crate::index::index_of;
 use crate::line::wish_in;
 use crate::lines::{count_lines, first_line};
@@ -89,7 +89,7 @@ fn read_lines<
             Ok(None) => {}
             Ok(Some(wish)) => {
                 let request = request_of(plan, &state, governor, handlers, wish);
-                state.apply(plan, request);
+                note(plan, &mut state, request);
                 lines.push(Line { number, request })?;
             }
         }

@@ -6,7 +6,8 @@ use Rattle.pw_script.specs.Lines.{lines_of}
 use Rattle.pw_script.specs.Forms.{wish_in}
 use Rattle.pw_script.specs.Reading.{LawfullyChosen, AreLines, requests_of}
 use Rattle.pw_notice.specs.Limits.{AnsweredBy}
-use Rattle.pw_script.proofs.Making.{reads_on, past_on, made_on, bad_past, no_texts}
+use Rattle.pw_script.proofs.Limiting.{limits_on}
+use Rattle.pw_script.proofs.Making.{reads_on, past_on, bad_past, no_texts}
 use Rattle.pw_script.proofs.parsing.read_lines.Goals as goal
 
 pub loop-left-preserved : goal.loop-left-preserved
@@ -23,11 +24,11 @@ loop-left-preserved g c =
     let is = c.in_ok-push-in-Ok-Some.ensures.items in
     record {
       reads = reads_on P chooses moves (AreLines P chooses moves [] 1 (lines_of c.args.bytes.now)) items _ c.loop-left.number _ _ _ c.in-Ok-Some.wish q e w
-          (c.request_of-request.ensures.asked (requests_of items) c.loop-left.invariant.state) is c.loop-left.invariant.reads;
+          (c.request_of-request.ensures.asked (requests_of items) c.loop-left.invariant.limits) is c.loop-left.invariant.reads;
       bad = rw add-one (sym (bad_past (wish_in P) (suc c.loop-left.number) _ _ _ (Some c.in-Ok-Some.wish) e w) ∙ c.loop-left.invariant.bad);
       room = omega arith;
-      state = made_on P (opening P) c.loop-left.state c.apply.new.self items _ _ q is c.loop-left.invariant.state c.apply.ensures.after;
-      fits = c.apply.ensures.fits;
+      limits = limits_on P (opening P) c.loop-left.state c.note.new.state items _ _ q is c.note.ensures.limits c.loop-left.invariant.limits;
+      fits = c.note.ensures.fits;
     }
 
 pub loop-left-preserved-in-Ok-None : goal.loop-left-preserved-in-Ok-None
@@ -44,7 +45,7 @@ loop-left-preserved-in-Ok-None g c =
       reads = past_on P chooses moves (AreLines P chooses moves [] 1 (lines_of c.args.bytes.now)) items c.loop-left.number _ _ _ e w c.loop-left.invariant.reads;
       bad = rw add-one (sym (bad_past (wish_in P) (suc c.loop-left.number) _ _ _ None e w) ∙ c.loop-left.invariant.bad);
       room = omega arith;
-      state = c.loop-left.invariant.state;
+      limits = c.loop-left.invariant.limits;
       fits = c.loop-left.invariant.fits;
     }
 
