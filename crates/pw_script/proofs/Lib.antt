@@ -12,6 +12,7 @@ pub mod Sourced
 pub mod Making
 pub mod Naming
 pub mod Noticing
+pub mod Operated
 pub mod Orders
 pub mod Pathed
 pub mod Printed

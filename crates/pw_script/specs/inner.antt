@@ -1,6 +1,7 @@
 pub mod Behind
 pub mod Cuts
 pub mod Feeds
+pub mod Fields
 pub mod Known
 pub mod Limiting
 pub mod Names

@@ -5,6 +5,7 @@
 
 mod asking;
 mod digits;
+mod fields;
 mod index;
 mod known;
 mod laws;

@@ -1,8 +1,0 @@
-use Rattle.pw_text.proofs.Putting.{PutsText-stop, PutsText-then}
-use Rattle.pw_script.proofs.operations.put_labelled_hex.Goals as goal
-
-pub returns-in_err-put : goal.returns-in_err-put
-returns-in_err-put g c = PutsText-stop _ c.from_residual.result c.from_residual.ensures.0 c.in_err-put.ensures
-
-pub returns : goal.returns
-returns g c = PutsText-then c.in_ok-put.ensures c.put_hexadecimal.ensures
