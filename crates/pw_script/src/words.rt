@@ -12,6 +12,7 @@ use pw_plan::{ANY_LATENCY, Request};
 use pw_text::Page;
 
 /// Puts a number behind a text.
+#[inline(always)]
 pub fn put_labelled<K: Sink>(
     page: &mut Page,
     sink: &mut K,
