@@ -43,7 +43,7 @@ accepted_ops P S q e =
     ∙ ap (λ T. bound_ops P q ++ standing_ops P S T (cpu_of q)) (sym (after_is P S q e))
 
 -- the processor of an accepted request is in a fit domain
-asks_in : (P : CppcPlan) (S : CppcNumbers) (q : CppcRequest) → refusal P S q ≡ None → IsFitMember P (domain_of P (cpu_of q)) (cpu_of q)
+pub asks_in : (P : CppcPlan) (S : CppcNumbers) (q : CppcRequest) → refusal P S q ≡ None → IsFitMember P (domain_of P (cpu_of q)) (cpu_of q)
 asks_in P S q e =
     let fit = (may_ask P S q e).scaled.fit in
     let place = at_place P (cpu_of q) fit.table in

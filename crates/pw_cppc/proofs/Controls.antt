@@ -39,11 +39,11 @@ use Rattle.pw_cppc.proofs.Staying.{after_fits}
 
 -- # Where a domain stands, by the numbers of its members
 
-abbrev Same : CppcNumbers → CppcNumbers → ℕ → Type 0
+abbrev pub Same : CppcNumbers → CppcNumbers → ℕ → Type 0
 Same S T m = (ask_of T m ≡ ask_of S m) × (minimum_of T m ≡ minimum_of S m) × (maximum_of T m ≡ maximum_of S m)
 
 -- a request changes numbers of its own processor alone
-changed_same : (S : CppcNumbers) (q : CppcRequest) (m : ℕ) → m ≢ cpu_of q → Same S (changed S q) m
+pub changed_same : (S : CppcNumbers) (q : CppcRequest) (m : ℕ) → m ≢ cpu_of q → Same S (changed S q) m
 changed_same S (Desired p v) m other = (get_or-set_other S.asks p m v 0 other, refl, refl)
 changed_same S (Minimum p v) m other = (refl, get_or-set_other S.minima p m v 0 other, refl)
 changed_same S (Maximum p v) m other = (refl, refl, get_or-set_other S.maxima p m v 0 other)
@@ -54,7 +54,7 @@ either_same b xs ys zs xs2 ys2 zs2 x y z x2 y2 z2 a b2 c d e f = rw (a, b2, c, d
 
 module _ (P : CppcPlan) (S T : CppcNumbers) (d p : ℕ) where
   -- where all members' numbers stay
-  stays : has_member (domain_at P d).members p ≡ true → ((m : ℕ) → has_member (domain_at P d).members m ≡ true → Same S T m) → standing P T d p ≡ standing P S d p
+  pub stays : has_member (domain_at P d).members p ≡ true → ((m : ℕ) → has_member (domain_at P d).members m ≡ true → Same S T m) → standing P T d p ≡ standing P S d p
   stays member same =
       let ms = (domain_at P d).members in
       let all = each_member ms in
@@ -67,7 +67,7 @@ module _ (P : CppcPlan) (S T : CppcNumbers) (d p : ℕ) where
       own.0 own.1 own.2
 
   -- where hardware coordinates it, and its own stay
-  stays_alone : is_software (domain_at P d).coord ≡ false → Same S T p → standing P T d p ≡ standing P S d p
+  pub stays_alone : is_software (domain_at P d).coord ≡ false → Same S T p → standing P T d p ≡ standing P S d p
   stays_alone hardware own =
       let a = own.0 in
       let b = own.1 in
@@ -75,7 +75,7 @@ module _ (P : CppcPlan) (S T : CppcNumbers) (d p : ℕ) where
       rw hardware (ap (λ (n : ℕ). within n (minimum_of T p) (maximum_of T p)) a ∙ ap (λ (n : ℕ). within (ask_of S p) n (maximum_of T p)) b ∙ ap (within (ask_of S p) (minimum_of S p)) c)
 
 -- the domain stands alike for whoever asks
-for_all : (P : CppcPlan) (S : CppcNumbers) (d p q : ℕ) → is_software (domain_at P d).coord ≡ true → standing P S d p ≡ standing P S d q
+pub for_all : (P : CppcPlan) (S : CppcNumbers) (d p q : ℕ) → is_software (domain_at P d).coord ≡ true → standing P S d p ≡ standing P S d q
 for_all P S d p q software = rw software refl
 
 some_register : (o : Option Register) → is_some o ≡ true → (r : Register) × (o ≡ Some r)

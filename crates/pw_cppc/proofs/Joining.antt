@@ -1,6 +1,5 @@
 -- Histories one after the other.
 use Rattle.std.proofs.Common.{◌≡◌, ◌+◌, ◌-◌, ◌==◌, ℕ, Bool, true, false, cond, List, [], ◌∷◌, ◌++◌, Some, None, refl, ap, sym, ◌∙◌, arith, append_assoc}
-use Rattle.std.specs.List.{AllByRecursion}
 use Rattle.std.proofs.lemmas.Bool.Decides.{nat_tests}
 use Rattle.std.proofs.lemmas.List.{map-append}
 use Rattle.pw_plan.proofs.Lists.{each_append}
@@ -11,7 +10,7 @@ use Rattle.pw_cppc.specs.Requests.{Has}
 use Rattle.pw_cppc.specs.declared.entry.CppcEntry.{CppcEntry}
 use Rattle.pw_cppc.specs.declared.numbers.CppcNumbers.{CppcNumbers}
 use Rattle.pw_cppc.specs.States.{opening}
-use Rattle.pw_cppc.specs.History.{FaultIsLast, Faultless, FaultsFit, Legal, MayFollow, StatesRequest, after_entry, entry_of, entry_ops, fault_at, history_ops, ops_from, replay, replay_from, request_of, requests}
+use Rattle.pw_cppc.specs.History.{FaultIsLast, Faultless, FaultsFit, Legal, MayFollow, StatesRequest, after_entry, entry_of, entry_ops, entry_reply, fault_at, history_ops, ops_from, replay, replay_from, replies, replies_from, request_of, requests}
 use Rattle.pw_model.proofs.Joining.{each_first, each_last}
 
 -- # Entries
@@ -38,9 +37,19 @@ ops_from-append P S (e ∷ es) fs =
     ap (λ os. entry_ops P S e ++ os) (ops_from-append P (after_entry P S e) es fs)
     ∙ sym (append_assoc (entry_ops P S e) (ops_from P (after_entry P S e) es) (ops_from P (replay_from P (after_entry P S e) es) fs))
 
+replies_from-append : (P : CppcPlan) (S : CppcNumbers) (es fs : List CppcEntry) → replies_from P S (es ++ fs) ≡ replies_from P S es ++ replies_from P (replay_from P S es) fs
+replies_from-append P S [] fs = refl
+replies_from-append P S (e ∷ es) fs =
+    ap (λ rs. entry_reply P S e ++ rs) (replies_from-append P (after_entry P S e) es fs)
+    ∙ sym (append_assoc (entry_reply P S e) (replies_from P (after_entry P S e) es) (replies_from P (replay_from P (after_entry P S e) es) fs))
+
 pub replay-append : (P : CppcPlan) (es fs : List CppcEntry) → replay P (es ++ fs) ≡ replay_from P (replay P es) fs
 unfolding replay
 replay-append P es fs = replay_from-append P (opening P) es fs
+
+pub replies-append : (P : CppcPlan) (es fs : List CppcEntry) → replies P (es ++ fs) ≡ replies P es ++ replies_from P (replay P es) fs
+unfolding replay replies
+replies-append P es fs = replies_from-append P (opening P) es fs
 
 pub history_ops-append : (P : CppcPlan) (es fs : List CppcEntry) → history_ops P (es ++ fs) ≡ history_ops P es ++ ops_from P (replay P es) fs
 unfolding replay history_ops

@@ -25,3 +25,4 @@ pub mod LastSet
 pub mod Controls
 pub mod Asked
 pub mod Registers
+pub mod Followed

@@ -7,8 +7,9 @@ use Rattle.pw_cppc.specs.declared.request.CppcRequest.{CppcRequest}
 use Rattle.pw_cppc.specs.declared.request.CppcRequest.TheVariants.{Desired, Minimum, Maximum}
 use Rattle.pw_cppc.specs.declared.entry.CppcEntry.{CppcEntry}
 use Rattle.pw_cppc.specs.declared.numbers.CppcNumbers.{CppcNumbers}
+use Rattle.pw_cppc.specs.declared.reply.CppcReply.{CppcReply}
 use Rattle.pw_cppc.specs.States.{opening}
-use Rattle.pw_cppc.specs.Answers.{after}
+use Rattle.pw_cppc.specs.Answers.{after, answer}
 use Rattle.pw_cppc.specs.Operations.{opening_ops, ops_of}
 
 -- the request of an entry, whose code is 1 to 3
@@ -35,6 +36,18 @@ replay_from P S (e ∷ es) = replay_from P (after_entry P S e) es
 -- The numbers that a history leaves.
 unfoldable pub replay : CppcPlan → List CppcEntry → CppcNumbers
 replay P es = replay_from P (opening P) es
+
+-- the reply to an entry, unless it is a fault
+abbrev pub entry_reply : CppcPlan → CppcNumbers → CppcEntry → List CppcReply
+entry_reply P S e = if e.fault == 0 then answer P S (request_of e) ∷ [] else []
+
+abbrev pub replies_from : CppcPlan → CppcNumbers → List CppcEntry → List CppcReply
+replies_from P S [] = []
+replies_from P S (e ∷ es) = entry_reply P S e ++ replies_from P (after_entry P S e) es
+
+-- The replies of a history.
+unfoldable pub replies : CppcPlan → List CppcEntry → List CppcReply
+replies P es = replies_from P (opening P) es
 
 -- the operations of an entry: of a fault those that were done before it
 abbrev pub entry_ops : CppcPlan → CppcNumbers → CppcEntry → List Op

@@ -13,4 +13,5 @@ pub mod History
 pub mod Laws
 pub mod Causes
 pub mod Controls
+pub mod Standings
 pub mod Reasons

@@ -2,3 +2,4 @@
 pub mod Reading
 -- What only private contracts and proofs use.
 pub mod Changes
+pub mod Stood

@@ -6,6 +6,7 @@ mod bounds;
 mod changing;
 mod domains;
 mod entry;
+mod following;
 mod history;
 mod laws;
 mod numbers;
@@ -23,6 +24,7 @@ mod state;
 mod state_laws;
 
 pub use entry::CppcEntry;
+pub use following::CppcStandings;
 pub use history::{
     entries_state_requests, histories_join, histories_stay_numbers, histories_stop_at_faults,
     legal_histories_grow,
