@@ -9,3 +9,4 @@ pub mod Joining
 pub mod Ending
 pub mod Drawn
 pub mod Serial
+pub mod Answered

@@ -1,7 +1,8 @@
 -- The text of a history in its parts.
-use Rattle.std.proofs.Common.{◌≡◌, ◌∙◌, ◌≤◌, ◌+◌, ℕ, List, [], ◌∷◌, ◌++◌, map, drop, length, get_or, ap, sym, arith, inl, inr, Option}
+use Rattle.std.proofs.Common.{◌≡◌, ◌≢◌, ◌∙◌, ◌≤◌, ◌+◌, ◌-◌, ◌==◌, ℕ, Bool, true, false, cond, List, [], ◌∷◌, ◌++◌, map, drop, take, length, get_or, refl, ap, sym, arith, inl, inr, Option}
 use Rattle.std.specs.List.{AllByRecursion, flat_map}
 use Rattle.std.proofs.lemmas.Bool.{cases_lt}
+use Rattle.std.proofs.lemmas.Bool.Decides.{nat_tests}
 use Rattle.std.proofs.lemmas.List.{append-nil, get_or_past}
 use Rattle.std.proofs.lemmas.Grind.{common_steps, flat_map-append}
 use Rattle.acpi_values.specs.declared.dependency.Coord.{Coord}
@@ -15,14 +16,16 @@ use Rattle.pw_cppc.specs.Requests.{Has, cpu_of, ops_bound}
 use Rattle.pw_cppc.specs.Sound.{no_domain}
 use Rattle.pw_cppc.specs.declared.entry.CppcEntry.{CppcEntry}
 use Rattle.pw_cppc.specs.declared.numbers.CppcNumbers.{CppcNumbers}
+use Rattle.pw_cppc.specs.declared.reply.CppcReply.{CppcReply}
+use Rattle.pw_cppc.specs.Answers.{after, answer}
 use Rattle.pw_cppc.specs.States.{opening}
 use Rattle.pw_cppc.specs.History.{StatesRequest, after_entry, request_of}
-use Rattle.pw_cppc.specs.Operations.{opening_ops}
+use Rattle.pw_cppc.specs.Operations.{opening_ops, ops_of}
 use Rattle.pw_text.specs.Lines.{text_of}
 use Rattle.pw_script.specs.Behind.{asked_head, behind}
-use Rattle.pw_script.specs.HistoryText.{asked_line, opened_lines}
+use Rattle.pw_script.specs.HistoryText.{asked_line, fault_words, opened_lines}
 use Rattle.pw_script.proofs.Printed.{asked_text}
-use Rattle.pw_cppc_drive.specs.HistoryText.{entry_lines, history_lines, history_text, lines_from, op_line, path_of, request_words}
+use Rattle.pw_cppc_drive.specs.HistoryText.{entry_lines, history_lines, history_text, lines_from, op_line, path_of, reply_words, request_words}
 
 -- # How many operations a request has
 
@@ -55,6 +58,43 @@ pub entry_text : (P : CppcPlan) (n : ℕ) (q : CppcRequest) (out : List (List �
     → asked_head n (path_of P (cpu_of q)) (request_words q) ++ (behind out ++ (10 ∷ flat_map (λ o. op_line P o ++ (10 ∷ [])) ops))
     ≡ text_of (asked_line n (path_of P (cpu_of q)) (request_words q) out ∷ map (op_line P) ops)
 entry_text P n q out ops = asked_text (op_line P) n (path_of P (cpu_of q)) (request_words q) out ops
+
+-- those of an entry that was answered, and those of one that a fault ended
+module _ (P : CppcPlan) (S : CppcNumbers) (n : ℕ) (e : CppcEntry) (q : CppcRequest) (is : q ≡ request_of e) where
+  abbrev lines : ℕ → CppcRequest → List (List ℕ) → List Op → List ℕ
+  lines p x out ops = text_of (asked_line n (path_of P p) (request_words x) out ∷ map (op_line P) ops)
+
+  asked_lines : (out : List (List ℕ)) (ops : List Op) → lines (cpu_of q) q out ops ≡ lines e.cpu (request_of e) out ops
+  asked_lines out ops = ap (λ x. lines (cpu_of x) x out ops) is ∙ ap (λ p. lines p (request_of e) out ops) (entry_cpu e)
+
+  by_fault : (b : Bool) → (e.fault == 0) ≡ b
+      → lines e.cpu (request_of e) (cond b (reply_words (answer P S (request_of e))) (fault_words (e.fault - 1)))
+      (cond b (ops_of P S (request_of e)) (take (e.fault - 1) (ops_of P S (request_of e))))
+      ≡ text_of (entry_lines P S n e)
+  by_fault b h = ap (λ t. lines e.cpu (request_of e) (cond t (reply_words (answer P S (request_of e))) (fault_words (e.fault - 1)))
+      (cond t (ops_of P S (request_of e)) (take (e.fault - 1) (ops_of P S (request_of e))))) (sym h)
+
+  pub answered_lines : (reply : CppcReply) (ops : List Op) → e.fault ≡ 0 → answer P S (request_of e) ≡ reply → ops ≡ ops_of P S (request_of e)
+      → lines (cpu_of q) q (reply_words reply) ops ≡ text_of (entry_lines P S n e)
+  answered_lines reply ops none told list =
+      asked_lines (reply_words reply) ops
+      ∙ ap (λ r. lines e.cpu (request_of e) (reply_words r) ops) (sym told)
+      ∙ ap (λ os. lines e.cpu (request_of e) (reply_words (answer P S (request_of e))) os) list
+      ∙ by_fault true (grind (arith, nat_tests))
+
+  pub faulted_lines : (done : ℕ) (ops : List Op) → e.fault ≢ 0 → done ≡ e.fault - 1 → ops ≡ take done (ops_of P S (request_of e))
+      → lines (cpu_of q) q (fault_words done) ops ≡ text_of (entry_lines P S n e)
+  faulted_lines done ops some at list =
+      asked_lines (fault_words done) ops
+      ∙ ap (λ os. lines e.cpu (request_of e) (fault_words done) os) list
+      ∙ ap (λ k. lines e.cpu (request_of e) (fault_words k) (take k (ops_of P S (request_of e)))) at
+      ∙ by_fault false (grind (arith, nat_tests))
+
+pub after_answered : (P : CppcPlan) (S : CppcNumbers) (e : CppcEntry) → e.fault ≡ 0 → after P S (request_of e) ≡ after_entry P S e
+after_answered P S e none = let zero : (e.fault == 0) ≡ true = grind (arith, nat_tests) in rw zero refl
+
+pub after_fault : (P : CppcPlan) (S : CppcNumbers) (e : CppcEntry) → e.fault ≢ 0 → S ≡ after_entry P S e
+after_fault P S e some = let not_zero : (e.fault == 0) ≡ false = grind (arith, nat_tests) in rw not_zero refl
 
 pub lines_step : (P : CppcPlan) (S : CppcNumbers) (n : ℕ) (es : List CppcEntry) (d : CppcEntry) → 1 ≤ length es
     → text_of (entry_lines P S n (get_or es 0 d)) ++ text_of (lines_from P (after_entry P S (get_or es 0 d)) (n + 1) (drop 1 es)) ≡ text_of (lines_from P S n es)

@@ -1,9 +1,7 @@
 -- What the work did, as a run tells it.
-use Rattle.std.proofs.Common.{◌≡◌, ◌≤◌, ◌<◌, ◌+◌, ◌++◌, ◌∷◌, ◌∙◌, ℕ, true, List, [], take, Option, Some, None, Result, Ok, Err, refl, sym, arith}
-use Rattle.std.specs.Prelude.{IfErr, OnErr, OnOk, is_some}
+use Rattle.std.proofs.Common.{◌≡◌, ◌+◌, ◌++◌, ◌∷◌, ℕ, true, List, [], take, Some, None, Result, Ok, Err, refl, sym, arith}
+use Rattle.std.specs.Prelude.{IfErr, OnOk, is_some}
 use Rattle.std.specs.Result.{result_err}
-use Rattle.acpi_values.specs.declared.operation.Op.{Op}
-use Rattle.pw_base.specs.Outside.{Rose}
 use Rattle.pw_regs.specs.Seen.{RegistersSeen}
 use Rattle.pw_regs.specs.Doing.{Did}
 use Rattle.pw_regs.proofs.Operating.{did_as, did_more, did_within}
@@ -12,7 +10,7 @@ use Rattle.pw_cppc.specs.declared.request.CppcRequest.{CppcRequest}
 use Rattle.pw_cppc.specs.Requests.{opening_bound, ops_bound}
 use Rattle.pw_cppc.specs.declared.entry.CppcEntry.{CppcEntry}
 use Rattle.pw_cppc.specs.declared.reply.CppcReply.{CppcReply}
-use Rattle.pw_cppc.specs.History.{Faultless, Legal, entry_ops, fault_at, history_ops, replay, run_ops, stopped_at}
+use Rattle.pw_cppc.specs.History.{Faultless, Legal, entry_ops, fault_at, history_ops, replay}
 use Rattle.pw_cppc.specs.Operations.{opening_ops, ops_of}
 use Rattle.pw_cppc.proofs.Joining.{faultless_none, request_of-entry}
 use Rattle.pw_cppc_desk.specs.Entries.{done_of, entry_as}

@@ -1,6 +1,7 @@
 //! The coordinator of one caller over a script of requests for performance (ACPI 6.5, 8.4.6.1.2).
 #![tactic(auto)]
 
+mod answering;
 mod driving;
 mod gathering;
 mod index;
@@ -20,6 +21,6 @@ mod working;
 pub use driving::{CppcDriven, cppc_serial};
 pub use laws::serial_is_lawful;
 pub use parsing::cppc_parse;
-pub use printing::cppc_print;
+pub use printing::{cppc_print, cppc_print_known};
 pub use script::{CppcLine, CppcScript};
 pub use workers::cppc_drive;

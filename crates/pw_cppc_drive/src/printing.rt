@@ -1,24 +1,29 @@
-ghost use Rattle.std.specs.Prelude.{◌≡◌, ◌≤◌, ◌∷◌, ◌++◌, [], is_ok, map, true, Err, IfOk, OnOk};
+ghost use Rattle.std.specs.Prelude.{◌≡◌, ◌≤◌, ◌∷◌, ◌++◌, [], is_ok, length, map, true, Err, IfOk, IfSome, OnOk};
 ghost use Rattle.std.specs.List.{AllByRecursion, flat_map};
 ghost use Rattle.pw_base.specs.Outside.{GrewByPart, KeepsSink, Rose};
 ghost use Rattle.pw_text.specs.Lines.{text_of};
 ghost use Rattle.pw_text.specs.Puts.{PutsText};
 ghost use Rattle.pw_text.specs.declared.fault.PrintFault.TheVariants as faults;
+ghost use Rattle.pw_cppc.specs.declared.numbers.CppcNumbers.{CppcNumbers as numbers};
 ghost use Rattle.pw_cppc.specs.Requests.{cpu_of, opening_bound};
-ghost use Rattle.pw_cppc.specs.States.{AreNumbers, opening as opening_numbers};
-ghost use Rattle.pw_cppc.specs.History.{StatesRequest, after_entry};
+ghost use Rattle.pw_cppc.specs.States.{opening as opening_numbers};
+ghost use Rattle.pw_cppc.specs.Answers.{answer};
+ghost use Rattle.pw_cppc.specs.History.{StatesRequest, after_entry, replies, request_of};
 ghost use Rattle.pw_cppc.specs.Operations.{opening_ops};
+ghost use Rattle.pw_cppc.specs.Standings.{AreStandings};
 ghost use Rattle.pw_script.specs.Behind.{asked_head};
 ghost use Rattle.pw_script.specs.HistoryText.{asked_line, fault_words, opened_lines};
 ghost use Rattle.pw_cppc_drive.specs.HistoryText.{entry_lines, history_text, lines_from, op_line};
 ghost use Rattle.pw_cppc_drive.specs.HistoryText.{path_of, reply_words, request_words};
+ghost use Rattle.pw_cppc_drive.specs.inner.Known.{answers_from};
 
+use crate::answering::answers_of;
 use crate::named::NamedPlan;
 use crate::words::{put_reply, put_request};
 use acpi_values::Op;
 use pw_base::{Failed, Memory, Sink};
 use pw_cppc::{
-    CppcEntry, CppcPlan, CppcReply, CppcRequest, CppcState, MOST_OF_A_REQUEST, open_all,
+    CppcEntry, CppcPlan, CppcReply, CppcRequest, CppcStandings, MOST_OF_A_REQUEST, open_all,
 };
 use pw_regs::Ops;
 use pw_script::{first_of, put_asker, put_fault, put_opened, put_ops};
@@ -95,33 +100,38 @@ fn put_faulted<K: Sink>(
     put_done(page, sink, plan, ops)
 }
 
-/// Puts the lines of an entry that was asked of these numbers, and leaves the numbers after it.
+/// Puts the lines of an entry whose request is answered so, and notes where its processor then stands.
 #[tactic(auto, using(crate::proofs::Printed::bound_small, crate::proofs::Printed::entry_has))]
 fn put_entry<K: Sink>(
     page: &mut Page,
     sink: &mut K,
     plan: &NamedPlan,
-    state: &mut CppcState,
+    standings: &mut CppcStandings,
     ops: &mut Ops,
     number: u64,
     entry: &CppcEntry,
+    reply: CppcReply,
 ) -> Result<(), Failed>
     requires entry { StatesRequest plan.now entry.now }
-    requires fits { AreNumbers plan.now state.old }
+    requires size { length standings.old ≡ length plan.now.cpus }
     requires room { 257 ≤ ops.old.capacity }
-    ensures text { PutsText K.Sink sink.old sink.new page.old page.new
-        (text_of (entry_lines plan.now state.old number entry.now)) (is_ok result) }
-    ensures after { state.new ≡ after_entry plan.now state.old entry.now }
-    ensures fits { AreNumbers plan.now state.new }
+    ensures text { (S : numbers) → AreStandings plan.now S standings.old
+        → answer plan.now S (request_of entry.now) ≡ reply
+        → PutsText K.Sink sink.old sink.new page.old page.new
+        (text_of (entry_lines plan.now S number entry.now)) (is_ok result) }
+    ensures after { (S : numbers) → AreStandings plan.now S standings.old
+        → answer plan.now S (request_of entry.now) ≡ reply
+        → AreStandings plan.now (after_entry plan.now S entry.now) standings.new }
+    ensures size { length standings.new ≡ length standings.old }
     ensures room { ops.new.capacity ≡ ops.old.capacity }
 {
     let request = entry.request();
     ops.clear();
+    standings.operations(plan.plan(), request, reply, ops);
     if entry.fault == 0 {
-        let reply = state.step(plan.plan(), request, ops);
+        standings.follow(plan.plan(), request, reply);
         return put_answered(page, sink, plan, number, request, reply, ops.list());
     }
-    state.operations(plan.plan(), request, ops);
     let done = entry.fault - 1;
     put_faulted(
         page,
@@ -134,27 +144,31 @@ fn put_entry<K: Sink>(
     )
 }
 
-/// Puts the lines of entries, numbered from 1, of which the first was asked of these numbers.
+/// Puts the lines of entries, numbered from 1, whose requests are answered so.
 fn put_entries<K: Sink>(
     page: &mut Page,
     sink: &mut K,
     plan: &NamedPlan,
-    state: &mut CppcState,
+    standings: &mut CppcStandings,
     ops: &mut Ops,
     entries: &[CppcEntry],
+    answers: &[CppcReply],
 ) -> Result<(), Failed>
     requires entries { AllByRecursion (StatesRequest plan.now) entries.now }
-    requires fits { AreNumbers plan.now state.old }
+    requires answers { answers.now ≡ answers_from plan.now (opening_numbers plan.now) entries.now }
+    requires stand { AreStandings plan.now (opening_numbers plan.now) standings.old }
     requires room { 257 ≤ ops.old.capacity }
     ensures { PutsText K.Sink sink.old sink.new page.old page.new
-        (text_of (lines_from plan.now state.old 1 entries.now)) (is_ok result) }
+        (text_of (lines_from plan.now (opening_numbers plan.now) 1 entries.now)) (is_ok result) }
 {
     let mut number = 1;
     let mut left = entries;
+    let mut replies = answers;
     while let [entry, rest @ ..] = left {
-        put_entry(page, sink, plan, state, ops, number, entry)?;
+        put_entry(page, sink, plan, standings, ops, number, entry, replies[0])?;
         number += 1;
         left = rest;
+        replies = &replies[1..];
     }
     Ok(())
 }
@@ -174,23 +188,22 @@ fn put_opening<K: Sink>(
     put_opened(page, sink, plan.paths(), opening, ops)
 }
 
-/// The numbers that entries are asked of, and room for their operations.
+/// Where processors stand while entries are put, and room for the operations of these.
 #[derive(Drop)]
 struct Run {
-    state: CppcState,
+    standings: CppcStandings,
     ops: Ops,
 }
 
-/// The numbers of the opening, and room for the operations of the opening or of an entry, with none in it.
+/// Where they stand at the opening, and room for the operations of the opening or of an entry, with none in it.
 fn begin(alloc: Global, plan: &CppcPlan) -> Result<Run, Memory>
-    ensures opened { IfOk result (λ run. run.state ≡ opening_numbers plan.now) }
-    ensures fits { IfOk result (λ run. AreNumbers plan.now run.state) }
+    ensures stand { IfOk result (λ run. AreStandings plan.now (opening_numbers plan.now) run.standings) }
     ensures none { IfOk result (λ run. run.ops.elements ≡ []) }
     ensures room { IfOk result (λ run. 257 ≤ run.ops.capacity) }
     ensures opening { IfOk result (λ run. opening_bound plan.now ≤ run.ops.capacity) }
 {
     Ok(Run {
-        state: CppcState::open(alloc, plan)?,
+        standings: CppcStandings::open(alloc, plan)?,
         ops: Ops::new(alloc, plan.opening_bound().max(MOST_OF_A_REQUEST))?,
     })
 }
@@ -207,8 +220,7 @@ struct Held<'a> {
 fn hold<'a>(alloc: Global, plan: &'a CppcPlan) -> Result<Held<'a>, Memory>
     ensures named { IfOk result (λ h. h.named ≡ plan.now) }
     ensures page { IfOk result (λ h. h.page ≡ []) }
-    ensures opened { IfOk result (λ h. h.run.state ≡ opening_numbers plan.now) }
-    ensures fits { IfOk result (λ h. AreNumbers plan.now h.run.state) }
+    ensures stand { IfOk result (λ h. AreStandings plan.now (opening_numbers plan.now) h.run.standings) }
     ensures none { IfOk result (λ h. h.run.ops.elements ≡ []) }
     ensures room { IfOk result (λ h. 257 ≤ h.run.ops.capacity) }
     ensures opening { IfOk result (λ h. opening_bound plan.now ≤ h.run.ops.capacity) }
@@ -226,10 +238,11 @@ fn put_history<K: Sink>(
     sink: &mut K,
     opening: Option<u32>,
     entries: &[CppcEntry],
+    answers: &[CppcReply],
 ) -> Result<(), Failed>
     requires entries { AllByRecursion (StatesRequest held.old.named) entries.now }
-    requires opened { held.old.run.state ≡ opening_numbers held.old.named }
-    requires fits { AreNumbers held.old.named held.old.run.state }
+    requires answers { answers.now ≡ answers_from held.old.named (opening_numbers held.old.named) entries.now }
+    requires stand { AreStandings held.old.named (opening_numbers held.old.named) held.old.run.standings }
     requires none { held.old.run.ops.elements ≡ [] }
     requires room { 257 ≤ held.old.run.ops.capacity }
     requires opening { opening_bound held.old.named ≤ held.old.run.ops.capacity }
@@ -249,11 +262,36 @@ fn put_history<K: Sink>(
         &mut held.page,
         sink,
         &held.named,
-        &mut held.run.state,
+        &mut held.run.standings,
         &mut held.run.ops,
         entries,
+        answers,
     )?;
     held.page.flush(sink)
+}
+
+/// Prints the text of a history whose requests are answered so.
+fn print_by<K: Sink>(
+    alloc: Global,
+    plan: &CppcPlan,
+    opening: Option<u32>,
+    entries: &[CppcEntry],
+    answers: &[CppcReply],
+    out: &mut K,
+) -> Result<(), PrintFault>
+    requires entries { AllByRecursion (StatesRequest plan.now) entries.now }
+    requires answers { answers.now ≡ answers_from plan.now (opening_numbers plan.now) entries.now }
+    ensures keeps { KeepsSink K.told K.faults out.old out.new }
+    ensures whole { OnOk result (K.told out.old ≡ true →
+        K.written out.new ≡ K.written out.old ++ history_text plan.now opening entries.now) }
+    ensures part { K.told out.old ≡ true →
+        GrewByPart (K.written out.old) (K.written out.new) (history_text plan.now opening entries.now) }
+    ensures sink { result ≡ Err faults.Sink → Rose (K.faults out.old) (K.faults out.new) }
+    ensures memory { result ≡ Err faults.Memory → out.new ≡ out.old }
+{
+    let mut held = hold(alloc, plan)?;
+    put_history(&mut held, out, opening, entries, answers)?;
+    Ok(())
 }
 
 /// Prints the text of a history: the opening with its operations, and each entry with its reply and
@@ -276,7 +314,36 @@ pub fn cppc_print<K: Sink>(
     ensures sink { result ≡ Err faults.Sink → Rose (K.faults out.old) (K.faults out.new) }
     ensures memory { result ≡ Err faults.Memory → out.new ≡ out.old }
 {
-    let mut held = hold(alloc, plan)?;
-    put_history(&mut held, out, opening, entries)?;
-    Ok(())
+    let answers = answers_of(alloc, plan, entries)?;
+    print_by(alloc, plan, opening, entries, answers.as_slice(), out)
+}
+
+/// Prints the text of a history as `cppc_print` does, with the replies to its entries where they are known:
+/// then, unless a register failed, no request is answered again.
+pub fn cppc_print_known<K: Sink>(
+    alloc: Global,
+    plan: &CppcPlan,
+    opening: Option<u32>,
+    entries: &[CppcEntry],
+    known: Option<&[CppcReply]>,
+    out: &mut K,
+) -> Result<(), PrintFault>
+    requires entries { AllByRecursion (StatesRequest plan.now) entries.now }
+    requires known { IfSome known (λ told. told.now ≡ replies plan.now entries.now) }
+    ensures keeps { KeepsSink K.told K.faults out.old out.new }
+    ensures whole { OnOk result (K.told out.old ≡ true →
+        K.written out.new ≡ K.written out.old ++ history_text plan.now opening entries.now) }
+    // Whatever fails, the sink has a beginning of the text.
+    ensures part { K.told out.old ≡ true →
+        GrewByPart (K.written out.old) (K.written out.new) (history_text plan.now opening entries.now) }
+    ensures sink { result ≡ Err faults.Sink → Rose (K.faults out.old) (K.faults out.new) }
+    ensures memory { result ≡ Err faults.Memory → out.new ≡ out.old }
+{
+    if let Some(replies) = known {
+        // A fault has no reply.
+        if replies.len() == entries.len() {
+            return print_by(alloc, plan, opening, entries, replies, out);
+        }
+    }
+    cppc_print(alloc, plan, opening, entries, out)
 }

@@ -1,5 +1,5 @@
 //! The whole run of a script by workers.
-ghost use Rattle.std.specs.Prelude.{◌≡◌, ◌≤◌, ◌∷◌, [], length, vec_capacity, IfErr, IfOk};
+ghost use Rattle.std.specs.Prelude.{◌≡◌, ◌≤◌, ◌∷◌, [], None, length, vec_capacity, IfErr, IfOk};
 ghost use Rattle.std.specs.List.{AllByRecursion};
 ghost use Rattle.pw_regs.specs.Seen.{registers_seen};
 ghost use Rattle.pw_books.specs.Books.{calls_of};
@@ -88,6 +88,8 @@ pub fn cppc_drive<T: Threads + Wait + Sync, R: Registers + Send>(
     // The history is one of the lines, each processor's in their order.
     ensures lawful { IfOk result (λ driven.
         Lawful plan (requests_of script.now.lines) driven.opening driven.entries) }
+    // No replies are handed on.
+    ensures unknown { IfOk result (λ driven. driven.replies ≡ None) }
     // Each processor has a seat of its own.
     ensures seats { IfOk result (λ driven. TellSeats driven.entries) }
     // The registers' log grew by the operations of the start and of that history.
@@ -107,6 +109,7 @@ pub fn cppc_drive<T: Threads + Wait + Sync, R: Registers + Send>(
                 plan: closed.plan,
                 opening: None,
                 entries: closed.entries,
+                replies: None,
                 regs: closed.regs,
             })
         }
@@ -114,6 +117,7 @@ pub fn cppc_drive<T: Threads + Wait + Sync, R: Registers + Send>(
             plan,
             opening: Some(done),
             entries: List::from_vec(Vec::new(alloc)),
+            replies: None,
             regs,
         }),
         Err(CppcOpenFault::Memory { regs }) => Err(regs),

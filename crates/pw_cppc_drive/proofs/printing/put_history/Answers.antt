@@ -9,9 +9,9 @@ returns-in_err-put_opening-clause-text g c =
 pub returns-in_err-put_entries-clause-text : goal.returns-in_err-put_entries-clause-text
 returns-in_err-put_entries-clause-text g c =
     PutsText-as _ (whole_text c.args.held.now.named c.args.opening c.args.entries.now) (PutsText-then c.in_ok-put_opening.ensures
-    (PutsText-stop _ c.from_residual-in_err-put_entries.result c.from_residual-in_err-put_entries.ensures.0 (rw c.requires.opened at c.in_err-put_entries.ensures)))
+    (PutsText-stop _ c.from_residual-in_err-put_entries.result c.from_residual-in_err-put_entries.ensures.0 c.in_err-put_entries.ensures))
 
 pub returns-clause-text : goal.returns-clause-text
 returns-clause-text g c =
     PutsText-as _ (whole_text c.args.held.now.named c.args.opening c.args.entries.now) (PutsText-then c.in_ok-put_opening.ensures
-    (PutsText-then (rw c.requires.opened at c.in_ok-put_entries.ensures) c.flush.ensures.puts))
+    (PutsText-then c.in_ok-put_entries.ensures c.flush.ensures.puts))

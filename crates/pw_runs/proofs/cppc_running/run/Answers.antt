@@ -1,4 +1,4 @@
-use Rattle.std.proofs.Common.{ap, codes}
+use Rattle.std.proofs.Common.{ap, codes, refl}
 use Rattle.pw_regs.specs.Seen.{registers_seen}
 use Rattle.pw_load.proofs.Outcomes.{ended_as, ended_saying}
 use Rattle.pw_cppc_drive.specs.Reading.{requests_of}
@@ -14,6 +14,9 @@ print_driven-requires-clause-entries g c =
     let asked = requests_of c.args.script.now.lines in
     rw c.in-Ok.ensures.plan (entries_state c.args.plan asked driven.opening driven.entries
     (serial-lawful c.args.plan asked driven.opening driven.entries c.in-Ok.ensures.lawful))
+
+pub print_driven-requires-clause-known : goal.print_driven-requires-clause-known
+print_driven-requires-clause-known g c = rw (c.in-Ok.ensures.replies, c.in-Ok.ensures.plan) refl
 
 pub returns-in-Err-clause-ran : goal.returns-in-Err-clause-ran
 returns-in-Err-clause-ran g c =

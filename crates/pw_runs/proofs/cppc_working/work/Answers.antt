@@ -14,6 +14,9 @@ print_driven-requires-clause-entries g c =
     let driven = c.in-Ok.driven in
     rw c.in-Ok.ensures.plan (entries_state c.args.plan (requests_of c.args.script.now.lines) driven.opening driven.entries c.in-Ok.ensures.lawful)
 
+pub print_driven-requires-clause-known : goal.print_driven-requires-clause-known
+print_driven-requires-clause-known g c = rw c.in-Ok.ensures.unknown tt
+
 pub returns-in-Err-clause-worked : goal.returns-in-Err-clause-worked
 returns-in-Err-clause-worked g c =
     let before = outputs_seen g.K.Sink c.args.out.now c.args.err.now in
