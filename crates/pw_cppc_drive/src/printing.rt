@@ -195,7 +195,8 @@ struct Run {
     ops: Ops,
 }
 
-/// Where they stand at the opening, and room for the operations of the opening or of an entry, with none in it.
+/// Where they stand at the opening, and room for the operations of the opening or of an entry, with none in
+/// it.
 fn begin(alloc: Global, plan: &CppcPlan) -> Result<Run, Memory>
     ensures stand { IfOk result (λ run. AreStandings plan.now (opening_numbers plan.now) run.standings) }
     ensures none { IfOk result (λ run. run.ops.elements ≡ []) }
@@ -241,7 +242,8 @@ fn put_history<K: Sink>(
     answers: &[CppcReply],
 ) -> Result<(), Failed>
     requires entries { AllByRecursion (StatesRequest held.old.named) entries.now }
-    requires answers { answers.now ≡ answers_from held.old.named (opening_numbers held.old.named) entries.now }
+    requires answers { answers.now
+        ≡ answers_from held.old.named (opening_numbers held.old.named) entries.now }
     requires stand { AreStandings held.old.named (opening_numbers held.old.named) held.old.run.standings }
     requires none { held.old.run.ops.elements ≡ [] }
     requires room { 257 ≤ held.old.run.ops.capacity }

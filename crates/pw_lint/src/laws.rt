@@ -77,7 +77,8 @@ pub fn nothing_is_found()
 {}
 
 /// A container or a processor is found not to be present, or to be present and not enabled, by the number of
-/// its `_STA` (ACPI 6.5, 6.3.7); and where two of one `_UID` are found, the earlier one is the first with that.
+/// its `_STA` (ACPI 6.5, 6.3.7); and where two of one `_UID` are found, the earlier one is the first with
+/// that.
 pub fn findings_of_devices()
     ensures status { (entries : List entry_type) (path : path_type) (f : finding_type)
         → Contains (status_findings entries path) f ↔ (IsAbsent entries path f ⊎ IsDisabled entries path f) }
@@ -96,17 +97,19 @@ pub fn findings_of_idle_states()
         → Contains (counted c first) f ↔ IsCounted c first f }
 {}
 
-/// What is found of idle states beside the container around: each that enables one that isn't there, that none
-/// enables the deepest one, and each to whose number one that it enables adds too much (ACPI 6.5, 8.4.3.3).
+/// What is found of idle states beside the container around: each that enables one that isn't there, that
+/// none enables the deepest one, and each to whose number one that it enables adds too much (ACPI 6.5,
+/// 8.4.3.3).
 pub fn findings_beside_parents()
-    ensures { (path : path_type) (known : Bool) (parent : Option container_type) (t : table_type) (f : finding_type)
+    ensures { (path : path_type) (known : Bool) (parent : Option container_type) (t : table_type)
+        (f : finding_type)
         → Contains (parent_findings path known parent t) f
         ↔ ((IsNowhere path parent (rows_of t) f ⊎ IsPast path parent (rows_of t) f)
         ⊎ (IsUnreached path known parent (rows_of t) f ⊎ IsOverflowing path parent (rows_of t) f)) }
 {}
 
-/// What is found of C states: a first one that isn't C1, each of a lower type than the one before it, and each
-/// that takes more power than that (ACPI 6.5, 8.4.1.1).
+/// What is found of C states: a first one that isn't C1, each of a lower type than the one before it, and
+/// each that takes more power than that (ACPI 6.5, 8.4.1.1).
 pub fn findings_of_c_states()
     ensures { (path : path_type) (states : List c_state_type) (f : finding_type)
         → Contains (cst_findings path states) f

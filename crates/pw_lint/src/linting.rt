@@ -60,7 +60,8 @@ fn find_in_outcome(
     }
 }
 
-/// Adds what is found of terms that were passed over, of objects that mean nothing, and of what the others make.
+/// Adds what is found of terms that were passed over, of objects that mean nothing, and of what the others
+/// make.
 fn find_in_survey(
     alloc: Global,
     space: &Space<'_>,

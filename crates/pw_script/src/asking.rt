@@ -89,7 +89,8 @@ pub(crate) fn request_of<
     requires throttle { Handles (T.pre handlers.now.1) (T.post handlers.now.1) }
     requires cpu { asker wish < length plan.now.cpus }
     requires fits { IsState plan.now state.now }
-    ensures asked { (before : list request) → SameLimits state.now (made_from plan.now (opening plan.now) before)
+    ensures asked { (before : list request)
+        → SameLimits state.now (made_from plan.now (opening plan.now) before)
         → IsAsked plan.now (LawfullyChosen (F.post governor.now))
         (AnsweredBy (P.post handlers.now.0) (T.post handlers.now.1)) before wish result }
     ensures cpu { cpu_of result ≡ asker wish }

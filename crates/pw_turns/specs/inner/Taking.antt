@@ -30,7 +30,8 @@ HoldTells given q (Err told) ops u w = GivesUp given u q told w
 
 module _ {R : Type 0} (given : Given) (q : Request) where
   -- The request holds more records, in hand.
-  pub record Holds (m : Mine R) (before : List (HeldRecord R)) (r : Result Reply Try) (ops : List Op) (after : List (HeldRecord R)) (n : Mine R) : Type 0 where
+  pub record Holds (m : Mine R) (before : List (HeldRecord R)) (r : Result Reply Try) (ops : List Op) (after : List (HeldRecord R))
+      (n : Mine R) : Type 0 where
     pub more : List (HeldRecord R)
     pub top : View
     pub records : after ≡ before ++ more
