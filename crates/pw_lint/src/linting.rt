@@ -60,28 +60,23 @@ fn find_in_outcome(
     }
 }
 
-/// Adds what is found of terms that were passed over, of objects that mean nothing, and of what the others
-/// make.
+/// What is found of terms that were passed over, of objects that mean nothing, and of what the others make.
 fn find_in_survey(
     alloc: Global,
     space: &Space<'_>,
     passed: &[PassedOver],
     survey: &Survey,
-    found: &mut Vec<Finding>,
-) -> Result<(), Memory>
+) -> Result<Vec<Finding>, Memory>
     requires { AreCountable space.now }
-    ensures { OnOk result (found.new.items ≡ found.old.items ++ (flat_map passed_findings passed.now
-        ++ object_findings space.now survey.now.faults survey.now.outcome survey.now.notes)) }
+    ensures { IfOk result (λ found. found.items ≡ flat_map passed_findings passed.now
+        ++ object_findings space.now survey.now.faults survey.now.outcome survey.now.notes) }
 {
-    find_passed(alloc, passed, found)?;
-    find_in_faults(alloc, survey.faults.as_slice(), found)?;
-    find_in_outcome(
-        alloc,
-        space,
-        &survey.outcome,
-        survey.notes.as_slice(),
-        found,
-    )
+    let mut found = Vec::new(alloc);
+    find_passed(alloc, passed, &mut found)?;
+    find_in_faults(alloc, survey.faults.as_slice(), &mut found)?;
+    let notes = survey.notes.as_slice();
+    find_in_outcome(alloc, space, &survey.outcome, notes, &mut found)?;
+    Ok(found)
 }
 
 /// What is found of the objects of a namespace (ACPI 6.5, 8.4), beside the terms that were passed over: of
@@ -96,7 +91,5 @@ pub fn find_all(
     ensures { IfOk result (λ found. AreFindings space.now passed.now found.items) }
 {
     let survey = survey_objects(alloc, space)?;
-    let mut found = Vec::new(alloc);
-    find_in_survey(alloc, space, passed, &survey, &mut found)?;
-    Ok(found)
+    find_in_survey(alloc, space, passed, &survey)
 }
