@@ -124,7 +124,9 @@ fn steered_on(alloc: Global, space: &Space<'_>, machine: Plan) -> Result<Cppc, M
     requires planned { (notes : list note) × IsPlanFrom space.now machine notes }
     ensures { IfOk result (λ c. IsPlanOver space.now c.plan × IsOpening c) }
 {
-    let plan = cppc_plan(alloc, space, &machine)?;
+    let plan = cppc_plan(alloc, space, &machine);
+    drop(machine);
+    let plan = plan?;
     Cppc::open(alloc, plan)
 }
 

@@ -30,10 +30,10 @@ fn opened(alloc: Global, plan: &CppcPlan) -> Result<(CppcState, Ops), Memory>
     ensures ops { IfOk result (λ r. r.1.elements ≡ opening_ops plan.now) }
     ensures room { IfOk result (λ r. 257 ≤ r.1.capacity) }
 {
-    let state = CppcState::open(alloc, plan)?;
     let most = plan.opening_bound().max(MOST_OF_A_REQUEST);
     let mut ops = Ops::new(alloc, most)?;
     open_all(plan, &mut ops);
+    let state = CppcState::open(alloc, plan)?;
     Ok((state, ops))
 }
 

@@ -69,6 +69,7 @@ impl Resting {
         ensures refused { IfErr result (λ s. s ≡ NoMemory) }
     {
         let Ok(room) = coordinator.record_room(alloc) else {
+            drop(coordinator);
             return Err(Status::NoMemory);
         };
         match Arc::new(alloc, coordinator) {
@@ -78,7 +79,10 @@ impl Resting {
                 room,
                 opening: Some(ops),
             }),
-            Err(_) => Err(Status::NoMemory),
+            Err(failed) => {
+                drop(failed);
+                Err(Status::NoMemory)
+            }
         }
     }
 

@@ -34,10 +34,10 @@ pub fn opened(alloc: Global, plan: &Plan) -> Result<(State, Ops), Memory>
     ensures ops { IfOk result (λ r. r.1.elements ≡ opening_ops plan.now) }
     ensures room { IfOk result (λ r. 256 ≤ r.1.capacity) }
 {
-    let state = State::open(alloc, plan)?;
     let most = plan.opening_bound().max(MOST_OF_A_REQUEST);
     let mut ops = Ops::new(alloc, most)?;
     open_all(plan, &mut ops);
+    let state = State::open(alloc, plan)?;
     Ok((state, ops))
 }
 
