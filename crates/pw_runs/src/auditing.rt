@@ -74,8 +74,12 @@ pub fn audit<F: Files, K: Sink>(
     };
     match read_given(alloc, files, step, script, blocks, &mut page, err) {
         Err(status) => status,
-        Ok((plan, lines)) => judge(
-            form, alloc, files, history, &plan, &lines, &mut page, out, err,
-        ),
+        Ok((plan, lines)) => {
+            let status = judge(
+                form, alloc, files, history, &plan, &lines, &mut page, out, err,
+            );
+            drop(plan);
+            status
+        }
     }
 }

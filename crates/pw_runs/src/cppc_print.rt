@@ -98,5 +98,6 @@ pub fn print_driven<K: Sink, R>(
         Some(replies) => Some(replies.as_slice()),
     };
     let status = print_run(alloc, &plan, opening, entries, known, page, out, err);
+    drop(plan);
     (status, regs)
 }

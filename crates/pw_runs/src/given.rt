@@ -81,7 +81,10 @@ fn with_script<F: Files, K: Sink>(
 {
     match script_in(alloc, files, name, &plan, step, page, err) {
         Ok(script) => Ok((plan, script)),
-        Err(status) => Err(status),
+        Err(status) => {
+            drop(plan);
+            Err(status)
+        }
     }
 }
 

@@ -34,6 +34,9 @@ pub fn handed_on(status: u8, sealed: Sealed) -> Option<Sealed>
 {
     match status {
         0 | 5 => Some(sealed),
-        _ => None,
+        _ => {
+            drop(sealed);
+            None
+        }
     }
 }

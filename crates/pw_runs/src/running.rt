@@ -62,6 +62,7 @@ fn run<K: Sink, R: Registers>(
             let replies = replies.as_slice();
             let known = Some(replies);
             let status = print_run(alloc, &plan, opening, entries, known, page, out, err);
+            drop(plan);
             Outcome {
                 status,
                 regs,

@@ -33,9 +33,9 @@ fn prepare(alloc: Global, n: u32) -> Result<(Plan, Script, Page), Memory>
     ensures load { IfOk result (λ r. r.1 ≡ machine_load n) }
     ensures empty { IfOk result (λ r. r.2 ≡ []) }
 {
-    let plan = plan_of(alloc, n)?;
-    let script = generate_script(alloc, n)?;
     let page = Page::new(alloc)?;
+    let script = generate_script(alloc, n)?;
+    let plan = plan_of(alloc, n)?;
     Ok((plan, script, page))
 }
 
@@ -69,11 +69,15 @@ fn run<T: Threads + Wait + Sync, K: Sink, R: Registers + Send, G: Gate + Sync>(
             regs,
             sealed: None,
         },
-        Ok(Drove::Opening { done, plan, regs }) => Outcome {
-            status: print_run(alloc, &plan, Some(done), &[], page, out, err),
-            regs,
-            sealed: None,
-        },
+        Ok(Drove::Opening { done, plan, regs }) => {
+            let status = print_run(alloc, &plan, Some(done), &[], page, out, err);
+            drop(plan);
+            Outcome {
+                status,
+                regs,
+                sealed: None,
+            }
+        }
         Ok(Drove::Closed(closed)) => {
             let (sealed, regs) = closed.into_parts();
             let status = print_run(alloc, sealed.plan(), None, sealed.entries(), page, out, err);

@@ -55,11 +55,15 @@ fn work<T: Threads + Wait + Sync, K: Sink, R: Registers + Send, G: Gate + Sync>(
             regs,
             sealed: None,
         },
-        Ok(Drove::Opening { done, plan, regs }) => Outcome {
-            status: print_run(alloc, &plan, Some(done), &[], None, page, out, err),
-            regs,
-            sealed: None,
-        },
+        Ok(Drove::Opening { done, plan, regs }) => {
+            let status = print_run(alloc, &plan, Some(done), &[], None, page, out, err);
+            drop(plan);
+            Outcome {
+                status,
+                regs,
+                sealed: None,
+            }
+        }
         Ok(Drove::Closed(closed)) => {
             let (sealed, regs) = closed.into_parts();
             let status = print_run(

@@ -21,6 +21,6 @@ returns-in-Err-clause-did g c =
 
 pub returns-clause-did : goal.returns-clause-did
 returns-clause-did g c =
-    let within = judging_within c.args.form g.F.Files c.args.files.now c.read_given.new.files c.judge.new.files c.read_given.ensures.keeps_files c.args.history.now
+    let within = judging_within c.args.form g.F.Files c.args.files.now c.read_given.new.files c.judge-status.new.files c.read_given.ensures.keeps_files c.args.history.now
     c.args.step c.args.script.now (names_of c.args.blocks.now) c.in-Ok-read_given.plan c.in-Ok-read_given.lines.lines c.in-Ok-read_given.ensures.given in
-    did_within within (rw c.in-Ok-read_given.ensures.quiet at c.judge.ensures.did)
+    did_within within (rw c.in-Ok-read_given.ensures.quiet at c.judge-status.ensures.did)

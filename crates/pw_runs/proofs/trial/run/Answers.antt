@@ -11,8 +11,8 @@ use Rattle.pw_runs.proofs.Runs.{run_faultless, run_legal}
 use Rattle.pw_runs.proofs.Trying.{tries_none}
 use Rattle.pw_runs.proofs.trial.run.Goals as goal
 
-pub print_run-status-requires-clause-legal : goal.print_run-status-requires-clause-legal
-print_run-status-requires-clause-legal g c =
+pub print_run-status-requires-in-Ok-Closed-clause-legal : goal.print_run-status-requires-in-Ok-Closed-clause-legal
+print_run-status-requires-in-Ok-Closed-clause-legal g c =
     let o = c.in-Ok-Closed in
     let s = c.into_parts-sealed.result.0 in
     let drove = rw o.field-0-is at o.ensures.drove in
@@ -21,8 +21,8 @@ print_run-status-requires-clause-legal g c =
     let entries = c.entries.ensures ∙ ap (λ (x : Sealed). x.entries) sealed in
     rw (plan, entries) (run_legal c.args.plan (requests_of c.args.script.now.lines) None o.closed.sealed.entries drove.1.lawful)
 
-pub print_run-status-requires-clause-faultless : goal.print_run-status-requires-clause-faultless
-print_run-status-requires-clause-faultless g c = run_faultless None c.entries.result.now
+pub print_run-status-requires-in-Ok-Closed-clause-faultless : goal.print_run-status-requires-in-Ok-Closed-clause-faultless
+print_run-status-requires-in-Ok-Closed-clause-faultless g c = run_faultless None c.entries.result.now
 
 pub returns-in-Err-clause-ran : goal.returns-in-Err-clause-ran
 returns-in-Err-clause-ran g c =
@@ -36,8 +36,8 @@ pub returns-in-Ok-Opening-clause-ran : goal.returns-in-Ok-Opening-clause-ran
 returns-in-Ok-Opening-clause-ran g c =
     let o = c.in-Ok-Opening in
     let drove = rw o.field-0-is at o.ensures.drove in
-    let printed = rw drove.0 at c.print_run.ensures.printed in
-    ended_as (λ written text prints. ran drove.1 prints (seals_none c.args.plan o.done [] c.print_run.result)) printed
+    let printed = rw drove.0 at c.print_run-status.ensures.printed in
+    ended_as (λ written text prints. ran drove.1 prints (seals_none c.args.plan o.done [] c.print_run-status.result)) printed
 
 pub returns-in-Ok-Closed-clause-ran : goal.returns-in-Ok-Closed-clause-ran
 returns-in-Ok-Closed-clause-ran g c =
@@ -50,8 +50,8 @@ returns-in-Ok-Closed-clause-ran g c =
     let regs : c.into_parts-sealed.result.1 ≡ o.closed.regs = ap (λ p. p.1) c.into_parts-sealed.ensures in
     let plan : s.plan ≡ P = ap (λ (x : Sealed). x.plan) sealed ∙ drove.0 in
     let entries : s.entries ≡ es = ap (λ (x : Sealed). x.entries) sealed in
-    let printed = rw (c.plan.ensures ∙ plan, c.entries.ensures ∙ entries) at c.print_run-status.ensures.printed in
+    let printed = rw (c.plan.ensures ∙ plan, c.entries.ensures ∙ entries) at c.print_run-status-in-Ok-Closed.ensures.printed in
     let before = registers_seen g.R.Registers c.args.regs in
     let run = subst (λ r. Runs P c.args.script.now.lines None es before (registers_seen g.R.Registers r)) (sym regs) drove.1 in
-    let seals = seals_closed P es c.print_run-status.result s c.handed_on.result plan entries c.handed_on.ensures.given c.handed_on.ensures.unended in
+    let seals = seals_closed P es c.print_run-status-in-Ok-Closed.result s c.handed_on.result plan entries c.handed_on.ensures.given c.handed_on.ensures.unended in
     ended_as (λ written text prints. ran run prints seals) printed

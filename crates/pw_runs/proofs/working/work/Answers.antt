@@ -2,12 +2,24 @@ use Rattle.std.proofs.Common.{◌≡◌, [], None, ap, codes, subst, sym, ◌∙
 use Rattle.pw_load.specs.Seen.{outputs_seen}
 use Rattle.pw_regs.specs.Seen.{registers_seen}
 use Rattle.pw_turns.specs.declared.close.Sealed.{Sealed}
+use Rattle.pw_script.specs.Reading.{requests_of}
 use Rattle.pw_drive.specs.Drives.{Runs}
 use Rattle.pw_load.proofs.Outcomes.{ended_as, ended_saying}
 use Rattle.pw_runs.specs.inner.Works.Works.{worked}
+use Rattle.pw_runs.proofs.Histories.{entries_state}
 use Rattle.pw_runs.proofs.Many.{seals_closed, seals_none}
 use Rattle.pw_runs.proofs.Steps.{works_none}
 use Rattle.pw_runs.proofs.working.work.Goals as goal
+
+pub print_run-status-requires-in-Ok-Closed-clause-entries : goal.print_run-status-requires-in-Ok-Closed-clause-entries
+print_run-status-requires-in-Ok-Closed-clause-entries g c =
+    let o = c.in-Ok-Closed in
+    let s = c.into_parts-sealed.result.0 in
+    let drove = rw o.field-0-is at o.ensures.drove in
+    let sealed : s ≡ o.closed.sealed = ap (λ p. p.0) c.into_parts-sealed.ensures in
+    let plan = c.plan.ensures ∙ ap (λ (x : Sealed). x.plan) sealed ∙ drove.0 in
+    let entries = c.entries.ensures ∙ ap (λ (x : Sealed). x.entries) sealed in
+    rw (plan, entries) (entries_state c.args.plan (requests_of c.args.script.now.lines) None o.closed.sealed.entries drove.1.lawful)
 
 pub returns-in-Err-clause-worked : goal.returns-in-Err-clause-worked
 returns-in-Err-clause-worked g c =
@@ -21,8 +33,8 @@ pub returns-in-Ok-Opening-clause-worked : goal.returns-in-Ok-Opening-clause-work
 returns-in-Ok-Opening-clause-worked g c =
     let o = c.in-Ok-Opening in
     let drove = rw o.field-0-is at o.ensures.drove in
-    let printed = rw drove.0 at c.print_run.ensures.printed in
-    ended_as (λ written text prints. worked drove.1 prints (seals_none c.args.plan o.done [] c.print_run.result)) printed
+    let printed = rw drove.0 at c.print_run-status.ensures.printed in
+    ended_as (λ written text prints. worked drove.1 prints (seals_none c.args.plan o.done [] c.print_run-status.result)) printed
 
 pub returns-in-Ok-Closed-clause-worked : goal.returns-in-Ok-Closed-clause-worked
 returns-in-Ok-Closed-clause-worked g c =
@@ -35,8 +47,8 @@ returns-in-Ok-Closed-clause-worked g c =
     let regs : c.into_parts-sealed.result.1 ≡ o.closed.regs = ap (λ p. p.1) c.into_parts-sealed.ensures in
     let plan : s.plan ≡ P = ap (λ (x : Sealed). x.plan) sealed ∙ drove.0 in
     let entries : s.entries ≡ es = ap (λ (x : Sealed). x.entries) sealed in
-    let printed = rw (c.plan.ensures ∙ plan, c.entries.ensures ∙ entries) at c.print_run-status.ensures.printed in
+    let printed = rw (c.plan.ensures ∙ plan, c.entries.ensures ∙ entries) at c.print_run-status-in-Ok-Closed.ensures.printed in
     let before = registers_seen g.R.Registers c.args.regs in
     let run = subst (λ r. Runs P c.args.script.now.lines None es before (registers_seen g.R.Registers r)) (sym regs) drove.1 in
-    let seals = seals_closed P es c.print_run-status.result s c.handed_on.result plan entries c.handed_on.ensures.given c.handed_on.ensures.unended in
+    let seals = seals_closed P es c.print_run-status-in-Ok-Closed.result s c.handed_on.result plan entries c.handed_on.ensures.given c.handed_on.ensures.unended in
     ended_as (λ written text prints. worked run prints seals) printed
