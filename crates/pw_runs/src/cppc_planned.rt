@@ -11,12 +11,13 @@ ghost use Rattle.pw_cppc.specs.SpacePlan.{IsPlanOver};
 ghost use Rattle.pw_runs.specs.CppcRuns.{AreSteered};
 ghost use Rattle.pw_runs.specs.inner.CppcParts.{IsPlanBy};
 
+use crate::planned;
 use acpi_build::blocks_are_countable;
 use acpi_space::Space;
 use aml_block::Block;
 use pw_base::{Files, Sink};
 use pw_cppc::{CppcPlan, cppc_plan};
-use pw_load::{load, make_plan, place, without_memory};
+use pw_load::{load, place, without_memory};
 use pw_text::Page;
 use std::alloc::Global;
 use std::mem::forget;
@@ -38,12 +39,16 @@ fn plan_over<K: Sink>(
     ensures stopped { IfErr result (λ status. Stopped (planning space.now)
         (sink_seen K.Sink err.old) (sink_seen K.Sink err.new) status) }
 {
-    match make_plan(alloc, space, page, err) {
+    match planned::plan_over(alloc, space, page, err) {
         Err(status) => Err(status),
-        Ok((machine, _)) => match cppc_plan(alloc, space, &machine) {
-            Ok(plan) => Ok(plan),
-            Err(_) => Err(without_memory(err)),
-        },
+        Ok(machine) => {
+            let made = cppc_plan(alloc, space, &machine);
+            drop(machine);
+            match made {
+                Ok(plan) => Ok(plan),
+                Err(_) => Err(without_memory(err)),
+            }
+        }
     }
 }
 

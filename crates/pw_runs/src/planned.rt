@@ -23,7 +23,7 @@ use std::mem::forget;
 
 /// The plan that objects make, without its notes; or the status, once the error output has the line that
 /// says why they make none, by way of an empty page.
-fn plan_over<K: Sink>(
+pub fn plan_over<K: Sink>(
     alloc: Global,
     space: &Space<'_>,
     page: &mut Page,
