@@ -1,5 +1,5 @@
 -- Where nothing is found of objects and of terms that were passed over.
-use Rattle.std.proofs.Common.{◌≡◌, ◌↔◌, ◌∙◌, List, [], ◌∷◌, ◌++◌, map, refl, sym, ap}
+use Rattle.std.proofs.Common.{◌≡◌, ◌↔◌, ◌∙◌, List, [], ◌∷◌, map, refl, sym, ap}
 use Rattle.std.specs.List.{flat_map}
 use Rattle.acpi_space.specs.Namespace.{Entry}
 use Rattle.acpi_space.specs.declared.passed.PassedOver.{PassedOver}
@@ -11,7 +11,7 @@ use Rattle.acpi_build.specs.Planning.{first_fault, IsSurvey}
 use Rattle.acpi_build.proofs.Planned.{plan_found}
 use Rattle.pw_findings.specs.declared.finding.Finding.{Finding}
 use Rattle.pw_lint.specs.Laws.{IsClean, NoneIn}
-use Rattle.pw_lint.specs.Machine.{findings, object_findings, outcome_findings, AreFindings}
+use Rattle.pw_lint.specs.Machine.{outcome_findings, AreFindings}
 use Rattle.pw_lint.specs.Notes.{fault_finding, limit_finding, note_findings}
 use Rattle.pw_lint.specs.Passed.{passed_findings}
 use Rattle.pw_lint.proofs.Nothing.{ends_empty, in_none, none_in, nothing_found}

@@ -1,10 +1,9 @@
 -- What is found of idle states beside those of the container around.
-use Rattle.std.proofs.Common.{◌≡◌, ◌⊎◌, ◌↔◌, ◌<◌, ◌+◌, ◌==◌, ◌&&◌, inl, inr, ℕ, zero, suc, Bool, true, false, not, List, [], ◌∷◌, ◌++◌, length, Option, Some, None, refl, sym, ap, subst, arith}
+use Rattle.std.proofs.Common.{◌≡◌, ◌⊎◌, ◌↔◌, ◌+◌, inl, inr, ℕ, Bool, true, false, not, List, [], length, Option, Some, None, refl, sym, ap, arith}
 use Rattle.std.specs.Prelude.{Contains, nat_lt}
 use Rattle.std.specs.List.{list_any}
 use Rattle.std.proofs.lemmas.Bool.{false≢true}
 use Rattle.std.proofs.lemmas.Bool.Decides.{Decides-ltb}
-use Rattle.std.proofs.lemmas.List.Elements.{Contains-append_cases, Contains-append_left, Contains-append_right}
 use Rattle.aml_data.specs.declared.path.FullPath.{FullPath}
 use Rattle.acpi_values.specs.Idle.{rows_of}
 use Rattle.acpi_values.specs.declared.idle.IdleRow.{IdleRow}
@@ -15,7 +14,7 @@ use Rattle.pw_findings.specs.declared.finding.FindingKind.TheVariants as kinds
 use Rattle.pw_findings.specs.declared.finding.OfParent.TheVariants.{Overflows}
 use Rattle.pw_findings.specs.Findings.{finding, of_each}
 use Rattle.pw_states.specs.Idle.{row_in}
-use Rattle.pw_states.specs.Parents.{count_in, enables, nowhere, number_of, overflowing, parent_findings, past, past_findings, sum_amiss, sum_at, sum_findings, unreached, unreached_where}
+use Rattle.pw_states.specs.Parents.{count_in, enables, nowhere, number_of, overflowing, parent_findings, past, past_findings, sum_amiss, sum_at, sum_findings, unreached_where}
 use Rattle.pw_lint.specs.Laws.{IsNowhere, IsOverflowing, IsPast, IsUnreached}
 use Rattle.pw_lint.proofs.Found.{alone_is, both_true, both_ways, each_in, either, in_each, in_either, in_when, true_both, when_in}
 

@@ -1,5 +1,5 @@
 -- What is found of C states, and of terms that are passed over.
-use Rattle.std.proofs.Common.{eqb-true, ◌≡◌, ◌≢◌, ◌⊎◌, ◌↔◌, ◌<◌, ◌+◌, ◌==◌, inl, inr, ℕ, zero, suc, not, List, [], ◌∷◌, length, Option, Some, None, refl, sym, subst, arith}
+use Rattle.std.proofs.Common.{eqb-true, ◌≡◌, ◌≢◌, ◌⊎◌, ◌↔◌, ◌<◌, ◌+◌, ◌==◌, inl, inr, ℕ, not, List, length, Option, Some, None, refl, sym, subst, arith}
 use Rattle.std.specs.Prelude.{Contains, nat_lt}
 use Rattle.std.specs.List.{Any, flat_map}
 use Rattle.std.proofs.lemmas.Bool.Decides.{Decides-ltb}

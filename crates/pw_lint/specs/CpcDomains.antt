@@ -17,20 +17,11 @@ use Rattle.pw_findings.specs.declared.finding.OfMember.TheVariants.{OtherRange}
 use Rattle.pw_findings.specs.declared.finding.Shared.TheVariants as shared
 use Rattle.pw_findings.specs.Findings.{finding, of_each, when}
 use Rattle.pw_lint.specs.declared.cpc_domains.Member.{Member}
-use Rattle.pw_lint.specs.declared.cpc_domains.Range.{Range}
-use Rattle.pw_states.specs.Cpcs.{level}
+use Rattle.pw_states.specs.declared.cpcs.Range.{Range}
+use Rattle.pw_states.specs.Cpcs.{are_apart, range_of}
 use Rattle.pw_lint.specs.Tables.{dependency}
 
 -- # Members
-
--- from the lowest to the highest performance, where both are numbers
-abbrev pub range_between : Option ℕ → Option ℕ → Option Range
-range_between None highest = None
-range_between (Some lowest) None = None
-range_between (Some lowest) (Some highest) = Some (record { lowest = lowest; highest = highest })
-
-abbrev pub range_of : Cpc → Option Range
-range_of cpc = range_between (level cpc 3) (level cpc 0)
 
 -- what a processor with `_CPC` and `_PSD` says as a member of a domain
 abbrev pub member_of : Option Cpc → Option Dependency → Option Member
@@ -64,11 +55,6 @@ has_other_number first (Some m) =
     (m.declared.domain == first.declared.domain) && not (m.declared.processors == first.declared.processors)
 
 -- or goes from or to another level
-abbrev pub are_apart : Option Range → Option Range → Bool
-are_apart None s = false
-are_apart (Some r) None = false
-are_apart (Some r) (Some s) = not ((r.lowest == s.lowest) && (r.highest == s.highest))
-
 abbrev pub has_other_range : Member → Option Member → Bool
 has_other_range first None = false
 has_other_range first (Some m) = (m.declared.domain == first.declared.domain) && are_apart first.range m.range

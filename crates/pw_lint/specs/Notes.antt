@@ -11,6 +11,7 @@ use Rattle.pw_findings.specs.declared.finding.OfObject.TheVariants as objects
 use Rattle.pw_findings.specs.declared.finding.Unused.{Unused}
 use Rattle.pw_findings.specs.declared.finding.Unused.TheVariants.{Method, Alias, Empty, BesideLpi, NoSuchState}
 use Rattle.pw_findings.specs.Findings.{finding}
+use Rattle.pw_states.specs.Objects.{meaningless}
 
 -- # Notes
 
@@ -37,7 +38,7 @@ root = record { segs = [] }
 
 -- what is found of an object that means nothing
 abbrev pub fault_finding : ObjectFault → Finding
-fault_finding f = finding f.path (kinds.Object (objects.Meaningless f.place f.why))
+fault_finding f = meaningless f.path f.place f.why
 
 -- what is found of a limit that is passed
 abbrev pub limit_finding : ℕ → ℕ → Finding

@@ -5,13 +5,12 @@ ghost use Rattle.std.specs.Prelude.{None as none};
 ghost use Rattle.std.specs.List.{list_any};
 ghost use Rattle.acpi_build.specs.Tables.{AreCountable};
 ghost use Rattle.pw_findings.specs.Findings.{of_each};
-ghost use Rattle.pw_lint.specs.CpcDomains.{are_apart, at_member, cpc_domain_findings, declared_amiss};
+ghost use Rattle.pw_lint.specs.CpcDomains.{at_member, cpc_domain_findings, declared_amiss};
 ghost use Rattle.pw_lint.specs.inner.Differing.{differs};
 ghost use Rattle.pw_lint.specs.CpcDomains.{has_other_number};
 ghost use Rattle.pw_lint.specs.CpcDomains.{has_other_range, has_other_type, id_of, is_in, led, led_by};
 ghost use Rattle.pw_lint.specs.CpcDomains.{member_at};
-ghost use Rattle.pw_lint.specs.CpcDomains.{member_of, members_of, number_amiss, range_amiss, range_between};
-ghost use Rattle.pw_lint.specs.CpcDomains.{range_of};
+ghost use Rattle.pw_lint.specs.CpcDomains.{member_of, members_of, number_amiss, range_amiss};
 ghost use Rattle.pw_lint.specs.CpcDomains.{ranges_amiss, size_amiss, size_of, type_amiss};
 
 use crate::devices::path_in;
@@ -24,15 +23,8 @@ use pw_findings::{
     DomainId, Finding, FindingKind, OfDomain, OfMember, Shared, add, add_when, same_coord,
 };
 use pw_plan::CpuParts;
-use pw_states::level;
+use pw_states::{Range, are_apart, range_of};
 use std::alloc::Global;
-
-/// From the lowest to the highest performance.
-#[derive(Clone, Copy)]
-pub(crate) struct Range {
-    lowest: u64,
-    highest: u64,
-}
 
 /// What a processor with `_CPC` and `_PSD` says as a member of a domain.
 #[derive(Clone, Copy)]
@@ -40,23 +32,6 @@ pub(crate) struct Member {
     declared: Dependency,
     /// None unless both levels are numbers.
     range: Option<Range>,
-}
-
-/// Between two levels, where both are numbers.
-fn range_between(lowest: Option<u64>, highest: Option<u64>) -> Option<Range>
-    ensures { result ≡ range_between lowest highest }
-{
-    match (lowest, highest) {
-        (Some(lowest), Some(highest)) => Some(Range { lowest, highest }),
-        _ => None,
-    }
-}
-
-/// From the lowest to the highest performance of `_CPC`.
-fn range_of(cpc: &Cpc) -> Option<Range>
-    ensures { result ≡ range_of cpc.now }
-{
-    range_between(level(cpc, 3), level(cpc, 0))
 }
 
 /// A processor with `_CPC` and `_PSD`, as a member of a domain.
@@ -135,19 +110,7 @@ fn has_other_number(first: Member, member: Option<Member>) -> bool
     }
 }
 
-/// Whether one goes from or to another level.
-fn are_apart(one: Option<Range>, other: Option<Range>) -> bool
-    ensures { result ≡ are_apart one other }
-{
-    match (one, other) {
-        (Some(one), Some(other)) => {
-            !(one.lowest == other.lowest && one.highest == other.highest)
-        }
-        _ => false,
-    }
-}
-
-/// Whether it is, and does.
+/// Whether it is, and goes from or to another level.
 fn has_other_range(first: Member, member: Option<Member>) -> bool
     ensures { result ≡ has_other_range first member }
 {

@@ -6,6 +6,7 @@ use acpi_build::{Note, NoteKind, ObjectFault};
 use aml_data::FullPath;
 use pw_base::{List, Memory};
 use pw_findings::{Finding, FindingKind, OfObject, Unused, add};
+use pw_states::find_meaningless;
 use std::alloc::Global;
 
 /// What a note says of its object.
@@ -63,11 +64,7 @@ pub(crate) fn find_in_faults(
     ensures { OnOk result (found.new.items ≡ found.old.items ++ map fault_finding faults.now) }
 {
     for fault in faults {
-        let amiss = OfObject::Meaningless {
-            place: fault.place,
-            why: fault.why,
-        };
-        add(alloc, &fault.path, FindingKind::Object(amiss), found)?;
+        find_meaningless(alloc, &fault.path, fault.place, fault.why, found)?;
     }
     Ok(())
 }

@@ -1,5 +1,5 @@
 -- What is found of continuous performance control (ACPI 6.5, 8.4.6.1).
-use Rattle.std.specs.Prelude.{ℕ, ◌||◌, ◌++◌, Bool, true, List, [], nat_lt, is_none, slice_get, Option, Some, None}
+use Rattle.std.specs.Prelude.{ℕ, ◌==◌, ◌&&◌, ◌||◌, ◌++◌, not, Bool, true, false, List, [], nat_lt, is_none, slice_get, Option, Some, None}
 use Rattle.aml_data.specs.declared.path.FullPath.{FullPath}
 use Rattle.acpi_values.specs.Null.{is_null}
 use Rattle.acpi_values.specs.declared.performance.Cpc.{Cpc}
@@ -9,6 +9,7 @@ use Rattle.pw_findings.specs.declared.finding.Finding.{Finding}
 use Rattle.pw_findings.specs.declared.finding.FindingKind.TheVariants as kinds
 use Rattle.pw_findings.specs.declared.finding.OfCpc.TheVariants.{Disorder, NoRange, NoDesired}
 use Rattle.pw_findings.specs.Findings.{finding, when}
+use Rattle.pw_states.specs.declared.cpcs.Range.{Range}
 
 -- the number of an element, where it is one
 abbrev pub number_of : Option CpcEntry → Option ℕ
@@ -19,6 +20,21 @@ number_of (Some (Register r)) = None
 -- a level of performance, by its place behind the first two elements: 0 highest, 1 nominal, 2 lowest nonlinear, 3 lowest
 abbrev pub level : Cpc → ℕ → Option ℕ
 level cpc k = number_of (slice_get cpc.entries k)
+
+-- from the lowest to the highest performance, where both are numbers
+abbrev pub range_between : Option ℕ → Option ℕ → Option Range
+range_between None highest = None
+range_between (Some lowest) None = None
+range_between (Some lowest) (Some highest) = Some (record { lowest = lowest; highest = highest })
+
+abbrev pub range_of : Cpc → Option Range
+range_of cpc = range_between (level cpc 3) (level cpc 0)
+
+-- whether one goes from or to another level
+abbrev pub are_apart : Option Range → Option Range → Bool
+are_apart None s = false
+are_apart (Some r) None = false
+are_apart (Some r) (Some s) = not ((r.lowest == s.lowest) && (r.highest == s.highest))
 
 -- the lower of two levels has the greater number
 abbrev pub crossed : FullPath → ℕ → Option ℕ → ℕ → Option ℕ → List Finding

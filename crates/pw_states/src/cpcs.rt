@@ -1,15 +1,21 @@
 //! What is found of continuous performance control.
 
 ghost use Rattle.std.specs.Prelude.{◌≡◌, ◌++◌, option_copied, slice_get, OnOk};
-ghost use Rattle.pw_states.specs.Cpcs.{cpc_findings, crossed, disorder, is_no_register, is_open, level};
-ghost use Rattle.pw_states.specs.Cpcs.{number_of};
-ghost use Rattle.pw_states.specs.Cpcs.{of_cpc};
+ghost use Rattle.pw_states.specs.Cpcs.{are_apart, cpc_findings, crossed, disorder, is_no_register};
+ghost use Rattle.pw_states.specs.Cpcs.{is_open, level, number_of, of_cpc, range_between, range_of};
 
 use acpi_values::{Cpc, CpcEntry};
 use aml_data::FullPath;
 use pw_base::Memory;
 use pw_findings::{Finding, FindingKind, OfCpc, add_when};
 use std::alloc::Global;
+
+/// From the lowest to the highest performance.
+#[derive(Clone, Copy)]
+pub struct Range {
+    pub lowest: u64,
+    pub highest: u64,
+}
 
 /// The number of an element, where it is one.
 fn number_of(element: Option<&CpcEntry>) -> Option<u64>
@@ -23,10 +29,39 @@ fn number_of(element: Option<&CpcEntry>) -> Option<u64>
 }
 
 /// A level of performance, by its place behind the first two elements.
-pub fn level(cpc: &Cpc, k: usize) -> Option<u64>
+fn level(cpc: &Cpc, k: usize) -> Option<u64>
     ensures { result ≡ level cpc.now k }
 {
     number_of(cpc.entries.as_slice().get(k))
+}
+
+/// Between two levels, where both are numbers.
+fn range_between(lowest: Option<u64>, highest: Option<u64>) -> Option<Range>
+    ensures { result ≡ range_between lowest highest }
+{
+    match (lowest, highest) {
+        (Some(lowest), Some(highest)) => Some(Range { lowest, highest }),
+        _ => None,
+    }
+}
+
+/// From the lowest to the highest performance of `_CPC`.
+pub fn range_of(cpc: &Cpc) -> Option<Range>
+    ensures { result ≡ range_of cpc.now }
+{
+    range_between(level(cpc, 3), level(cpc, 0))
+}
+
+/// Whether one goes from or to another level.
+pub fn are_apart(one: Option<Range>, other: Option<Range>) -> bool
+    ensures { result ≡ are_apart one other }
+{
+    match (one, other) {
+        (Some(one), Some(other)) => {
+            !(one.lowest == other.lowest && one.highest == other.highest)
+        }
+        _ => false,
+    }
 }
 
 /// Adds that the lower of two levels has the greater number.
