@@ -1,8 +1,7 @@
 -- Objects make one plan of performance.
-use Rattle.std.proofs.Common.{◌≡◌, ◌<◌, ℕ, List, length, Option, Some, None, Result, Ok, refl, sym, ap, subst, ◌∙◌}
+use Rattle.std.proofs.Common.{◌≡◌, ◌<◌, ℕ, List, length, Option, Some, None, refl, sym, ap, subst, ◌∙◌}
 use Rattle.std.proofs.Props.{props}
 use Rattle.std.proofs.lemmas.List.{get_or_default, same_lists}
-use Rattle.aml_data.specs.declared.data.Data.{Data}
 use Rattle.aml_data.specs.declared.data.Width.{Width}
 use Rattle.aml_data.specs.declared.path.FullPath.{FullPath}
 use Rattle.acpi_values.specs.declared.dependency.Dependency.{Dependency}
@@ -10,13 +9,9 @@ use Rattle.acpi_perf.specs.Meaning.{DomainMeans}
 use Rattle.acpi_perf.specs.Objects.{domain_of}
 use Rattle.acpi_perf.proofs.Meant.{domain_read}
 use Rattle.acpi_space.specs.Distinct.{IsDistinct}
-use Rattle.acpi_space.specs.Lookup.{entry_in, no_entry, number_at}
 use Rattle.acpi_space.specs.Namespace.{Entry, places_of}
 use Rattle.acpi_space.specs.Places.{Place}
-use Rattle.acpi_space.specs.Things.Thing.{data_object}
-use Rattle.acpi_space.proofs.Lookups.{numbered}
-use Rattle.acpi_space.proofs.Trees.{same_some}
-use Rattle.acpi_build.specs.Sources.{GivenAt, IsTable, is_absent, is_given}
+use Rattle.acpi_build.specs.Sources.{IsTable, is_absent, is_given}
 use Rattle.pw_plan.specs.declared.parts.CpuParts.{CpuParts}
 use Rattle.pw_plan.specs.declared.plan.Plan.{Plan}
 use Rattle.pw_plan.specs.Places.{cpu_at}
@@ -28,7 +23,7 @@ use Rattle.pw_cppc.specs.Domains.{domains_of}
 use Rattle.pw_cppc.specs.Sound.{IsPlanOf, IsSound, places_of as all_places}
 use Rattle.pw_cppc.specs.Machine.{AreCppcParts, IsCppcOf, dependency_place}
 use Rattle.pw_base.proofs.Facts.{same_ok}
-use Rattle.acpi_build.proofs.OneTable.{same_data, one_data}
+use Rattle.acpi_build.proofs.OneTable.{one_data}
 
 -- # What stands at a place
 

@@ -4,20 +4,17 @@ use Rattle.std.specs.List.{AllByRecursion}
 use Rattle.pw_base.specs.Seen.{FilesSeen}
 use Rattle.pw_plan.specs.declared.plan.Plan.{Plan}
 use Rattle.pw_plan.specs.declared.request.Request.{Request}
-use Rattle.pw_plan.specs.declared.request.Request.TheVariants.{Idle, Wake, Perf, Throttle, PerfLimit, ThrottleLimit}
 use Rattle.pw_plan.specs.Requests.{Has}
 use Rattle.pw_governor.specs.Choices.{choice}
 use Rattle.pw_model.specs.declared.entry.HistoryEntry.{HistoryEntry}
-use Rattle.pw_model.specs.History.{Faultless, entry_of}
-use Rattle.pw_model.proofs.Joining.{legal-empty}
-use Rattle.pw_notice.specs.Limits.{answer_by, own}
+use Rattle.pw_model.specs.History.{Faultless}
+use Rattle.pw_notice.specs.Limits.{answer_by}
 use Rattle.pw_turns.specs.declared.close.Sealed.{Sealed}
 use Rattle.pw_script.specs.declared.script.Line.{Line as line}
 use Rattle.pw_script.specs.Lawful.{Lawful}
 use Rattle.pw_script.specs.Lines.{lines_of}
 use Rattle.pw_script.specs.Reading.{Answered, Chosen, requests_of}
 use Rattle.pw_script.proofs.Existing.{lines_fit}
-use Rattle.pw_script.specs.Completing.{IsStart}
 use Rattle.pw_script.proofs.Completions.{completed-run, entry_faultless}
 use Rattle.pw_runs.specs.Runs.{IsTextOn, entries_of}
 use Rattle.pw_runs.specs.Scripts.{HoldsScript, limit_by}

@@ -1,12 +1,11 @@
 -- A serial drive has one text of what files hold, or is refused in one way; one by workers is refused just so.
-use Rattle.std.proofs.Common.{◌≡◌, ℕ, ◌-◌, Bool, true, List, [], ◌∷◌, length, Option, Some, None, Result, Err, inl, inr, ◌⊎◌, refl, sym, ap, subst, ◌∙◌, arith}
+use Rattle.std.proofs.Common.{◌≡◌, ℕ, ◌-◌, Bool, true, List, [], ◌∷◌, length, Option, Some, None, inl, inr, ◌⊎◌, refl, sym, ap, subst, ◌∙◌, arith}
 use Rattle.std.specs.Prelude.{Contains, suc}
 use Rattle.std.proofs.lemmas.List.Elements.{Contains-get_or}
 use Rattle.pw_base.specs.Seen.{FilesSeen}
 use Rattle.aml_block.specs.declared.block.Block.{Block}
 use Rattle.acpi_space.specs.Distinct.{IsDistinct}
-use Rattle.acpi_space.specs.Namespace.{Entry, entries_in, places_of}
-use Rattle.acpi_space.proofs.Seen.{first_repeat_repeats}
+use Rattle.acpi_space.specs.Namespace.{entries_in, places_of}
 use Rattle.acpi_build.proofs.Planned.{same_plan}
 use Rattle.acpi_build.specs.Planning.{IsPlanFrom}
 use Rattle.acpi_build.specs.declared.note.Note.{Note}
@@ -23,16 +22,14 @@ use Rattle.pw_script.specs.Reading.{operations, requests_of}
 use Rattle.pw_script.proofs.Existing.{lines_told}
 use Rattle.pw_load.specs.Seen.{NoneFailed}
 use Rattle.pw_load.proofs.Completeness.{IsOne}
-use Rattle.pw_load.specs.Lines.{blocks_line, twice_line}
-use Rattle.pw_load.specs.Steps.{AreHeldBy, IsGivenTwice, IsNoPlanOf, IsUnplanned, IsUnspelled}
+use Rattle.pw_load.specs.Lines.{blocks_line}
+use Rattle.pw_load.specs.Steps.{AreHeldBy, IsNoPlanOf, IsUnspelled}
 use Rattle.pw_runs.specs.Scripts.{AreLinesIn, HoldsNoScript, HoldsScript, IsNoScript, IsScript, limit_by, script_line}
 use Rattle.pw_runs.specs.Scripts.IsNoScript.{bad, too_much}
 use Rattle.pw_runs.specs.Runs.{AreGiven, ArePlanned, IsRefusalOn, IsTextOn, IsUnscripted, driving, entries_of}
 use Rattle.pw_runs.specs.Workers.{IsTextBy}
 use Rattle.pw_runs.specs.Runs.IsRefusalOn.{unspelled, unplanned, unscripted}
 use Rattle.pw_runs.proofs.OnePlan.{same_plans}
-use Rattle.pw_load.proofs.Repeats.{one_first_repeat}
-use Rattle.pw_base.proofs.Facts.{same_err}
 use Rattle.pw_load.proofs.One.{one_twice, one_unplanned, twice_not_distinct}
 
 -- # Blocks that make no plan

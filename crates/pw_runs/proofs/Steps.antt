@@ -1,5 +1,5 @@
 -- What the parts of a drive do is what a drive does.
-use Rattle.std.proofs.Common.{◌≡◌, ◌≢◌, ◌≤◌, ℕ, Bool, List, [], Option, None, Result, Ok, Err, IfOk, IfErr, codes, inl, inr, refl, sym, ap, subst, ◌∙◌, arith}
+use Rattle.std.proofs.Common.{◌≡◌, ◌≢◌, ◌≤◌, ℕ, Bool, List, [], Option, None, Result, Ok, Err, IfOk, codes, inl, inr, refl, sym, ap, subst, ◌∙◌, arith}
 use Rattle.std.proofs.lemmas.Bool.{false≢true}
 use Rattle.pw_base.specs.declared.files.Files.{Ghosts as Files}
 use Rattle.pw_base.specs.Outside.{KeepsFiles, Rose}

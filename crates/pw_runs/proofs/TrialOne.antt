@@ -1,5 +1,5 @@
 -- What is generated has one summary, and it is printed unless a register failed.
-use Rattle.std.proofs.Common.{◌≡◌, ℕ, List, [], ◌∷◌, Option, Some, None, inl, inr, ◌⊎◌, refl, sym, ap, ◌∙◌}
+use Rattle.std.proofs.Common.{◌≡◌, ℕ, List, [], ◌∷◌, Option, Some, inl, inr, ◌⊎◌, refl, sym, ap, ◌∙◌}
 use Rattle.std.specs.Prelude.{is_some}
 use Rattle.pw_base.specs.Outside.{Rose}
 use Rattle.acpi_space.specs.Namespace.{entries_in}

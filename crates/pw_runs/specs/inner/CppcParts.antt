@@ -4,7 +4,7 @@ use Rattle.pw_base.specs.Outside.{Rose}
 use Rattle.pw_base.specs.Seen.{FilesSeen, OfFiles}
 use Rattle.aml_block.specs.declared.block.Block.{Block}
 use Rattle.acpi_space.specs.Distinct.{IsDistinct}
-use Rattle.acpi_space.specs.Namespace.{Entry, entries_in, places_of}
+use Rattle.acpi_space.specs.Namespace.{entries_in, places_of}
 use Rattle.pw_regs.specs.Seen.{RegistersSeen}
 use Rattle.pw_script.specs.declared.script.ScriptFault.{ScriptFault}
 use Rattle.pw_script.specs.declared.script.ScriptFault.TheVariants.{Memory}
