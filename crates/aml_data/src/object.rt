@@ -2,7 +2,8 @@ ghost use Rattle.std.specs.Prelude.{◌≡◌, ◌+◌, ◌<◌, ◌≤◌, ◌-
 ghost use Rattle.aml_data.specs.Segment.{begins_name};
 ghost use Rattle.aml_data.specs.inner.Reading.{Gives, Tells, byte_at, constant_at};
 ghost use Rattle.aml_data.specs.inner.ReadingObjects.{revision_at, counted_at, buffer_at, package_at, var_package_at};
-ghost use Rattle.aml_data.specs.inner.ReadingObjects.{elements_at, within, object_within, object_at};
+ghost use Rattle.aml_data.specs.inner.ReadingObjects.{string_at, name_or_constant_at, elements_at};
+ghost use Rattle.aml_data.specs.inner.ReadingObjects.{within, object_within, object_at};
 
 use crate::bytes::byte_of;
 use crate::constant::constant_of;
@@ -84,6 +85,37 @@ fn buffer_of(alloc: Global, bytes: &[u8], end: usize) -> Result<(Data, &[u8]), D
     let (size, content, after) = counted_by_constant(bytes, end)?;
     let bytes = CompactList::from_slice(alloc, content)?;
     Ok((Data::buffer(alloc, size, bytes)?, after))
+}
+
+/// The string behind its lead byte, and the bytes after it.
+fn string_of(alloc: Global, bytes: &[u8], end: usize) -> Result<(Data, &[u8]), DataFault>
+    requires { length bytes.now ≤ end }
+    ensures value { Gives (λ x. (x.0, x.1.now)) result (string_at end bytes.now) }
+    ensures shorter { IfOk result (λ x. length x.1.now < length bytes.now) }
+{
+    let (text, rest) = text_of(alloc, bytes, end)?;
+    Ok((Data::Text(text), rest))
+}
+
+/// The name that stands first, where `lead`, the first byte, begins one, or else the integer constant, and
+/// the bytes after it.
+fn name_or_constant_of(
+    alloc: Global,
+    lead: u8,
+    bytes: &[u8],
+    end: usize,
+) -> Result<(Data, &[u8]), DataFault>
+    requires within { length bytes.now ≤ end }
+    requires small { end < 2 ^ 32 }
+    ensures value { Gives (λ x. (x.0, x.1.now)) result (name_or_constant_at lead end bytes.now) }
+    ensures shorter { IfOk result (λ x. length x.1.now < length bytes.now) }
+{
+    if begins_name(lead) {
+        let (path, rest) = name_of(alloc, bytes, end)?;
+        return Ok((Data::path(alloc, path)?, rest));
+    }
+    let (number, rest) = constant_of(bytes, end)?;
+    Ok((Data::Int(number), rest))
 }
 
 /// The package behind its lead byte, and the bytes after it. `depth` levels may be opened, its own among
@@ -194,21 +226,11 @@ fn object_within(
         [] => Err(DataFault::Short { at: end }),
         [ONES_OP, rest @ ..] => Ok((Data::Ones, rest)),
         [EXT_OP_PREFIX, rest @ ..] => revision_of(rest, end),
-        [STRING_PREFIX, rest @ ..] => {
-            let (text, rest) = text_of(alloc, rest, end)?;
-            Ok((Data::Text(text), rest))
-        }
+        [STRING_PREFIX, rest @ ..] => string_of(alloc, rest, end),
         [BUFFER_OP, rest @ ..] => buffer_of(alloc, rest, end),
         [PACKAGE_OP, rest @ ..] => package_of(alloc, rest, end, depth),
         [VAR_PACKAGE_OP, rest @ ..] => var_package_of(alloc, rest, end, depth),
-        [lead, ..] => {
-            if begins_name(*lead) {
-                let (path, rest) = name_of(alloc, bytes, end)?;
-                return Ok((Data::path(alloc, path)?, rest));
-            }
-            let (number, rest) = constant_of(bytes, end)?;
-            Ok((Data::Int(number), rest))
-        }
+        [lead, ..] => name_or_constant_of(alloc, *lead, bytes, end),
     }
 }
 

@@ -59,18 +59,27 @@ package_at = pack_at byte_at Package
 abbrev pub var_package_at : Option (ℕ → List ℕ → Read Data) → ℕ → ℕ → List ℕ → Read Data
 var_package_at = pack_at constant_at VarPackage
 
+-- a string behind its lead byte
+abbrev pub string_at : ℕ → List ℕ → Read Data
+string_at end bytes = text_at end bytes >>= λ text. Ok (Text text.0, text.1)
+
+-- a name, where this byte, the first, begins one, or else an integer constant
+abbrev pub name_or_constant_at : ℕ → ℕ → List ℕ → Read Data
+name_or_constant_at lead end bytes =
+    if begins_name lead then (name_at end bytes >>= λ path. Ok (at_path path.0, path.1))
+    else (constant_at end bytes >>= λ n. Ok (Int n.0, n.1))
+
 -- a data object, the elements of whose packages are read so
 unfoldable pub object_by : Option (ℕ → List ℕ → Read Data) → ℕ → List ℕ → Read Data
 object_by inner end [] = Err (Short end)
 object_by inner end (lead ∷ rest) =
     if lead == ONES_OP then Ok (Ones, rest)
     else (if lead == EXT_OP_PREFIX then revision_at end rest
-    else (if lead == STRING_PREFIX then (text_at end rest >>= λ text. Ok (Text text.0, text.1))
+    else (if lead == STRING_PREFIX then string_at end rest
     else (if lead == BUFFER_OP then buffer_at end rest
     else (if lead == PACKAGE_OP then package_at inner (end - length (lead ∷ rest)) end rest
     else (if lead == VAR_PACKAGE_OP then var_package_at inner (end - length (lead ∷ rest)) end rest
-    else (if begins_name lead then (name_at end (lead ∷ rest) >>= λ path. Ok (at_path path.0, path.1))
-    else (constant_at end (lead ∷ rest) >>= λ n. Ok (Int n.0, n.1))))))))
+    else name_or_constant_at lead end (lead ∷ rest))))))
 
 -- how the elements of a package are read where so many levels may be opened
 unfoldable pub within : ℕ → Option (ℕ → List ℕ → Read Data)
