@@ -1,5 +1,6 @@
 ghost use Rattle.std.specs.Prelude.{◌≡◌, ◌≢◌, ◌<◌, ◌≤◌, ◌⊎◌, [], List as list, None, Some};
-ghost use Rattle.std.specs.Prelude.{length, nat_lt, IfOk, IfErr};
+ghost use Rattle.std.specs.Prelude.{length, nat_lt, IfOk, IfErr, OnOk};
+ghost use Rattle.pw_model.specs.States.{IsState, opening};
 ghost use Rattle.pw_governor.specs.Choices.{Chooses};
 ghost use Rattle.pw_notice.specs.Handling.{Handles};
 ghost use Rattle.pw_notice.specs.Limits.{AnsweredBy};
@@ -7,6 +8,8 @@ ghost use Rattle.pw_script.specs.declared.script.Line.{Line as line};
 ghost use Rattle.pw_script.specs.declared.script.TheConstants.{MOST_LINES, MOST_OPERATIONS};
 ghost use Rattle.pw_script.specs.declared.script.ScriptFault.TheVariants as faults;
 ghost use Rattle.pw_script.specs.Lines.{lines_of};
+ghost use Rattle.pw_script.specs.Forms.{segs_of};
+ghost use Rattle.pw_script.specs.Looking.{LeadsTo};
 ghost use Rattle.pw_script.specs.Asking.{CanBeAsked};
 ghost use Rattle.pw_script.specs.Reading.{AreLines, Fit, LawfullyChosen, first_bad, operations, refused};
 ghost use Rattle.pw_script.specs.Reading.{requests_of, too_long};
@@ -23,6 +26,7 @@ use pw_governor::Governor;
 use pw_notice::Handlers;
 use pw_plan::Plan;
 use std::alloc::Global;
+use std::collections::HashMap;
 
 /// The fault of bytes of which there are too many, or that have too many lines.
 pub fn too_long(bytes: &[u8]) -> Option<ScriptFault>
@@ -53,6 +57,56 @@ fn has_too_many(plan: &Plan, lines: &[Line]) -> bool
     bound > u64::from(MOST_OPERATIONS)
 }
 
+/// Reads lines, of which the first is asked in this state, and puts those that ask for something into a
+/// list. `name` is room for the segments of a path.
+fn read_into<
+    F: Fn(&IdleTable, u32, u32) -> u32,
+    P: Fn(u32, u32, u32) -> u32,
+    T: Fn(u32, u32, u32) -> u32,
+>(
+    plan: &Plan,
+    governor: &Governor<F>,
+    handlers: &Handlers<P, T>,
+    index: &HashMap<Vec<u8>, u32>,
+    name: &mut Vec<u8>,
+    state: &mut State,
+    bytes: &[u8],
+    lines: &mut Vec<Line>,
+) -> Result<(), ScriptFault>
+    requires chooses { Chooses (F.pre governor.now) (F.post governor.now) }
+    requires perf { Handles (P.pre handlers.now.0) (P.post handlers.now.0) }
+    requires throttle { Handles (T.pre handlers.now.1) (T.post handlers.now.1) }
+    requires index { LeadsTo segs_of 0 plan.now.cpus index.now }
+    requires opening { state.old ≡ opening plan.now }
+    requires fits { IsState plan.now state.old }
+    requires few { length (lines_of bytes.now) ≤ MOST_LINES }
+    requires none { lines.old.items ≡ [] }
+    ensures good { OnOk result (first_bad plan.now 1 (lines_of bytes.now) ≡ None) }
+    ensures read { OnOk result (AreLines plan.now (LawfullyChosen (F.post governor.now))
+        (AnsweredBy (P.post handlers.now.0) (T.post handlers.now.1)) [] 1 (lines_of bytes.now)
+        lines.new.items) }
+    ensures bad { IfErr result (λ fault. fault ≢ faults.Memory →
+        first_bad plan.now 1 (lines_of bytes.now) ≡ Some fault) }
+{
+    let mut number = 0;
+    let mut left = bytes;
+    while !left.is_empty() {
+        let (text, rest) = first_line(left);
+        number += 1;
+        match wish_in(plan, index, name, text)? {
+            Err(why) => return Err(ScriptFault::Line { number, why }),
+            Ok(None) => {}
+            Ok(Some(wish)) => {
+                let request = request_of(plan, state, governor, handlers, wish);
+                note(plan, state, request);
+                lines.push(Line { number, request })?;
+            }
+        }
+        left = rest;
+    }
+    Ok(())
+}
+
 /// The lines that ask for something.
 fn read_lines<
     F: Fn(&IdleTable, u32, u32) -> u32,
@@ -75,26 +129,15 @@ fn read_lines<
     ensures bad { IfErr result (λ fault. fault ≢ faults.Memory →
         first_bad plan.now 1 (lines_of bytes.now) ≡ Some fault) }
 {
+    let mut state = State::open(alloc, plan)?;
     let index = index_of(alloc, plan)?;
     let mut name = Vec::new(alloc);
-    let mut state = State::open(alloc, plan)?;
     let mut lines = Vec::new(alloc);
-    let mut number = 0;
-    let mut left = bytes;
-    while !left.is_empty() {
-        let (text, rest) = first_line(left);
-        number += 1;
-        match wish_in(plan, &index, &mut name, text)? {
-            Err(why) => return Err(ScriptFault::Line { number, why }),
-            Ok(None) => {}
-            Ok(Some(wish)) => {
-                let request = request_of(plan, &state, governor, handlers, wish);
-                note(plan, &mut state, request);
-                lines.push(Line { number, request })?;
-            }
-        }
-        left = rest;
-    }
+    let read = read_into(
+        plan, governor, handlers, &index, &mut name, &mut state, bytes, &mut lines,
+    );
+    drop(state);
+    read?;
     Ok(lines)
 }
 

@@ -5,7 +5,7 @@ use Rattle.pw_script.specs.declared.script.Line.{Line as line}
 use Rattle.pw_script.specs.Lines.{lines_of}
 use Rattle.pw_script.specs.Reading.{LawfullyChosen, AreLines, first_bad, requests_of}
 use Rattle.pw_script.specs.inner.Limiting.{SameLimits}
-use Rattle.pw_script.proofs.parsing.read_lines.Given as goal
+use Rattle.pw_script.proofs.parsing.read_into.Given as goal
 
 abbrev pub invariant-loop-left : goal.invariant-loop-left
 invariant-loop-left g l = record {

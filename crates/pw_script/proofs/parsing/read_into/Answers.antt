@@ -8,7 +8,7 @@ use Rattle.pw_script.specs.Reading.{LawfullyChosen, AreLines, requests_of}
 use Rattle.pw_notice.specs.Limits.{AnsweredBy}
 use Rattle.pw_script.proofs.Limiting.{limits_on}
 use Rattle.pw_script.proofs.Making.{reads_on, past_on, bad_past, no_texts}
-use Rattle.pw_script.proofs.parsing.read_lines.Goals as goal
+use Rattle.pw_script.proofs.parsing.read_into.Goals as goal
 
 pub loop-left-preserved : goal.loop-left-preserved
 loop-left-preserved g c =
