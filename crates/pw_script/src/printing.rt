@@ -202,8 +202,8 @@ fn begin(alloc: Global, plan: &Plan) -> Result<Run, Memory>
     ensures opening { IfOk result (λ run. opening_bound plan.now ≤ run.ops.capacity) }
 {
     Ok(Run {
-        state: State::open(alloc, plan)?,
         ops: Ops::new(alloc, plan.opening_bound().max(MOST_OF_A_REQUEST))?,
+        state: State::open(alloc, plan)?,
     })
 }
 
@@ -295,7 +295,9 @@ pub fn print_known<K: Sink>(
     ensures memory { result ≡ Err faults.Memory → out.new ≡ out.old }
 {
     let mut held = hold(alloc, plan)?;
-    put_history(&mut held, out, opening, entries, known)?;
+    let put = put_history(&mut held, out, opening, entries, known);
+    drop(held);
+    put?;
     Ok(())
 }
 
