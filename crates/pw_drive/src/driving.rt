@@ -131,11 +131,16 @@ pub fn serial<R: Registers>(
 {
     let lines = script.lines.as_slice();
     let Ok((mut records, mut ops, mut replies)) = prepare(alloc, &plan, lines.len()) else {
+        drop(plan);
         return Err(regs);
     };
     let mut journal = match Journal::open(alloc, lines.len() as u32, regs) {
         Ok(journal) => journal,
-        Err(regs) => return Err(regs),
+        Err(regs) => {
+            drop(plan);
+            drop(records);
+            return Err(regs);
+        }
     };
     let opening = run(
         &plan,
@@ -145,6 +150,7 @@ pub fn serial<R: Registers>(
         &mut journal,
         &mut replies,
     );
+    drop(records);
     let (entries, regs) = journal.finish();
     Ok(Driven {
         plan,

@@ -75,7 +75,8 @@ fn run<T: Threads + Wait + Sync, R: Registers + Send, G: Gate + Sync>(
         LeavesNone R.Registers (promise_of R.Registers key) (given_of R.Registers key) back) }
 {
     if seat_all(alloc, &coordinator, &mut first, lists, &mut workers).is_err() {
-        let (_, regs) = end(coordinator, first, workers).into_parts();
+        let (sealed, regs) = end(coordinator, first, workers).into_parts();
+        drop(sealed);
         return Err(regs);
     }
     work_all(rt, &coordinator, workers.as_mut_slice(), gate);
@@ -100,6 +101,7 @@ pub fn drive<T: Threads + Wait + Sync, R: Registers + Send, G: Gate + Sync>(
 {
     let lines = script.lines.as_slice();
     let Ok((lists, workers)) = prepare(alloc, &plan, lines) else {
+        drop(plan);
         return Err(regs);
     };
     match Coordinator::open(alloc, plan, regs, lines.len() as u32) {

@@ -15,7 +15,7 @@ pub returns-then-is_err-clause-given_back : goal.returns-then-is_err-clause-give
 returns-then-is_err-clause-given_back g c =
     let key = c.args.coordinator.table.shared.key in
     let by = g.R.Registers in
-    subst (LeavesNone by (promise_of by key) (given_of by key)) (sym (ap (λ p. p.1) c.into_parts-regs.ensures))
+    subst (LeavesNone by (promise_of by key) (given_of by key)) (sym (ap (λ p. p.1) c.into_parts-sealed.ensures))
     (leaves_none by (promise_of by key) (given_of by key) c.args.coordinator.table.shared.table_id c.args.lists.items c.seat_all.new.workers.items
     (view_in c.seat_all.new.first.badge.views) c.end.result.sealed.entries c.end.result.regs (c.seat_all.ensures.book ∙ c.requires.silent) c.seat_all.ensures.seated c.end.ensures.ends)
 
