@@ -1,7 +1,7 @@
 ghost use Rattle.std.specs.Prelude.{◌≡◌, ◌<◌, ◌≤◌, ◌^◌, length, IfOk, IsTrue};
-ghost use Rattle.aml_data.specs.inner.Reading.{Gives};
+ghost use Rattle.aml_data.specs.inner.Reading.{Gives, Tells};
 ghost use Rattle.aml_block.specs.Opcodes.{is_holder};
-ghost use Rattle.aml_block.specs.inner.Fronts.{with_terms, head_at};
+ghost use Rattle.aml_block.specs.inner.Fronts.{with_terms, registers_at, head_at};
 
 use crate::opcode::{DEVICE_OP, SCOPE_OP};
 use crate::parts::{read_double, read_named};
@@ -51,6 +51,17 @@ impl Front {
     }
 }
 
+/// The registers of a Processor, which stand behind its name, and the bytes after them.
+fn read_registers(bytes: &[u8], end: usize) -> Result<((u8, u32, u8), &[u8]), DataFault>
+    ensures value { Tells (λ x. ((x.0.0, (x.0.1, x.0.2)), x.1.now)) result (registers_at end bytes.now) }
+    ensures shorter { IfOk result (λ x. length x.1.now < length bytes.now) }
+{
+    let (id, rest) = byte_of(bytes, end)?;
+    let (block, rest) = read_double(rest, end)?;
+    let (length, rest) = byte_of(rest, end)?;
+    Ok(((id, block, length), rest))
+}
+
 /// What stands in front of the terms that a term of this opcode holds, and the bytes after it: a name, for
 /// a Device one with a segment, and for a Processor its registers too (ACPI 6.5, 20.2.5.1 and 20.2.5.2;
 /// ACPI 5.1, 20.2.5.2).
@@ -78,9 +89,7 @@ pub(crate) fn read_front(
         }
         _ => {
             let (path, rest) = read_named(alloc, bytes, end)?;
-            let (id, rest) = byte_of(rest, end)?;
-            let (block, rest) = read_double(rest, end)?;
-            let (length, rest) = byte_of(rest, end)?;
+            let ((id, block, length), rest) = read_registers(rest, end)?;
             let front = Front::Processor {
                 path,
                 id,

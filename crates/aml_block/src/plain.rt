@@ -2,12 +2,13 @@
 
 ghost use Rattle.std.specs.Prelude.{◌≡◌, ◌<◌, ◌≤◌, ◌^◌, length, IfOk};
 ghost use Rattle.aml_block.specs.inner.TermReading.{Gives, name_term_at, alias_at, external_at, mutex_at};
-ghost use Rattle.aml_block.specs.inner.TermReading.{event_at, region_at, unread_at};
+ghost use Rattle.aml_block.specs.inner.TermReading.{event_at, extent_at, region_at, unread_at};
+ghost use Rattle.aml_data.specs.inner.Reading.{Tells};
 
 use crate::parts::read_named;
 use crate::term::Term;
 use crate::term_fault::TermFault;
-use aml_data::{byte_of, constant_of, name_of, object_of, window_of};
+use aml_data::{DataFault, byte_of, constant_of, name_of, object_of, window_of};
 use pw_base::CompactList;
 use std::alloc::Global;
 
@@ -96,6 +97,19 @@ pub(crate) fn read_event(
     Ok((Term::Event { path }, rest))
 }
 
+/// The space, the offset and the length of an OperationRegion, which stand behind its name, and the bytes
+/// after them.
+fn read_extent(bytes: &[u8], end: usize) -> Result<((u8, u64, u64), &[u8]), DataFault>
+    requires { length bytes.now ≤ end }
+    ensures value { Tells (λ x. ((x.0.0, (x.0.1, x.0.2)), x.1.now)) result (extent_at end bytes.now) }
+    ensures shorter { IfOk result (λ x. length x.1.now < length bytes.now) }
+{
+    let (space, rest) = byte_of(bytes, end)?;
+    let (offset, rest) = constant_of(rest, end)?;
+    let (length, rest) = constant_of(rest, end)?;
+    Ok(((space, offset, length), rest))
+}
+
 /// The name, the space, the offset and the length of an OperationRegion, and the bytes after them.
 #[tactic(auto, unfolding(crate::specs::inner::TermReading::region_at))]
 pub(crate) fn read_region(
@@ -109,9 +123,7 @@ pub(crate) fn read_region(
     ensures shorter { IfOk result (λ x. length x.1.now < length bytes.now) }
 {
     let (path, rest) = name_of(alloc, bytes, end)?;
-    let (space, rest) = byte_of(rest, end)?;
-    let (offset, rest) = constant_of(rest, end)?;
-    let (length, rest) = constant_of(rest, end)?;
+    let ((space, offset, length), rest) = read_extent(rest, end)?;
     let term = Term::Region {
         path,
         space,

@@ -20,9 +20,13 @@ abbrev pub made : {A B : Type 0} → (A → B) → Read A → Read B
 made make (Ok x) = Ok (make x.0, x.1)
 made make (Err fault) = Err fault
 
+-- the registers of a Processor, behind its name
+abbrev pub registers_at : ℕ → List ℕ → Read (ℕ × (ℕ × ℕ))
+registers_at end bytes = both_at byte_at (both_at double_at byte_at) end bytes
+
 -- what stands in front of the terms in a Processor
 abbrev pub processor_at : ℕ → List ℕ → Read (Path × (ℕ × (ℕ × ℕ)))
-processor_at end bytes = both_at named_at (both_at byte_at (both_at double_at byte_at)) end bytes
+processor_at end bytes = both_at named_at registers_at end bytes
 
 -- what stands in front of the terms that a term of this opcode holds, as the term that it makes of them
 unfoldable pub head_at : ℕ → ℕ → List ℕ → Read (List Term → Term)

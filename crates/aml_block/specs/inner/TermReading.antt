@@ -51,9 +51,12 @@ mutex_at end bytes = term_of (λ v. Mutex v.0 v.1) (both_at name_at byte_at end 
 unfoldable pub event_at : ℕ → List ℕ → Read Term
 event_at end bytes = term_of (λ path. Event path) (name_at end bytes)
 
+-- the space, the offset and the length of a region
+abbrev pub extent_at : ℕ → List ℕ → ReadPart (ℕ × (ℕ × ℕ))
+extent_at end bytes = both_at byte_at (both_at constant_at constant_at) end bytes
+
 unfoldable pub region_at : ℕ → List ℕ → Read Term
-region_at end bytes = term_of
-    (λ v. Region v.0 v.1.0 v.1.1.0 v.1.1.1) (both_at name_at (both_at byte_at (both_at constant_at constant_at)) end bytes)
+region_at end bytes = term_of (λ v. Region v.0 v.1.0 v.1.1.0 v.1.1.1) (both_at name_at extent_at end bytes)
 
 unfoldable pub unread_at : ℕ → ℕ → List ℕ → Read Term
 unread_at opcode end bytes = term_of (λ body. Unread opcode body) (window_at end bytes)
