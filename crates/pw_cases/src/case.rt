@@ -200,17 +200,16 @@ impl Case {
         gate: &G,
     ) -> Option<&'static str> {
         let regs = self.outside.regs(alloc).ok()?;
-        let Given {
-            mut files,
-            mut out,
-            mut err,
-        } = self.given(alloc)?;
+        let mut given = self.given(alloc)?;
         let words = self.words.as_slice();
-        let outcome = run(rt, alloc, words, &mut files, &mut out, &mut err, regs, gate);
+        let (files, out, err) = (&mut given.files, &mut given.out, &mut given.err);
+        let outcome = run(rt, alloc, words, files, out, err, regs, gate);
+        let told = self.told_by(self.is_made(alloc), &given, &outcome.regs);
         if outcome.status != status {
-            return Some("another status");
+            Some("another status")
+        } else {
+            told
         }
-        self.told_by(self.is_made(alloc), &out, &err, &outcome.regs)
     }
 
     /// The files and the outputs of a run.
@@ -233,15 +232,14 @@ impl Case {
     fn told_by(
         &self,
         is_made: Option<bool>,
-        out: &MemorySink,
-        err: &MemorySink,
+        given: &Given,
         regs: &FailingRegisters,
     ) -> Option<&'static str> {
         Some(if !is_made? {
             "another block is generated"
-        } else if out.written() != first_of(self.out.as_slice(), self.out_first) {
+        } else if given.out.written() != first_of(self.out.as_slice(), self.out_first) {
             "another output"
-        } else if err.written() != first_of(self.err.as_slice(), self.err_first) {
+        } else if given.err.written() != first_of(self.err.as_slice(), self.err_first) {
             "another line"
         } else if self.ops.is_some_and(|ops| regs.log().len() != ops as usize) {
             "other operations"

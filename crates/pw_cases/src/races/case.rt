@@ -1,5 +1,5 @@
 use crate::races::told::{put_audit, put_counts, put_text};
-use pw_base::{List, OpenGate};
+use pw_base::{Gate, List, OpenGate};
 use pw_machines::{plan_of, request_of, u32_at, word_at};
 use pw_played::{Meeting, Played, play, play_alone};
 use pw_regs::FailingRegisters;
@@ -32,6 +32,30 @@ pub(crate) fn registers(alloc: Global, room: u32, fail: u32) -> Option<FailingRe
     FailingRegisters::new(alloc, room, fails).ok()
 }
 
+/// A run by one caller.
+fn by_one(alloc: Global, machine: &str, script: &Script, fail: u32) -> Option<Played> {
+    let regs = registers(alloc, ROOM, fail)?;
+    play_alone(alloc, plan_of(alloc, machine).ok()?, script, regs)
+}
+
+/// A run by workers, whose requests ask at a gate.
+fn by_workers<R: Threads + Wait + Sync, G: Gate + Sync>(
+    rt: &R,
+    alloc: Global,
+    machine: &str,
+    script: &Script,
+    fail: u32,
+    gate: &G,
+) -> Option<Played> {
+    let regs = registers(alloc, ROOM, fail)?;
+    play(rt, alloc, plan_of(alloc, machine).ok()?, script, regs, gate)
+}
+
+/// Whether two runs have one text and as many operations.
+fn are_same(one: &Played, other: &Played) -> bool {
+    one.text.written() == other.text.written() && one.operations == other.operations
+}
+
 /// A run of one processor's lines, whose text and registers must be those of one caller.
 fn alone<R: Threads + Wait + Sync>(
     rt: &R,
@@ -41,18 +65,11 @@ fn alone<R: Threads + Wait + Sync>(
     script: &Script,
     fail: u32,
 ) -> Option<Played> {
-    let plan = plan_of(alloc, machine).ok()?;
-    let one = play_alone(alloc, plan, script, registers(alloc, ROOM, fail)?)?;
-    let plan = plan_of(alloc, machine).ok()?;
-    let played = play(
-        rt,
-        alloc,
-        plan,
-        script,
-        registers(alloc, ROOM, fail)?,
-        &OpenGate,
-    )?;
-    if one.text.written() != played.text.written() || one.operations != played.operations {
+    let one = by_one(alloc, machine, script, fail)?;
+    let played = by_workers(rt, alloc, machine, script, fail, &OpenGate)?;
+    let same = are_same(&one, &played);
+    drop(one);
+    if !same {
         text.push_str("one caller's run is another\n").ok()?;
     }
     Some(played)
@@ -68,9 +85,7 @@ fn met<R: Threads + Wait + Sync>(
     fail: u32,
     gate: &Meeting,
 ) -> Option<Played> {
-    let plan = plan_of(alloc, machine).ok()?;
-    let regs = registers(alloc, ROOM, fail)?;
-    let played = play(rt, alloc, plan, script, regs, gate)?;
+    let played = by_workers(rt, alloc, machine, script, fail, gate)?;
     if gate.gave_up() {
         text.push_str("the gate gave up\n").ok()?;
     }
@@ -85,8 +100,7 @@ fn summed(
     script: &Script,
     fail: u32,
 ) -> Option<Played> {
-    let plan = plan_of(alloc, machine).ok()?;
-    let played = play_alone(alloc, plan, script, registers(alloc, ROOM, fail)?)?;
+    let played = by_one(alloc, machine, script, fail)?;
     put_text(text, played.text.written())?;
     if let Some(summary) = &played.summary {
         put_text(text, summary.written())?;

@@ -71,31 +71,89 @@ fn ended_at(played: &Played, call: u32) -> bool {
     played.operations.checked_add(1) == Some(call as usize)
 }
 
+/// One more where a test holds.
+fn counted(count: u32, holds: bool) -> u32 {
+    count.saturating_add(u32::from(holds))
+}
+
+/// How many runs are lawful, have an entry for each line, and one caller's summary.
+#[derive(Clone, Copy)]
+struct Tally {
+    lawful: u32,
+    whole: u32,
+    same: u32,
+}
+
+/// Makes so many runs, and counts them.
+fn tally_runs<R: Threads + Wait + Sync>(
+    rt: &R,
+    alloc: Global,
+    trial: &Trial,
+    times: u32,
+    summary: &[u8],
+) -> Option<Tally> {
+    let lines = trial.script.lines.as_slice().len();
+    let (mut lawful, mut whole, mut same) = (0, 0, 0);
+    for _run in 0..times {
+        let played = trial.run(rt, alloc, 0)?;
+        lawful = counted(lawful, trial.is_lawful(alloc, &played));
+        whole = counted(whole, played.entries == lines);
+        same = counted(same, has_summary(&played, summary));
+    }
+    Some(Tally {
+        lawful,
+        whole,
+        same,
+    })
+}
+
+/// Makes runs in each of which a register fails at another call, and counts those that are lawful, and those
+/// that end with that fault.
+fn tally_faults<R: Threads + Wait + Sync>(
+    rt: &R,
+    alloc: Global,
+    trial: &Trial,
+    fails: &[u32],
+) -> Option<(u32, u32)> {
+    let (mut lawful, mut ended) = (0, 0);
+    for fail in fails {
+        let played = trial.run(rt, alloc, *fail)?;
+        let ends = played.summary.is_none() && ended_at(&played, *fail);
+        lawful = counted(lawful, trial.is_lawful(alloc, &played));
+        ended = counted(ended, ends);
+    }
+    Some((lawful, ended))
+}
+
+/// Tells what came of so many runs.
+fn put_tally(text: &mut String, trial: &Trial, times: u32, tally: Tally) -> Option<()> {
+    let Tally {
+        lawful,
+        whole,
+        same,
+    } = tally;
+    let (size, lines) = (trial.containers, trial.script.lines.as_slice().len());
+    write!(text, "{times} runs of {size} containers: {lawful} lawful, ").ok()?;
+    writeln!(
+        text,
+        "{whole} with {lines} entries, {same} with one summary"
+    )
+    .ok()
+}
+
 /// How many of so many runs are lawful, have an entry for each line, and the summary of one caller's
 /// run; and that summary.
 pub(crate) fn put_runs<R: Threads + Wait + Sync>(
     rt: &R,
     text: &mut String,
     alloc: Global,
-    size: u32,
+    containers: u32,
     times: u32,
 ) -> Option<()> {
-    let trial = Trial::new(alloc, size)?;
-    let lines = trial.script.lines.as_slice().len();
+    let trial = Trial::new(alloc, containers)?;
     let summary = trial.summary(alloc)?;
-    let (mut lawful, mut whole, mut same) = (0u32, 0u32, 0u32);
-    for _run in 0..times {
-        let played = trial.run(rt, alloc, 0)?;
-        lawful = lawful.saturating_add(u32::from(trial.is_lawful(alloc, &played)));
-        whole = whole.saturating_add(u32::from(played.entries == lines));
-        same = same.saturating_add(u32::from(has_summary(&played, summary.written())));
-    }
-    write!(text, "{times} runs of {size} containers: {lawful} lawful, ").ok()?;
-    writeln!(
-        text,
-        "{whole} with {lines} entries, {same} with one summary"
-    )
-    .ok()?;
+    let tally = tally_runs(rt, alloc, &trial, times, summary.written())?;
+    put_tally(text, &trial, times, tally)?;
     put_text(text, summary.written())
 }
 
@@ -109,13 +167,7 @@ pub(crate) fn put_faults<R: Threads + Wait + Sync>(
     fails: &[u32],
 ) -> Option<()> {
     let trial = Trial::new(alloc, containers)?;
-    let (mut lawful, mut ended) = (0u32, 0u32);
-    for fail in fails {
-        let played = trial.run(rt, alloc, *fail)?;
-        let ends = played.summary.is_none() && ended_at(&played, *fail);
-        lawful = lawful.saturating_add(u32::from(trial.is_lawful(alloc, &played)));
-        ended = ended.saturating_add(u32::from(ends));
-    }
+    let (lawful, ended) = tally_faults(rt, alloc, &trial, fails)?;
     let times = fails.len();
     write!(
         text,
