@@ -7,7 +7,6 @@ use crate::replay::{Heard, all_agree};
 use crate::seats::{Shared, gathered};
 use crate::text::{put_entries, put_open_fault};
 use pw_machines::{plan_of, u32_at};
-use pw_plan::Plan;
 use pw_regs::FailingRegisters;
 use pw_turns::{Closed, Coordinator, Counted, Keeps, Seat};
 use std::alloc::Global;
@@ -138,7 +137,7 @@ fn opened<R: Threads + Wait + Sync>(
     rt: &R,
     text: &mut String,
     alloc: Global,
-    plan: Plan,
+    machine: &str,
     opening: &str,
     lines: &str,
 ) -> Option<()> {
@@ -147,6 +146,7 @@ fn opened<R: Threads + Wait + Sync>(
         return None;
     }
     let regs = registers_of(alloc, opening)?;
+    let plan = plan_of(alloc, machine).ok()?;
     let mut seats = Vec::with_capacity(alloc, MOST_SEATS).ok()?;
     match Coordinator::open(alloc, plan, regs, capacity) {
         Err(why) => put_open_fault(text, &why),
@@ -164,11 +164,12 @@ fn opened_endless<R: Threads + Wait + Sync>(
     rt: &R,
     text: &mut String,
     alloc: Global,
-    plan: Plan,
+    machine: &str,
     opening: &str,
     lines: &str,
 ) -> Option<()> {
     let regs = registers_of(alloc, opening)?;
+    let plan = plan_of(alloc, machine).ok()?;
     let mut seats = Vec::with_capacity(alloc, MOST_SEATS).ok()?;
     match Coordinator::open_endless(alloc, plan, regs) {
         Err(why) => put_open_fault(text, &why),
@@ -184,14 +185,13 @@ fn opened_endless<R: Threads + Wait + Sync>(
 /// What the calls of a case tell.
 pub(crate) fn told<R: Threads + Wait + Sync>(rt: &R, alloc: Global, lines: &str) -> Option<String> {
     let (machine, calls) = lines.split_once("\nopen ")?;
-    let plan = plan_of(alloc, machine).ok()?;
     let mut text = String::new(alloc);
     let (opening, lines) = calls.split_once("\n").unwrap_or((calls, ""));
     write!(&mut text, "  open {opening} -> ").ok()?;
     if opening.starts_with("endless ") {
-        opened_endless(rt, &mut text, alloc, plan, opening, lines)?;
+        opened_endless(rt, &mut text, alloc, machine, opening, lines)?;
     } else {
-        opened(rt, &mut text, alloc, plan, opening, lines)?;
+        opened(rt, &mut text, alloc, machine, opening, lines)?;
     }
     Some(text)
 }

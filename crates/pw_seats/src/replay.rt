@@ -46,20 +46,22 @@ fn heard_last(entries: &[HistoryEntry], seat: u32, heard: &[Heard]) -> Option<Re
     Some(last.reply)
 }
 
-/// Whether each entry but a fault was answered what one caller alone is answered who makes the same
-/// requests in this order. Each seat heard its replies in the order of its entries.
-pub(crate) fn all_agree(
+/// Whether each entry but a fault was answered what one caller alone is answered in this state who makes the
+/// same requests in this order. Each seat heard its replies in the order of its entries.
+fn agree_from(
     alloc: Global,
     plan: &Plan,
+    state: &mut State,
+    ops: &mut Ops,
     entries: &[HistoryEntry],
     heard: &[Heard],
-) -> Option<bool> {
-    let mut state = State::open(alloc, plan).ok()?;
-    let mut ops = Ops::new(alloc, ROOM).ok()?;
+) -> Option<bool>
+    requires { IsState plan.now state.old }
+{
     for place in 0..entries.len() {
         let entry = entries[place];
         if entry.fault == 0 {
-            let reply = answered(plan, &mut state, request_in(&entry)?, &mut ops)?;
+            let reply = answered(plan, state, request_in(&entry)?, ops)?;
             let told = heard_last(&entries[..place], entry.seat, heard)?;
             if !are_alike(alloc, &told, &reply)? {
                 return Some(false);
@@ -67,4 +69,16 @@ pub(crate) fn all_agree(
         }
     }
     Some(true)
+}
+
+/// The same from the state that the plan opens with.
+pub(crate) fn all_agree(
+    alloc: Global,
+    plan: &Plan,
+    entries: &[HistoryEntry],
+    heard: &[Heard],
+) -> Option<bool> {
+    let mut ops = Ops::new(alloc, ROOM).ok()?;
+    let mut state = State::open(alloc, plan).ok()?;
+    agree_from(alloc, plan, &mut state, &mut ops, entries, heard)
 }

@@ -5,7 +5,6 @@ use crate::desk::play::play;
 use crate::desk::replay::{are_in_order, are_of};
 use crate::desk::seats::{Desk, gathered};
 use crate::desk::text::put_entry;
-use pw_cppc::CppcPlan;
 use pw_cppc_desk::{CppcClosed, CppcDesk, CppcOpenFault, CppcSeat};
 use pw_machines::u32_at;
 use pw_regs::FailingRegisters;
@@ -112,7 +111,7 @@ fn opened<R: Threads + Wait + Sync>(
     rt: &R,
     text: &mut String,
     alloc: Global,
-    plan: CppcPlan,
+    machine: &str,
     calls: &str,
 ) -> Option<()> {
     let (opening, lines) = calls.split_once("\n").unwrap_or((calls, ""));
@@ -120,9 +119,10 @@ fn opened<R: Threads + Wait + Sync>(
     if capacity > 65536 {
         return None;
     }
-    let regs = registers_of(alloc, opening)?;
-    let mut seats = Vec::with_capacity(alloc, MOST_SEATS).ok()?;
     write!(text, "  open {opening} -> ").ok()?;
+    let regs = registers_of(alloc, opening)?;
+    let plan = plan_of(alloc, machine)?;
+    let mut seats = Vec::with_capacity(alloc, MOST_SEATS).ok()?;
     match CppcDesk::open(alloc, plan, regs, capacity) {
         Err(why) => put_open_fault(text, &why),
         Ok((desk, seat)) => {
@@ -137,8 +137,7 @@ fn opened<R: Threads + Wait + Sync>(
 /// What the calls of a case tell.
 pub(crate) fn told<R: Threads + Wait + Sync>(rt: &R, alloc: Global, lines: &str) -> Option<String> {
     let (machine, calls) = lines.split_once("\nopen ")?;
-    let plan = plan_of(alloc, machine)?;
     let mut text = String::new(alloc);
-    opened(rt, &mut text, alloc, plan, calls)?;
+    opened(rt, &mut text, alloc, machine, calls)?;
     Some(text)
 }

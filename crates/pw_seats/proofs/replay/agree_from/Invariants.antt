@@ -1,5 +1,5 @@
 use Rattle.pw_model.specs.States.{IsState}
-use Rattle.pw_seats.proofs.replay.all_agree.Given as goal
+use Rattle.pw_seats.proofs.replay.agree_from.Given as goal
 
 abbrev pub invariant-loop-place : goal.invariant-loop-place
 invariant-loop-place l = IsState l.plan l.state
