@@ -88,7 +88,7 @@ fn read_lines(alloc: Global, bytes: &[u8], plan: &CppcPlan) -> Result<Vec<CppcLi
 /// The script that these bytes spell. A fault is the first of these: there are more than 4,194,304
 /// bytes; more than 65,536 lines; a bad line; with those at the start more operations than 1,048,576
 /// may come about.
-#[tactic(auto, using(crate::proofs::Refusing::long_is_none, crate::proofs::Refusing::line_is_none, crate::proofs::Refusing::much_is_none))]
+#[tactic(auto, using(crate::proofs::Refusing::line_is_none, crate::proofs::Refusing::much_is_none))]
 pub fn cppc_parse(alloc: Global, bytes: &[u8], plan: &CppcPlan) -> Result<CppcScript, ScriptFault>
     ensures script { IfOk result (λ s. IsScript plan.now bytes.now s.lines) }
     ensures fit { IfOk result (λ s. Fit plan.now s.lines) }
