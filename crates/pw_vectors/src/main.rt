@@ -2,10 +2,9 @@
 //! object, the width of integers, its bytes, and what they are read as; where `=` stands between them,
 //! that is written as the same bytes. One line a vector says whether it came out so. `data/places.txt` lists
 //! good tables, and what is read of each where one place or two of it are changed; a line says of a table
-//! whether each came out so. Tests call the crates below these, once each.
+//! whether each came out so. Last come calls of the crates below these, once each, a line for each call.
 #![tactic(auto)]
 
-#[cfg(test)]
 mod calls;
 mod fields;
 mod objects;
@@ -14,6 +13,7 @@ mod tables;
 mod told;
 mod vector;
 
+use calls::print_calls;
 use places::table_came;
 use std::{fs, io};
 use vector::came;
@@ -48,5 +48,6 @@ fn print_tables(rt: &HostRuntime) -> io::Result<()> {
 
 fn main(rt: HostRuntime) -> io::Result<()> {
     print_vectors(&rt)?;
-    print_tables(&rt)
+    print_tables(&rt)?;
+    print_calls(&rt)
 }

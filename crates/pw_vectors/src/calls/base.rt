@@ -1,56 +1,72 @@
-use pw_base::*;
-use std::test::Fail;
+//! What crosses threads, and a system's files and outputs.
+
+use pw_base::{Boxed, CompactList, Failed, Files, Sink, StdFiles, StdSink, put_all};
+use std::alloc::Global;
 use std::{env, fs, process};
 
 // Whether a value and a `&` to it may go to another thread.
 fn may_cross<T: Send + Sync>(_value: &T) {}
 
-#[test]
-fn lists_and_boxes_cross_threads(rt: HostRuntime) -> Result<(), Fail> {
-    let bytes = CompactList::from_slice(rt.alloc(), &[1u8, 2])?;
+/// Whether lists and boxes cross threads.
+pub(crate) fn lists_and_boxes(alloc: Global) -> Option<bool> {
+    let bytes = CompactList::from_slice(alloc, &[1u8, 2]).ok()?;
     may_cross(&bytes);
-    let lists = CompactList::from_vec(rt.alloc(), vec![in rt.alloc(); bytes]?)?;
+    let lists = CompactList::from_vec(alloc, vec![in alloc; bytes].ok()?).ok()?;
     may_cross(&lists);
-    let boxed = Boxed::new(rt.alloc(), lists)?;
+    let boxed = Boxed::new(alloc, lists).ok()?;
     may_cross(&boxed);
-    assert_eq!(rt; boxed.into_inner().as_slice().len(), 1);
-    Ok(())
+    Some(boxed.into_inner().as_slice().len() == 1)
 }
 
-/// How many bytes a file of the system gives from a place on, and the first of them.
-fn read_at<F: Files>(files: &mut F, name: &str, at: u64) -> (Result<usize, Failed>, [u8; 4]) {
+/// Whether a file gives so many bytes from a place on, and these at first.
+fn gives<F: Files>(files: &mut F, name: &str, at: u64, len: usize, first: [u8; 4]) -> bool {
     let mut buf = [0u8; 4];
-    let read = files.read(name, at, &mut buf);
-    (read, buf)
+    files.read(name, at, &mut buf) == Ok(len) && buf == first
 }
 
-#[test]
-fn system_files_are_read_in_turn_and_from_a_place(rt: HostRuntime) -> Result<(), Fail> {
-    let mut path = env::temp_dir(&rt)?;
-    let id = process::id(rt.process());
-    path.push(format!(in rt.alloc(); "pw_base_std_files_{id}")?)?;
-    let name = path.as_str();
-    fs::write(&rt, path.as_path(), b"abcdef".as_slice())?;
+/// Whether a file can't be read.
+fn fails<F: Files>(files: &mut F, name: &str) -> bool {
+    files.read(name, 0, &mut [0u8; 4]) == Err(Failed)
+}
+
+/// Whether these files read `abcdef` in turn and from a place, and none that isn't there.
+fn are_first<F: Files>(files: &mut F, name: &str) -> bool {
+    gives(files, name, 0, 4, *b"abcd")
+        && gives(files, name, 4, 2, *b"ef\x00\x00")
+        && gives(files, name, 6, 0, [0; 4])
+        && gives(files, name, 1, 4, *b"bcde")
+        && fails(files, "/no such folder/no such file")
+        && fails(files, "/")
+}
+
+/// Whether a file is read as it is written, again where it is written anew, and not once it is gone.
+fn are_read(rt: HostRuntime, name: &str) -> Option<bool> {
     let mut files = StdFiles::new(rt, rt.alloc());
-    assert!(rt; read_at(&mut files, name, 0) == (Ok(4), *b"abcd"));
-    assert!(rt; read_at(&mut files, name, 4) == (Ok(2), *b"ef\x00\x00"));
-    assert!(rt; read_at(&mut files, name, 6).0 == Ok(0));
-    assert!(rt; read_at(&mut files, name, 1) == (Ok(4), *b"bcde"));
-    assert!(rt; read_at(&mut files, "/no such folder/no such file", 0).0 == Err(Failed));
-    assert!(rt; read_at(&mut files, "/", 0).0 == Err(Failed));
-    fs::write(&rt, path.as_path(), b"uvwx".as_slice())?;
-    assert!(rt; read_at(&mut files, name, 0) == (Ok(4), *b"uvwx"));
-    fs::remove_file(&rt, path.as_path())?;
-    assert!(rt; read_at(&mut files, name, 0).0 == Err(Failed));
-    Ok(())
+    fs::write(&rt, name, b"abcdef".as_slice()).ok()?;
+    let came = are_first(&mut files, name);
+    fs::write(&rt, name, b"uvwx".as_slice()).ok()?;
+    let came = came && gives(&mut files, name, 0, 4, *b"uvwx");
+    fs::remove_file(&rt, name).ok()?;
+    Some(came && fails(&mut files, name))
 }
 
-#[test]
-fn system_sinks_take_bytes(rt: HostRuntime) -> Result<(), Fail> {
-    for sink in [StdSink::stdout(rt.stdout()), StdSink::stderr(rt.stderr())] {
-        let mut sink = sink;
-        assert_eq!(rt; put_all(&mut sink, b"a line\n"), Ok(()));
-        assert_eq!(rt; sink.write(b""), Ok(0));
-    }
-    Ok(())
+/// Whether a system's files are read in turn and from a place.
+pub(crate) fn system_files(rt: HostRuntime) -> Option<bool> {
+    let mut path = env::temp_dir(&rt).ok()?;
+    let id = process::id(rt.process());
+    path.push(format!(in rt.alloc(); "pw_base_std_files_{id}").ok()?)
+        .ok()?;
+    are_read(rt, path.as_str())
+}
+
+/// Whether a system's output takes a line.
+fn takes(mut sink: StdSink) -> bool {
+    put_all(&mut sink, b"a line\n") == Ok(()) && sink.write(b"") == Ok(0)
+}
+
+/// Whether a system's outputs take bytes.
+pub(crate) fn system_sinks(rt: HostRuntime) -> Option<bool> {
+    let is_out = takes(StdSink::stdout(rt.stdout()));
+    let is_err = takes(StdSink::stderr(rt.stderr()));
+    Some(is_out && is_err)
 }

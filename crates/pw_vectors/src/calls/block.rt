@@ -5,9 +5,8 @@ use aml_block::{
     parse, read, read_all, terms_of, write, written_terms_len,
 };
 use aml_data::Width;
-use pw_base::{Memory, MemoryFile, MemoryFiles, MemorySink};
+use pw_base::{MemoryFile, MemoryFiles, MemorySink};
 use std::alloc::Global;
-use std::test::*;
 
 /// A block of one Name: `_PPC` is 0.
 const NAMED: [u8; 42] = [
@@ -26,53 +25,49 @@ fn are_written(alloc: Global, terms: &[Term], bytes: &[u8]) -> bool {
         && out.as_slice() == bytes
 }
 
-#[test]
-fn terms_are_read_and_written(rt: HostRuntime) -> Result<(), Fail> {
+/// Whether terms are read, and written again.
+pub(crate) fn terms(alloc: Global) -> Option<bool> {
     let bytes = b"\x08_PPC\x01";
-    let terms = terms_of(rt.alloc(), bytes, 6)
-        .ok()
-        .ok_or("the bytes are a term")?;
-    assert!(rt; are_written(rt.alloc(), terms.as_slice(), bytes));
-    Ok(())
+    let terms = terms_of(alloc, bytes, 6).ok()?;
+    Some(are_written(alloc, terms.as_slice(), bytes))
 }
 
 /// Whether a block is written as `NAMED`, whole and into a sink.
-fn is_written(alloc: Global, block: &Block) -> Result<bool, Memory> {
+fn is_written(alloc: Global, block: &Block) -> Option<bool> {
     if !is_writable_block(block) {
-        return Ok(false);
+        return Some(false);
     }
-    let mut sink = MemorySink::new(alloc, 100, Vec::new(alloc), 7)?;
+    let mut sink = MemorySink::new(alloc, 100, Vec::new(alloc), 7).ok()?;
     let is_sunk = write(alloc, block, &mut sink).is_ok() && sink.written() == NAMED.as_slice();
-    Ok(is_sunk && encode_block(alloc, block)?.as_slice() == NAMED.as_slice())
+    let bytes = encode_block(alloc, block).ok()?;
+    Some(is_sunk && bytes.as_slice() == NAMED.as_slice())
 }
 
-#[test]
-fn a_block_is_read_and_written(rt: HostRuntime) -> Result<(), Fail> {
-    let block = parse(rt.alloc(), &NAMED)
-        .ok()
-        .ok_or("the bytes are a block")?;
-    let is_same = is_written(rt.alloc(), &block)?;
-    assert!(rt; is_same && block.header.signature == Signature::Ssdt);
-    assert!(rt; block.own_width() == Width::W64);
-    Ok(())
+/// Whether a block is read, and written again.
+pub(crate) fn block(alloc: Global) -> Option<bool> {
+    let block = parse(alloc, &NAMED).ok()?;
+    let is_read = block.header.signature == Signature::Ssdt && block.own_width() == Width::W64;
+    Some(is_read && is_written(alloc, &block)?)
 }
 
 /// The file `one.aml`, of which a read gives seven bytes.
-fn file_of(alloc: Global) -> Result<MemoryFiles, Memory> {
+fn file_of(alloc: Global) -> Option<MemoryFiles> {
     let mut files = Vec::new(alloc);
-    let name = String::from_str(alloc, "one.aml")?;
-    files.push(MemoryFile::new(name, Vec::from_slice(alloc, &NAMED)?))?;
-    Ok(MemoryFiles::new(files, Vec::new(alloc), 7))
+    let name = String::from_str(alloc, "one.aml").ok()?;
+    files
+        .push(MemoryFile::new(name, Vec::from_slice(alloc, &NAMED).ok()?))
+        .ok()?;
+    Some(MemoryFiles::new(files, Vec::new(alloc), 7))
 }
 
-#[test]
-fn a_file_is_read(rt: HostRuntime) -> Result<(), Fail> {
-    let block = read(rt.alloc(), &mut file_of(rt.alloc())?, "one.aml").ok();
-    assert_eq!(rt;
-        block.ok_or("the file is a block")?.terms.as_slice().len(),
-        1
-    );
-    let bytes = read_all(rt.alloc(), &mut file_of(rt.alloc())?, "one.aml", 10).ok();
-    assert_eq!(rt; bytes.ok_or("the file is read")?.as_slice(), &NAMED[..10]);
-    Ok(())
+/// Whether the block of a file is read.
+pub(crate) fn block_of_a_file(alloc: Global) -> Option<bool> {
+    let block = read(alloc, &mut file_of(alloc)?, "one.aml").ok()?;
+    Some(block.terms.as_slice().len() == 1)
+}
+
+/// Whether so many bytes of a file are read.
+pub(crate) fn start_of_a_file(alloc: Global) -> Option<bool> {
+    let bytes = read_all(alloc, &mut file_of(alloc)?, "one.aml", 10).ok()?;
+    Some(bytes.as_slice() == &NAMED[..10])
 }

@@ -1,34 +1,39 @@
+//! Constants and lengths (ACPI 6.5, 20.2.3 and 20.2.4).
+
 use aml_data::{
     byte_of, constant_len, constant_of, decode_constant, decode_length, encode_constant,
     encode_length, length_len, length_of, window_of,
 };
-use std::test::*;
+use std::alloc::Global;
 
-#[test]
-fn constants_and_lengths_are_read_at_a_place(rt: HostRuntime) {
-    assert_eq!(rt; decode_constant(&[0x0A, 0x05, 0x5B, 0x30], 0), Ok((5, 2)));
-    assert_eq!(rt; decode_length(&[0x12, 0x43, 0x00, 0x00], 1), Ok((4, 2)));
+/// Whether constants and lengths are read at a place.
+pub(crate) fn parts_at_a_place() -> Option<bool> {
+    let is_read = decode_constant(&[0x0A, 0x05, 0x5B, 0x30], 0) == Ok((5, 2));
+    Some(is_read && decode_length(&[0x12, 0x43, 0x00, 0x00], 1) == Ok((4, 2)))
 }
 
-#[test]
-fn constants_and_lengths_are_written(rt: HostRuntime) -> Result<(), Fail> {
-    let mut out = Vec::new(rt.alloc());
-    encode_constant(rt.alloc(), 256, &mut out)?;
-    encode_length(rt.alloc(), 63, &mut out)?;
-    assert_eq!(rt; out.as_slice(), [0x0B, 0x00, 0x01, 0x41, 0x04].as_slice());
-    assert_eq!(rt; (constant_len(256), length_len(63)), (3, 2));
-    Ok(())
+/// Whether constants and lengths are written.
+pub(crate) fn parts_written(alloc: Global) -> Option<bool> {
+    let mut out = Vec::new(alloc);
+    encode_constant(alloc, 256, &mut out).ok()?;
+    encode_length(alloc, 63, &mut out).ok()?;
+    let is_written = out.as_slice() == [0x0B, 0x00, 0x01, 0x41, 0x04].as_slice();
+    Some(is_written && constant_len(256) == 3 && length_len(63) == 2)
 }
 
-#[test]
-fn parts_in_front(rt: HostRuntime) -> Result<(), Fail> {
-    let bytes = [0x0A, 0x05, 0x01];
-    let (lead, rest) = byte_of(&bytes, 9)?;
-    assert_eq!(rt; (lead, rest.len()), (0x0A, 2));
-    let (number, rest) = constant_of(&bytes, 9)?;
-    assert_eq!(rt; (number, rest.len()), (5, 1));
-    let (inside, after) = window_of(&[0x03, 0x07, 0x08, 0x09], 10)?;
-    assert_eq!(rt; (inside.len(), after.len()), (2, 1));
-    assert_eq!(rt; length_of(&[0x42, 0x00, 0x08], 10)?.0, 0);
-    Ok(())
+/// Whether a byte and a constant in front of bytes are read.
+fn is_number_in_front(bytes: &[u8]) -> bool {
+    matches!(byte_of(bytes, 9), Ok((0x0A, rest)) if rest.len() == 2)
+        && matches!(constant_of(bytes, 9), Ok((5, rest)) if rest.len() == 1)
+}
+
+/// Whether a length in front of bytes is read, and parts them.
+fn is_length_in_front() -> bool {
+    matches!(window_of(&[0x03, 0x07, 0x08, 0x09], 10), Ok((inside, rest)) if inside.len() == 2 && rest.len() == 1)
+        && matches!(length_of(&[0x42, 0x00, 0x08], 10), Ok((0, _)))
+}
+
+/// Whether constants and lengths in front of bytes are read.
+pub(crate) fn parts_in_front() -> Option<bool> {
+    Some(is_number_in_front(&[0x0A, 0x05, 0x01]) && is_length_in_front())
 }
