@@ -1,5 +1,4 @@
 //! How a program calls the shared coordinator from threads of its own.
-#![tactic(auto)]
 
 ghost use Rattle.std.specs.Prelude.{◌≡◌};
 ghost use Rattle.std.specs.Thread.{IsSync};
@@ -77,11 +76,15 @@ fn prepare(alloc: Global) -> Option<(Plan, RegisterFile)> {
     Some((plan, regs))
 }
 
-fn main(rt: HostRuntime) -> io::Result<()> {
+/// Tells how many requests the closed history has, and how many operations were done.
+pub(crate) fn print_pair<T: Threads + Wait + Sync>(
+    rt: &HostRuntime,
+    threads: &T,
+) -> io::Result<()> {
     let Some((plan, regs)) = prepare(rt.alloc()) else {
         return println!(rt; "no memory");
     };
-    match pair(&rt, rt.alloc(), plan, regs) {
+    match pair(threads, rt.alloc(), plan, regs) {
         Ok(closed) => println!(rt;
             "{} requests, {} operations",
             closed.sealed().entries().len(),
