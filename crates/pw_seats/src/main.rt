@@ -47,7 +47,28 @@ fn told<T: Threads + Wait + Sync>(
     }
 }
 
-/// Prints what each case of a list tells behind its name.
+/// Prints what a case told behind its name.
+fn print_told(rt: &HostRuntime, name: &str, told: Option<String>) -> io::Result<()> {
+    match told {
+        None => println!(rt; "{name}: can't be read, or want of memory"),
+        Some(told) => println!(rt; "{name}\n{told}"),
+    }
+}
+
+/// Prints what each of these cases tells.
+fn print_cases<T: Threads + Wait + Sync>(
+    rt: &HostRuntime,
+    threads: &T,
+    list: List,
+    cases: &str,
+) -> io::Result<()> {
+    for block in cases.split("\ncase ").skip(1) {
+        let (name, lines) = block.split_once("\n").unwrap_or((block, ""));
+        print_told(rt, name, told(threads, rt.alloc(), list, lines))?;
+    }
+    Ok(())
+}
+
 fn print_list<T: Threads + Wait + Sync>(
     rt: &HostRuntime,
     threads: &T,
@@ -59,14 +80,7 @@ fn print_list<T: Threads + Wait + Sync>(
         List::DeskCalls => "desk_calls.txt",
     };
     let cases = fs::read_to_string(rt, file)?;
-    for block in cases.as_str().split("\ncase ").skip(1) {
-        let (name, lines) = block.split_once("\n").unwrap_or((block, ""));
-        match told(threads, rt.alloc(), list, lines) {
-            None => println!(rt; "{name}: can't be read, or want of memory")?,
-            Some(told) => println!(rt; "{name}\n{told}")?,
-        }
-    }
-    Ok(())
+    print_cases(rt, threads, list, cases.as_str())
 }
 
 /// Whether the only word behind the program's name is `pair`.

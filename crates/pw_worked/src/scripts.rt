@@ -25,16 +25,29 @@ fn print_cases(rt: &HostRuntime, plan: &Plan, cases: &str) -> io::Result<()> {
     Ok(())
 }
 
+/// Prints what comes of each case of a machine.
+fn print_machine(rt: &HostRuntime, block: &str) -> io::Result<()> {
+    let (machine, cases) = block.split_once("\ncase ").unwrap_or((block, ""));
+    let (name, parts) = machine.split_once("\n").unwrap_or((machine, ""));
+    match plan_of(rt.alloc(), parts) {
+        Err(_) => println!(rt; "no plan of {name}"),
+        Ok(plan) => {
+            let printed = print_cases(rt, &plan, cases);
+            drop(plan);
+            printed
+        }
+    }
+}
+
+fn print_list(rt: &HostRuntime, list: &str) -> io::Result<()> {
+    for block in list.split("\nmachine ").skip(1) {
+        print_machine(rt, block)?;
+    }
+    Ok(())
+}
+
 /// Prints what comes of each case of the list.
 pub(crate) fn print_all(rt: &HostRuntime) -> io::Result<()> {
     let list = fs::read_to_string(rt, "scripts.txt")?;
-    for block in list.as_str().split("\nmachine ").skip(1) {
-        let (machine, cases) = block.split_once("\ncase ").unwrap_or((block, ""));
-        let (name, parts) = machine.split_once("\n").unwrap_or((machine, ""));
-        match plan_of(rt.alloc(), parts) {
-            Err(_) => println!(rt; "no plan of {name}")?,
-            Ok(plan) => print_cases(rt, &plan, cases)?,
-        }
-    }
-    Ok(())
+    print_list(rt, list.as_str())
 }

@@ -17,7 +17,11 @@ use std::{fs, io};
 /// Prints what comes of each machine of the list.
 pub(crate) fn print_all(rt: &HostRuntime) -> io::Result<()> {
     let list = fs::read_to_string(rt, "machines.txt")?;
-    for block in list.as_str().split("\ncase ").skip(1) {
+    print_list(rt, list.as_str())
+}
+
+fn print_list(rt: &HostRuntime, list: &str) -> io::Result<()> {
+    for block in list.split("\ncase ").skip(1) {
         let (name, lines) = block.split_once("\n").unwrap_or((block, ""));
         print_came(rt, name, came(rt.alloc(), lines))?;
     }

@@ -53,23 +53,30 @@ fn tell(text: &mut String, alloc: Global, plan: &Plan, case: &Case, lines: &str)
     }
 }
 
-/// What is told of a case, if it says what it must be.
+/// What is told of a case.
 fn told(alloc: Global, plan: &Plan, case: &Case, lines: &str) -> Option<String> {
-    if case.wanted.is_empty() {
-        return None;
-    }
     let mut text = String::new(alloc);
     tell(&mut text, alloc, plan, case, lines)?;
     Some(text)
 }
 
-/// What comes of the lines of a case: `as it must be`, or what else.
-pub(crate) fn came(alloc: Global, plan: &Plan, lines: &str) -> Option<String> {
-    let mut case = Case::new(alloc);
+/// Reads a case, which says what it must be, and compares what is told of it.
+fn compared(alloc: Global, plan: &Plan, case: &mut Case, lines: &str) -> Option<String> {
     case.read_all(alloc, lines)?;
-    let told = told(alloc, plan, &case, lines)?;
+    if case.wanted.is_empty() {
+        return None;
+    }
+    let told = told(alloc, plan, case, lines)?;
     if told.as_str() == case.wanted.as_str() {
         return well(alloc);
     }
     Some(told)
+}
+
+/// What comes of the lines of a case: `as it must be`, or what else.
+pub(crate) fn came(alloc: Global, plan: &Plan, lines: &str) -> Option<String> {
+    let mut case = Case::new(alloc);
+    let came = compared(alloc, plan, &mut case, lines);
+    drop(case);
+    came
 }

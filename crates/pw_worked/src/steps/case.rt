@@ -46,21 +46,34 @@ fn first_other<'a>(
     None
 }
 
-/// What comes of the lines that ask something of this plan.
-fn played(alloc: Global, plan: &Plan, lines: &str) -> Option<String> {
-    let mut state = State::open(alloc, plan).ok()?;
-    let mut ops = Ops::new(alloc, ROOM).ok()?;
+/// What comes of the lines that ask for something, from this state on.
+fn asked(
+    alloc: Global,
+    plan: &Plan,
+    state: &mut State,
+    lines: &str,
+    ops: &mut Ops,
+) -> Option<String>
+    requires { IsState plan.now state.old }
+{
     let mut notes = Vec::new(alloc);
     let mut text = String::new(alloc);
-    match first_other(
-        &mut text, alloc, plan, &mut state, &mut notes, lines, &mut ops,
-    ) {
+    match first_other(&mut text, alloc, plan, state, &mut notes, lines, ops) {
         None => well(alloc),
         Some(asked) => {
             let told = text.as_str();
             format!(in alloc; "{asked}: {told}").ok()
         }
     }
+}
+
+/// The same from the state that the plan opens with.
+fn played(alloc: Global, plan: &Plan, lines: &str) -> Option<String> {
+    let mut ops = Ops::new(alloc, ROOM).ok()?;
+    let mut state = State::open(alloc, plan).ok()?;
+    let came = asked(alloc, plan, &mut state, lines, &mut ops);
+    drop(state);
+    came
 }
 
 /// Where there is no plan, the first line that asks for something asks why.
@@ -75,7 +88,11 @@ fn refused(alloc: Global, why: &str, lines: &str) -> Option<String> {
 /// What comes of the lines of a case: `as it must be`, or the first that is told something else.
 pub(crate) fn came(alloc: Global, lines: &str) -> Option<String> {
     match plan_of(alloc, lines) {
-        Ok(plan) => played(alloc, &plan, lines),
+        Ok(plan) => {
+            let came = played(alloc, &plan, lines);
+            drop(plan);
+            came
+        }
         Err(why) => refused(alloc, refusal(alloc, why)?.as_str(), lines),
     }
 }
