@@ -21,19 +21,13 @@ pub(crate) fn parts_written(alloc: Global) -> Option<bool> {
     Some(is_written && constant_len(256) == 3 && length_len(63) == 2)
 }
 
-/// Whether a byte and a constant in front of bytes are read.
-fn is_number_in_front(bytes: &[u8]) -> bool {
-    matches!(byte_of(bytes, 9), Ok((0x0A, rest)) if rest.len() == 2)
-        && matches!(constant_of(bytes, 9), Ok((5, rest)) if rest.len() == 1)
-}
-
-/// Whether a length in front of bytes is read, and parts them.
-fn is_length_in_front() -> bool {
-    matches!(window_of(&[0x03, 0x07, 0x08, 0x09], 10), Ok((inside, rest)) if inside.len() == 2 && rest.len() == 1)
-        && matches!(length_of(&[0x42, 0x00, 0x08], 10), Ok((0, _)))
-}
-
-/// Whether constants and lengths in front of bytes are read.
+/// Whether constants and lengths in front of bytes are read, and what lies behind them is left.
 pub(crate) fn parts_in_front() -> Option<bool> {
-    Some(is_number_in_front(&[0x0A, 0x05, 0x01]) && is_length_in_front())
+    let (bytes, sized) = ([0x0A, 0x05, 0x01], [0x03, 0x07, 0x08, 0x09]);
+    let is_byte = matches!(byte_of(&bytes, 9), Ok((0x0A, rest)) if rest.len() == 2);
+    let is_constant = matches!(constant_of(&bytes, 9), Ok((5, rest)) if rest.len() == 1);
+    let is_window =
+        matches!(window_of(&sized, 10), Ok((inside, rest)) if inside.len() == 2 && rest.len() == 1);
+    let is_length = matches!(length_of(&[0x42, 0x00, 0x08], 10), Ok((0, _)));
+    Some(is_byte && is_constant && is_window && is_length)
 }

@@ -46,11 +46,10 @@ fn have_widths(
 /// Whether integers have the width of the first DSDT.
 pub(crate) fn widths(alloc: Global) -> Option<bool> {
     let (narrow, wide) = (Width::W32, Width::W64);
-    Some(
-        have_widths(alloc, b"SSDT", 1, narrow, wide)?
-            && have_widths(alloc, b"DSDT", 1, narrow, narrow)?
-            && have_widths(alloc, b"DSDT", 2, wide, wide)?,
-    )
+    let are_own = have_widths(alloc, b"SSDT", 1, narrow, wide)?;
+    let are_narrow = have_widths(alloc, b"DSDT", 1, narrow, narrow)?;
+    let are_wide = have_widths(alloc, b"DSDT", 2, wide, wide)?;
+    Some(are_own && are_narrow && are_wide)
 }
 
 /// The number of the object at this path of one segment.
