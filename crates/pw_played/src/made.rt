@@ -36,8 +36,21 @@ fn plan_of(alloc: Global, blocks: &[Block]) -> Option<Plan>
 {
     blocks_are_countable();
     let space = Space::build(alloc, blocks).ok()?;
-    let (plan, _) = plan(alloc, &space).ok()?;
+    let made = plan(alloc, &space);
+    drop(space);
+    let (plan, notes) = made.ok()?;
+    drop(notes);
     Some(plan)
+}
+
+/// The plan of the machine that is generated with so many containers.
+fn plan_for(alloc: Global, n: u32) -> Option<Plan>
+    requires { n ≤ MOST_CONTAINERS }
+{
+    let blocks = [block_of(alloc, n)?];
+    let plan = plan_of(alloc, &blocks);
+    drop(blocks);
+    plan
 }
 
 /// The plan of the machine that is generated with so many containers, and the load for it. None where there
@@ -49,9 +62,11 @@ pub fn machine_of(alloc: Global, n: u32) -> Option<(Plan, Script)>
     if n > MOST_CONTAINERS {
         return None;
     }
-    let blocks = [block_of(alloc, n)?];
-    let plan = plan_of(alloc, &blocks)?;
     let script = generate_script(alloc, n).ok()?;
+    let Some(plan) = plan_for(alloc, n) else {
+        drop(script);
+        return None;
+    };
     Some((plan, script))
 }
 

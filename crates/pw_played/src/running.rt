@@ -6,7 +6,7 @@ ghost use Rattle.pw_script.specs.declared.script.TheConstants.{MOST_LINES};
 
 use crate::telling::{Played, told};
 use pw_base::Gate;
-use pw_drive::{Driven, Drove, drive, serial};
+use pw_drive::{Drove, drive, serial};
 use pw_plan::Plan;
 use pw_regs::FailingRegisters;
 use pw_script::{Line, MOST_LINES, Script};
@@ -47,14 +47,25 @@ pub fn play<T: Threads + Wait + Sync, G: Gate + Sync>(
     gate: &G,
 ) -> Option<Played> {
     if !can_be_asked(&plan, script.lines.as_slice()) {
+        drop((plan, regs));
         return None;
     }
-    match drive(rt, alloc, plan, script, regs, gate).ok()? {
-        Drove::Closed(closed) => {
+    match drive(rt, alloc, plan, script, regs, gate) {
+        Ok(Drove::Closed(closed)) => {
             let sealed = closed.sealed();
-            told(alloc, sealed.plan(), None, sealed.entries(), closed.regs())
+            let played = told(alloc, sealed.plan(), None, sealed.entries(), closed.regs());
+            drop(closed);
+            played
         }
-        Drove::Opening { done, plan, regs } => told(alloc, &plan, Some(done), &[], &regs),
+        Ok(Drove::Opening { done, plan, regs }) => {
+            let played = told(alloc, &plan, Some(done), &[], &regs);
+            drop((plan, regs));
+            played
+        }
+        Err(regs) => {
+            drop(regs);
+            None
+        }
     }
 }
 
@@ -66,14 +77,12 @@ pub fn play_alone(
     regs: FailingRegisters,
 ) -> Option<Played> {
     if !can_be_asked(&plan, script.lines.as_slice()) {
+        drop((plan, regs));
         return None;
     }
-    let Driven {
-        plan,
-        opening,
-        entries,
-        regs,
-        ..
-    } = serial(alloc, plan, script, regs).ok()?;
-    told(alloc, &plan, opening, entries.as_slice(), &regs)
+    let driven = serial(alloc, plan, script, regs).ok()?;
+    let entries = driven.entries.as_slice();
+    let played = told(alloc, &driven.plan, driven.opening, entries, &driven.regs);
+    drop(driven);
+    played
 }
