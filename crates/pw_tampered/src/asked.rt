@@ -1,4 +1,4 @@
-use crate::picked::Picked;
+use crate::picked::Choice;
 use crate::trial::{left_alone, left_by_workers, put_part};
 use pw_played::Played;
 use std::alloc::Global;
@@ -40,7 +40,13 @@ pub(crate) fn print_left<T: Threads + Wait + Sync>(
     way: &str,
 ) -> Option<()> {
     let played = left(threads, rt.alloc(), containers, way)?;
-    let text = from_utf8(played.text.written()).ok()?;
+    let printed = print_text(rt, played.text.written());
+    drop(played);
+    printed
+}
+
+fn print_text(rt: &HostRuntime, written: &[u8]) -> Option<()> {
+    let text = from_utf8(written).ok()?;
     print!(rt; "{text}").ok()
 }
 
@@ -49,10 +55,10 @@ pub(crate) fn print_part(
     rt: &HostRuntime,
     containers: u32,
     file: &str,
-    picked: Picked,
+    choice: Choice,
 ) -> Option<()> {
     let whole = fs::read_to_string(rt, file).ok()?;
     let mut text = String::new(rt.alloc());
-    put_part(&mut text, rt.alloc(), containers, whole.as_str(), picked)?;
+    put_part(&mut text, rt.alloc(), containers, whole.as_str(), choice)?;
     print!(rt; "{text}").ok()
 }

@@ -71,7 +71,7 @@ fn is_asked(edits: &str, word: &str) -> bool {
 }
 
 /// Appends what edits make of the line of this number.
-fn put_edited(out: &mut Vec<u8>, edits: &str, number: usize, line: &str) -> Option<()> {
+fn put_line(out: &mut Vec<u8>, edits: &str, number: usize, line: &str) -> Option<()> {
     if edits.lines().any(|edit| is_dropped(edit, number)) {
         return Some(());
     }
@@ -85,32 +85,38 @@ fn put_edited(out: &mut Vec<u8>, edits: &str, number: usize, line: &str) -> Opti
     out.extend_from_slice(end.as_bytes()).ok()
 }
 
-/// A text as edits change it: `put LINE TEXT`, `drop FROM TO`, `swap ONE OTHER`, `returns` for a carriage
+/// Appends a text as edits change it: `put LINE TEXT`, `drop FROM TO`, `swap ONE OTHER`, `returns` for a carriage
 /// return before each line feed, and `unended` without the last line feed.
-fn edited(alloc: Global, text: &str, edits: &str) -> Option<Vec<u8>> {
-    let mut out = Vec::new(alloc);
+fn put_lines(out: &mut Vec<u8>, text: &str, edits: &str) -> Option<()> {
     let mut number = 0usize;
     for line in text.lines() {
         number = number.saturating_add(1);
-        put_edited(&mut out, edits, number, placed(text, edits, number, line))?;
+        put_line(out, edits, number, placed(text, edits, number, line))?;
     }
     if is_asked(edits, "unended") {
         out.pop()?;
     }
-    Some(out)
+    Some(())
 }
 
-/// What the audit says of the text of one caller, after these edits; with `traced` as of a trace.
-pub(crate) fn tell_edited(alloc: Global, edits: &str) -> Option<String> {
-    let played = left_alone(alloc, CONTAINERS)?;
-    let changed = edited(alloc, from_utf8(played.text.written()).ok()?, edits)?;
-    let mut text = String::new(alloc);
+/// Tells what the audit says of a text after these edits; with `traced` as of a trace.
+fn put_audited(text: &mut String, alloc: Global, written: &[u8], edits: &str) -> Option<()> {
+    let whole = from_utf8(written).ok()?;
+    let mut changed = Vec::new(alloc);
+    put_lines(&mut changed, whole, edits)?;
     put_said(
-        &mut text,
+        text,
         alloc,
         CONTAINERS,
         changed.as_slice(),
         is_asked(edits, "traced"),
-    )?;
-    Some(text)
+    )
+}
+
+/// Tells what the audit says of the text of one caller, after these edits.
+pub(crate) fn put_edited(text: &mut String, alloc: Global, edits: &str) -> Option<()> {
+    let played = left_alone(alloc, CONTAINERS)?;
+    let told = put_audited(text, alloc, played.text.written(), edits);
+    drop(played);
+    told
 }

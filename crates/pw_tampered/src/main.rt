@@ -46,8 +46,8 @@ mod seen;
 mod trial;
 
 use asked::{print_left, print_part, words};
-use edits::tell_edited;
-use picked::Picked;
+use edits::put_edited;
+use picked::Choice;
 use std::alloc::Global;
 use std::process::ExitCode;
 use std::sync::Wait;
@@ -58,30 +58,46 @@ use trial::{put_alone, put_workers};
 const USAGE: &str =
     "usage: pw_tampered; pw_tampered N alone|workers; pw_tampered N FILE FIRST STEP, FIRST below STEP";
 
-/// What is told of the machines that are generated: which lines and bytes are changed, each of so many.
-fn generated<R: Threads + Wait + Sync>(rt: &R, alloc: Global) -> Option<String> {
-    let mut text = String::new(alloc);
-    put_alone(&mut text, alloc, 2, Picked::each(1), Picked::each(1))?;
-    put_workers(rt, &mut text, alloc, 2, Picked::each(1), Picked::each(7))?;
-    put_alone(&mut text, alloc, 8, Picked::each(97), Picked::each(97))?;
-    put_workers(rt, &mut text, alloc, 8, Picked::each(97), Picked::each(997))?;
-    Some(text)
+/// Tells of the machines that are generated: which lines and bytes are changed, each of so many.
+fn put_generated<R: Threads + Wait + Sync>(rt: &R, text: &mut String, alloc: Global) -> Option<()> {
+    put_alone(text, alloc, 2, Choice::each(1, 1))?;
+    put_workers(rt, text, alloc, 2, Choice::each(1, 7))?;
+    put_alone(text, alloc, 8, Choice::each(97, 97))?;
+    put_workers(rt, text, alloc, 8, Choice::each(97, 997))
+}
+
+/// Prints what is told of the texts of a list.
+fn print_edited(rt: &HostRuntime, text: &mut String, list: &str) -> io::Result<()> {
+    for block in list.split("\ncase ").skip(1) {
+        let (name, lines) = block.split_once("\n").unwrap_or((block, ""));
+        text.clear();
+        match put_edited(text, rt.alloc(), lines) {
+            None => println!(rt; "{name}: can't be read, or want of memory")?,
+            Some(()) => println!(rt; "{name} -> {text}")?,
+        }
+    }
+    Ok(())
+}
+
+/// Prints what is told of the machines that are generated.
+fn print_generated<T: Threads + Wait + Sync>(
+    rt: &HostRuntime,
+    threads: &T,
+    text: &mut String,
+) -> io::Result<()> {
+    text.clear();
+    match put_generated(threads, text, rt.alloc()) {
+        None => println!(rt; "want of memory"),
+        Some(()) => print!(rt; "{text}"),
+    }
 }
 
 /// Prints what is told of the texts of the list and of those that are generated.
 fn print_all<T: Threads + Wait + Sync>(rt: &HostRuntime, threads: &T) -> io::Result<()> {
     let list = fs::read_to_string(rt, "edits.txt")?;
-    for block in list.as_str().split("\ncase ").skip(1) {
-        let (name, lines) = block.split_once("\n").unwrap_or((block, ""));
-        match tell_edited(rt.alloc(), lines) {
-            None => println!(rt; "{name}: can't be read, or want of memory")?,
-            Some(told) => println!(rt; "{name} -> {told}")?,
-        }
-    }
-    match generated(threads, rt.alloc()) {
-        None => println!(rt; "want of memory"),
-        Some(told) => print!(rt; "{told}"),
-    }
+    let mut text = String::new(rt.alloc());
+    print_edited(rt, &mut text, list.as_str())?;
+    print_generated(rt, threads, &mut text)
 }
 
 /// Does what words ask for.
@@ -90,8 +106,8 @@ fn obey<T: Threads + Wait + Sync>(rt: &HostRuntime, threads: &T, words: &[String
         [] => print_all(rt, threads).ok(),
         [n, way] => print_left(rt, threads, n.as_str().parse::<u32>().ok()?, way.as_str()),
         [n, file, first, step] => {
-            let picked = Picked::read(first.as_str(), step.as_str())?;
-            print_part(rt, n.as_str().parse::<u32>().ok()?, file.as_str(), picked)
+            let choice = Choice::read(first.as_str(), step.as_str())?;
+            print_part(rt, n.as_str().parse::<u32>().ok()?, file.as_str(), choice)
         }
         _ => None,
     }

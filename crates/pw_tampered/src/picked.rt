@@ -5,9 +5,35 @@ pub(crate) struct Picked {
     step: usize,
 }
 
+/// Which lines and which bytes of a text are changed.
+#[derive(Clone, Copy)]
+pub(crate) struct Choice {
+    pub(crate) lines: Picked,
+    pub(crate) bytes: Picked,
+}
+
+impl Choice {
+    /// Of so many lines one, and of so many bytes, each from the first on.
+    pub(crate) fn each(line_step: u32, byte_step: u32) -> Choice {
+        Choice {
+            lines: Picked::each(line_step),
+            bytes: Picked::each(byte_step),
+        }
+    }
+
+    /// The lines and the bytes that two words pick, of which the first is less than the second.
+    pub(crate) fn read(first: &str, step: &str) -> Option<Choice> {
+        let picked = Picked::read(first, step)?;
+        Some(Choice {
+            lines: picked,
+            bytes: picked,
+        })
+    }
+}
+
 impl Picked {
     /// Of so many one, from the first on.
-    pub(crate) fn each(step: u32) -> Picked {
+    fn each(step: u32) -> Picked {
         Picked {
             first: 0,
             step: step as usize,
@@ -15,7 +41,7 @@ impl Picked {
     }
 
     /// Those that two words pick, of which the first is less than the second.
-    pub(crate) fn read(first: &str, step: &str) -> Option<Picked> {
+    fn read(first: &str, step: &str) -> Option<Picked> {
         let (first, step) = (first.parse::<u32>().ok()?, step.parse::<u32>().ok()?);
         if first < step {
             Some(Picked {

@@ -33,5 +33,8 @@ pub(crate) fn put_said(
     } else {
         audit(alloc, &plan, &script, history)
     };
-    put_answer(text, &answer)
+    drop((plan, script));
+    let told = put_answer(text, &answer);
+    drop(answer);
+    told
 }

@@ -1,6 +1,6 @@
 use crate::changes::{Change, Turn, change_line, line_of, turned};
 use crate::lines::lines_of;
-use crate::picked::Picked;
+use crate::picked::Choice;
 use crate::said::put_said;
 use crate::seen::Seen;
 use pw_audit::audit;
@@ -18,16 +18,13 @@ use std::thread::Threads;
 const ROOM: u32 = 1 << 16;
 
 /// A text that is tampered with, and what it is audited by.
-#[derive(Drop)]
+#[derive(Clone, Copy)]
 struct Tampered<'a> {
     plan: &'a Plan,
     script: &'a Script,
     text: &'a str,
     lines: &'a [&'a str],
-    /// The lines that are changed.
-    picked_lines: Picked,
-    /// The bytes that are changed.
-    picked_bytes: Picked,
+    choice: Choice,
 }
 
 /// What is seen of each kind of change.
@@ -41,31 +38,41 @@ struct Verdicts {
 }
 
 impl<'a> Tampered<'a> {
+    /// Audits a text that was changed, and counts the answer by this line.
+    fn note(&self, alloc: Global, seen: &mut Seen, changed: &[u8], line: usize) {
+        let answer = audit(alloc, self.plan, self.script, changed);
+        seen.note(&answer, line);
+        drop(answer);
+    }
+
     /// Changes lines, one at a time; `last` have no change.
-    fn change_lines(&self, alloc: Global, change: Change, last: usize) -> Option<Seen> {
+    fn change_lines(
+        &self,
+        alloc: Global,
+        changed: &mut Vec<u8>,
+        change: Change,
+        last: usize,
+    ) -> Option<Seen> {
         let mut seen = Seen::none();
-        let mut changed = Vec::new(alloc);
         for at in 0..self.lines.len().saturating_sub(last) {
-            if self.picked_lines.has(at) {
-                change_line(&mut changed, self.lines, change, at)?;
-                let answer = audit(alloc, self.plan, self.script, changed.as_slice());
-                seen.note(&answer, line_of(change, at));
+            if self.choice.lines.has(at) {
+                change_line(changed, self.lines, change, at)?;
+                self.note(alloc, &mut seen, changed.as_slice(), line_of(change, at));
             }
         }
         Some(seen)
     }
 
     /// Changes bytes, one at a time.
-    fn change_bytes(&self, alloc: Global, turn: Turn) -> Option<Seen> {
+    fn change_bytes(&self, alloc: Global, changed: &mut Vec<u8>, turn: Turn) -> Option<Seen> {
         let mut seen = Seen::none();
         let mut line = 1usize;
-        let mut changed = Vec::new(alloc);
+        changed.clear();
         changed.extend_from_slice(self.text.as_bytes()).ok()?;
         for (at, byte) in self.text.as_bytes().iter().enumerate() {
-            if self.picked_bytes.has(at) {
+            if self.choice.bytes.has(at) {
                 *changed.get_mut(at)? = turned(turn, *byte);
-                let answer = audit(alloc, self.plan, self.script, changed.as_slice());
-                seen.note(&answer, line);
+                self.note(alloc, &mut seen, changed.as_slice(), line);
                 *changed.get_mut(at)? = *byte;
             }
             if *byte == b'\n' {
@@ -75,13 +82,14 @@ impl<'a> Tampered<'a> {
         Some(seen)
     }
 
-    fn change_all(&self, alloc: Global) -> Option<Verdicts> {
+    /// Makes each kind of change, in room for a text.
+    fn change_all(&self, alloc: Global, room: &mut Vec<u8>) -> Option<Verdicts> {
         Some(Verdicts {
-            deleted: self.change_lines(alloc, Change::Deleted, 0)?,
-            doubled: self.change_lines(alloc, Change::Doubled, 0)?,
-            exchanged: self.change_lines(alloc, Change::Exchanged, 1)?,
-            broken: self.change_bytes(alloc, Turn::Broken)?,
-            turned: self.change_bytes(alloc, Turn::Bit)?,
+            deleted: self.change_lines(alloc, room, Change::Deleted, 0)?,
+            doubled: self.change_lines(alloc, room, Change::Doubled, 0)?,
+            exchanged: self.change_lines(alloc, room, Change::Exchanged, 1)?,
+            broken: self.change_bytes(alloc, room, Turn::Broken)?,
+            turned: self.change_bytes(alloc, room, Turn::Bit)?,
         })
     }
 }
@@ -118,8 +126,14 @@ fn registers(alloc: Global) -> Option<FailingRegisters> {
 
 /// What one caller leaves of the load for so many containers.
 pub(crate) fn left_alone(alloc: Global, containers: u32) -> Option<Played> {
-    let (plan, script) = machine_of(alloc, containers)?;
-    play_alone(alloc, plan, &script, registers(alloc)?)
+    let regs = registers(alloc)?;
+    let Some((plan, script)) = machine_of(alloc, containers) else {
+        drop(regs);
+        return None;
+    };
+    let played = play_alone(alloc, plan, &script, regs);
+    drop(script);
+    played
 }
 
 /// What workers leave of it.
@@ -128,18 +142,23 @@ pub(crate) fn left_by_workers<R: Threads + Wait + Sync>(
     alloc: Global,
     containers: u32,
 ) -> Option<Played> {
-    let (plan, script) = machine_of(alloc, containers)?;
-    play(rt, alloc, plan, &script, registers(alloc)?, &OpenGate)
+    let regs = registers(alloc)?;
+    let Some((plan, script)) = machine_of(alloc, containers) else {
+        drop(regs);
+        return None;
+    };
+    let played = play(rt, alloc, plan, &script, regs, &OpenGate);
+    drop(script);
+    played
 }
 
 /// Changes the lines and bytes of a text that are picked.
-fn tamper(
+fn tamper_with(
     alloc: Global,
     containers: u32,
     text: &str,
     lines: &[&str],
-    picked_lines: Picked,
-    picked_bytes: Picked,
+    choice: Choice,
 ) -> Option<Verdicts> {
     let (plan, script) = machine_of(alloc, containers)?;
     let tampered = Tampered {
@@ -147,32 +166,35 @@ fn tamper(
         script: &script,
         text,
         lines,
-        picked_lines,
-        picked_bytes,
+        choice,
     };
-    tampered.change_all(alloc)
+    let mut room = Vec::new(alloc);
+    let all = tampered.change_all(alloc, &mut room);
+    drop(room);
+    drop((plan, script));
+    all
 }
 
-/// What is said of the text of one caller.
-pub(crate) fn put_alone(
+/// The same; and how many lines the text has.
+fn tamper(alloc: Global, containers: u32, text: &str, choice: Choice) -> Option<(usize, Verdicts)> {
+    let lines = lines_of(alloc, text)?;
+    let all = tamper_with(alloc, containers, text, lines.as_slice(), choice);
+    let count = lines.len();
+    drop(lines);
+    Some((count, all?))
+}
+
+/// Tells what is said of this text, which one caller left.
+fn put_of_one(
     text: &mut String,
     alloc: Global,
     containers: u32,
-    picked_lines: Picked,
-    picked_bytes: Picked,
+    written: &[u8],
+    choice: Choice,
 ) -> Option<()> {
-    let played = left_alone(alloc, containers)?;
-    let whole = from_utf8(played.text.written()).ok()?;
-    let lines = lines_of(alloc, whole)?;
-    let all = tamper(
-        alloc,
-        containers,
-        whole,
-        lines.as_slice(),
-        picked_lines,
-        picked_bytes,
-    )?;
-    let (count, size) = (lines.len(), whole.len());
+    let whole = from_utf8(written).ok()?;
+    let (count, all) = tamper(alloc, containers, whole, choice)?;
+    let size = whole.len();
     writeln!(
         text,
         "{containers} containers, one caller: {count} lines, {size} bytes"
@@ -181,26 +203,28 @@ pub(crate) fn put_alone(
     all.put(text)
 }
 
-/// What is said of the text of workers.
-pub(crate) fn put_workers<R: Threads + Wait + Sync>(
-    rt: &R,
+/// Tells what is said of the text of one caller.
+pub(crate) fn put_alone(
     text: &mut String,
     alloc: Global,
     containers: u32,
-    picked_lines: Picked,
-    picked_bytes: Picked,
+    choice: Choice,
 ) -> Option<()> {
-    let played = left_by_workers(rt, alloc, containers)?;
-    let whole = from_utf8(played.text.written()).ok()?;
-    let lines = lines_of(alloc, whole)?;
-    let all = tamper(
-        alloc,
-        containers,
-        whole,
-        lines.as_slice(),
-        picked_lines,
-        picked_bytes,
-    )?;
+    let played = left_alone(alloc, containers)?;
+    let told = put_of_one(text, alloc, containers, played.text.written(), choice);
+    drop(played);
+    told
+}
+
+/// Tells what is said of this text, which workers left.
+fn put_of_workers(
+    text: &mut String,
+    alloc: Global,
+    containers: u32,
+    written: &[u8],
+    choice: Choice,
+) -> Option<()> {
+    let (_, all) = tamper(alloc, containers, from_utf8(written).ok()?, choice)?;
     let accepted = all.accepted();
     writeln!(
         text,
@@ -209,17 +233,30 @@ pub(crate) fn put_workers<R: Threads + Wait + Sync>(
     .ok()
 }
 
-/// What is said of a text of the load, as it is and where the lines and bytes that are picked are changed.
+/// Tells what is said of the text of workers.
+pub(crate) fn put_workers<R: Threads + Wait + Sync>(
+    rt: &R,
+    text: &mut String,
+    alloc: Global,
+    containers: u32,
+    choice: Choice,
+) -> Option<()> {
+    let played = left_by_workers(rt, alloc, containers)?;
+    let told = put_of_workers(text, alloc, containers, played.text.written(), choice);
+    drop(played);
+    told
+}
+
+/// Tells what is said of a text of the load, as it is and where lines and bytes are changed.
 pub(crate) fn put_part(
     text: &mut String,
     alloc: Global,
     containers: u32,
     whole: &str,
-    picked: Picked,
+    choice: Choice,
 ) -> Option<()> {
-    let lines = lines_of(alloc, whole)?;
-    let all = tamper(alloc, containers, whole, lines.as_slice(), picked, picked)?;
-    let (count, size) = (lines.len(), whole.len());
+    let (count, all) = tamper(alloc, containers, whole, choice)?;
+    let size = whole.len();
     write!(text, "{count} lines, {size} bytes, ").ok()?;
     put_said(text, alloc, containers, whole.as_bytes(), false)?;
     text.push_str("\n").ok()?;
