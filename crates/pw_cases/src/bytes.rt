@@ -18,9 +18,10 @@ fn put_word(alloc: Global, bytes: &mut Vec<u8>, word: &str) -> Option<()> {
     let Some((count, digits)) = word.split_once("*") else {
         return put_digits(bytes, word);
     };
+    let count = count.parse::<u32>().ok()?;
     let mut piece = Vec::new(alloc);
     put_digits(&mut piece, digits)?;
-    put_times(bytes, piece.as_slice(), count.parse::<u32>().ok()?)
+    put_times(bytes, piece.as_slice(), count)
 }
 
 fn put_times(bytes: &mut Vec<u8>, piece: &[u8], count: u32) -> Option<()> {
@@ -59,10 +60,10 @@ fn sum_of(bytes: &[u8]) -> u8 {
         .fold(0, |sum: u8, byte| sum.wrapping_add(*byte))
 }
 
-/// A block of this signature and body with the right length and checksum.
-pub(crate) fn block_of(alloc: Global, signature: &str, body: &[u8]) -> Option<Vec<u8>> {
+/// Puts a block of this signature and body, with the right length and checksum, where there is nothing yet.
+pub(crate) fn put_block(block: &mut Vec<u8>, signature: &str, body: &[u8]) -> Option<()> {
     let length = u32::try_from(body.len()).ok()?.checked_add(36)?;
-    let mut block = signature.as_bytes().to_vec(alloc).ok()?;
+    block.extend_from_slice(signature.as_bytes()).ok()?;
     block.extend_from_slice(&length.to_le_bytes()).ok()?;
     block.push(2).ok()?;
     let sum = sum_of(block.as_slice())
@@ -70,6 +71,5 @@ pub(crate) fn block_of(alloc: Global, signature: &str, body: &[u8]) -> Option<Ve
         .wrapping_add(sum_of(body));
     block.push(0u8.wrapping_sub(sum)).ok()?;
     block.extend_from_slice(HEADER_END).ok()?;
-    block.extend_from_slice(body).ok()?;
-    Some(block)
+    block.extend_from_slice(body).ok()
 }

@@ -1,10 +1,11 @@
-use crate::bytes::{block_of, put_bytes};
+use crate::bytes::{put_block, put_bytes};
 use crate::outside::{Outside, SOUND};
 use pw_base::{Gate, Memory, MemoryFiles, MemorySink, OpenGate};
 use pw_cli::run;
 use pw_played::{Meeting, block_bytes};
 use pw_regs::FailingRegisters;
 use std::alloc::Global;
+use std::mem::replace;
 use std::sync::Wait;
 use std::thread::Threads;
 
@@ -155,8 +156,10 @@ impl Case {
     fn make_block(&mut self, alloc: Global, words: &str) -> Option<()> {
         let (name, signature) = words.split_once(" ")?;
         let file = self.file(name)?;
-        *file = block_of(alloc, signature, file.as_slice())?;
-        Some(())
+        let body = replace(file, Vec::new(alloc));
+        let put = put_block(file, signature, body.as_slice());
+        drop(body);
+        put
     }
 
     fn file(&mut self, name: &str) -> Option<&mut Vec<u8>> {
@@ -199,17 +202,32 @@ impl Case {
         status: u8,
         gate: &G,
     ) -> Option<&'static str> {
-        let regs = self.outside.regs(alloc).ok()?;
         let mut given = self.given(alloc)?;
+        let told = self.run_on(rt, alloc, status, gate, &mut given);
+        drop(given);
+        told
+    }
+
+    /// The same on these files and outputs.
+    fn run_on<T: Threads + Wait + Sync, G: Gate + Sync>(
+        &self,
+        rt: &T,
+        alloc: Global,
+        status: u8,
+        gate: &G,
+        given: &mut Given,
+    ) -> Option<&'static str> {
+        let regs = self.outside.regs(alloc).ok()?;
         let words = self.words.as_slice();
         let (files, out, err) = (&mut given.files, &mut given.out, &mut given.err);
         let outcome = run(rt, alloc, words, files, out, err, regs, gate);
-        let told = self.told_by(self.is_made(alloc), &given, &outcome.regs);
-        if outcome.status != status {
+        let told = if outcome.status != status {
             Some("another status")
         } else {
-            told
-        }
+            self.told_by(self.is_made(alloc), given, &outcome.regs)
+        };
+        drop(outcome);
+        told
     }
 
     /// The files and the outputs of a run.

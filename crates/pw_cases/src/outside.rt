@@ -1,3 +1,5 @@
+ghost use Rattle.std.specs.Prelude.{◌≡◌, IfOk};
+
 use pw_base::{Memory, MemoryFile, MemoryFiles, MemorySink};
 use pw_regs::FailingRegisters;
 use std::alloc::Global;
@@ -55,11 +57,11 @@ impl Outside {
         b: &[u8],
         c: &[u8],
     ) -> Result<MemoryFiles, Memory> {
-        let mut held = Vec::new(alloc);
-        held.push(MemoryFile::new(String::from_str(alloc, "a")?, a.to_vec(alloc)?))?;
-        held.push(MemoryFile::new(String::from_str(alloc, "b")?, b.to_vec(alloc)?))?;
-        held.push(MemoryFile::new(String::from_str(alloc, "c")?, c.to_vec(alloc)?))?;
         let fails = just(alloc, self.read_fails)?;
+        let mut held = Vec::new(alloc);
+        held.push(file_of(alloc, "a", a)?)?;
+        held.push(file_of(alloc, "b", b)?)?;
+        held.push(file_of(alloc, "c", c)?)?;
         Ok(MemoryFiles::new(held, fails, self.reads_of.max(1)))
     }
 
@@ -77,6 +79,15 @@ impl Outside {
         let fails = just(alloc, self.register_fails)?;
         FailingRegisters::new(alloc, self.registers, fails)
     }
+}
+
+/// A file of this name and these bytes.
+fn file_of(alloc: Global, name: &str, bytes: &[u8]) -> Result<MemoryFile, Memory>
+    ensures { IfOk result (λ file. file.name ≡ name.now) }
+{
+    let bytes = bytes.to_vec(alloc)?;
+    let name = String::from_str(alloc, name)?;
+    Ok(MemoryFile::new(name, bytes))
 }
 
 /// A list of this number alone.

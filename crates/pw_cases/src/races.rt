@@ -21,11 +21,13 @@ use std::thread::Threads;
 /// The calls that fail: of the opening, which has 16 on two containers, and of requests.
 const FAILS: [u32; 12] = [1, 8, 16, 17, 18, 20, 25, 30, 40, 50, 60, 70];
 
-/// What comes of the machines that are generated.
-pub(crate) fn generated<R: Threads + Wait + Sync>(rt: &R, alloc: Global) -> Option<String> {
-    let mut text = String::new(alloc);
-    put_runs(rt, &mut text, alloc, 2, 200)?;
-    put_runs(rt, &mut text, alloc, 8, 200)?;
-    put_faults(rt, &mut text, alloc, 2, &FAILS)?;
-    Some(text)
+/// Tells what comes of the machines that are generated.
+pub(crate) fn put_generated<R: Threads + Wait + Sync>(
+    rt: &R,
+    text: &mut String,
+    alloc: Global,
+) -> Option<()> {
+    put_runs(rt, text, alloc, 2, 200)?;
+    put_runs(rt, text, alloc, 8, 200)?;
+    put_faults(rt, text, alloc, 2, &FAILS)
 }

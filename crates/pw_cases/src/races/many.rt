@@ -1,7 +1,7 @@
 use crate::races::case::registers;
 use crate::races::told::{operations_in, put_text};
-use pw_audit::audit;
-use pw_base::{MemorySink, OpenGate};
+use pw_audit::{Audit, AuditFault, audit};
+use pw_base::OpenGate;
 use pw_plan::Plan;
 use pw_played::{Played, machine_of, play, play_alone};
 use pw_script::Script;
@@ -30,39 +30,57 @@ impl Trial {
         })
     }
 
+    /// Its plan, made once more.
+    fn plan_again(&self, alloc: Global) -> Option<Plan> {
+        let (plan, script) = machine_of(alloc, self.containers)?;
+        drop(script);
+        Some(plan)
+    }
+
     /// A run by workers on registers that fail at this call.
     fn run<R: Threads + Wait + Sync>(&self, rt: &R, alloc: Global, fail: u32) -> Option<Played> {
-        let (plan, _) = machine_of(alloc, self.containers)?;
         let regs = registers(alloc, ROOM, fail)?;
+        let Some(plan) = self.plan_again(alloc) else {
+            drop(regs);
+            return None;
+        };
         play(rt, alloc, plan, &self.script, regs, &OpenGate)
     }
 
-    /// The summary of one caller's run.
-    fn summary(&self, alloc: Global) -> Option<MemorySink> {
-        let (plan, _) = machine_of(alloc, self.containers)?;
+    /// The run of one caller.
+    fn run_alone(&self, alloc: Global) -> Option<Played> {
         let regs = registers(alloc, ROOM, 0)?;
-        play_alone(alloc, plan, &self.script, regs)?.summary
+        let Some(plan) = self.plan_again(alloc) else {
+            drop(regs);
+            return None;
+        };
+        play_alone(alloc, plan, &self.script, regs)
     }
 
     /// Whether the audit accepts the text of a run, with as many entries as it has, and with the
     /// operations that the registers saw.
     fn is_lawful(&self, alloc: Global, played: &Played) -> bool {
         let written = played.text.written();
-        match audit(alloc, &self.plan, &self.script, written) {
-            Ok(shown) => {
-                shown.entries.as_slice().len() == played.entries
-                    && operations_in(written) == Some(played.operations)
-            }
-            Err(_) => false,
-        }
+        let answer = audit(alloc, &self.plan, &self.script, written);
+        let has_all = has_entries(&answer, played.entries);
+        drop(answer);
+        has_all && operations_in(written) == Some(played.operations)
     }
 }
 
-/// Whether a run has this summary.
-fn has_summary(played: &Played, summary: &[u8]) -> bool {
+/// Whether the audit accepts a text with so many entries.
+fn has_entries(answer: &Result<Audit, AuditFault>, entries: usize) -> bool {
+    match answer {
+        Ok(shown) => shown.entries.as_slice().len() == entries,
+        Err(_) => false,
+    }
+}
+
+/// The summary of a run, where it has one.
+fn summary_of<'a>(played: &'a Played) -> Option<&'a [u8]> {
     match &played.summary {
-        None => false,
-        Some(own) => own.written() == summary,
+        None => None,
+        Some(summary) => Some(summary.written()),
     }
 }
 
@@ -98,7 +116,8 @@ fn tally_runs<R: Threads + Wait + Sync>(
         let played = trial.run(rt, alloc, 0)?;
         lawful = counted(lawful, trial.is_lawful(alloc, &played));
         whole = counted(whole, played.entries == lines);
-        same = counted(same, has_summary(&played, summary));
+        same = counted(same, summary_of(&played) == Some(summary));
+        drop(played);
     }
     Some(Tally {
         lawful,
@@ -121,6 +140,7 @@ fn tally_faults<R: Threads + Wait + Sync>(
         let ends = played.summary.is_none() && ended_at(&played, *fail);
         lawful = counted(lawful, trial.is_lawful(alloc, &played));
         ended = counted(ended, ends);
+        drop(played);
     }
     Some((lawful, ended))
 }
@@ -141,6 +161,37 @@ fn put_tally(text: &mut String, trial: &Trial, times: u32, tally: Tally) -> Opti
     .ok()
 }
 
+/// Makes so many runs, and tells how many have this summary, which is one caller's; and the summary.
+fn put_compared<R: Threads + Wait + Sync>(
+    rt: &R,
+    text: &mut String,
+    alloc: Global,
+    trial: &Trial,
+    times: u32,
+    summary: &[u8],
+) -> Option<()> {
+    let tally = tally_runs(rt, alloc, trial, times, summary)?;
+    put_tally(text, trial, times, tally)?;
+    put_text(text, summary)
+}
+
+/// The same of this trial.
+fn put_runs_of<R: Threads + Wait + Sync>(
+    rt: &R,
+    text: &mut String,
+    alloc: Global,
+    trial: &Trial,
+    times: u32,
+) -> Option<()> {
+    let one = trial.run_alone(alloc)?;
+    let told = match summary_of(&one) {
+        None => None,
+        Some(summary) => put_compared(rt, text, alloc, trial, times, summary),
+    };
+    drop(one);
+    told
+}
+
 /// How many of so many runs are lawful, have an entry for each line, and the summary of one caller's
 /// run; and that summary.
 pub(crate) fn put_runs<R: Threads + Wait + Sync>(
@@ -151,10 +202,9 @@ pub(crate) fn put_runs<R: Threads + Wait + Sync>(
     times: u32,
 ) -> Option<()> {
     let trial = Trial::new(alloc, containers)?;
-    let summary = trial.summary(alloc)?;
-    let tally = tally_runs(rt, alloc, &trial, times, summary.written())?;
-    put_tally(text, &trial, times, tally)?;
-    put_text(text, summary.written())
+    let told = put_runs_of(rt, text, alloc, &trial, times);
+    drop(trial);
+    told
 }
 
 /// How many of so many runs, in each of which a register fails at another call, are lawful, and end with
@@ -167,7 +217,9 @@ pub(crate) fn put_faults<R: Threads + Wait + Sync>(
     fails: &[u32],
 ) -> Option<()> {
     let trial = Trial::new(alloc, containers)?;
-    let (lawful, ended) = tally_faults(rt, alloc, &trial, fails)?;
+    let tally = tally_faults(rt, alloc, &trial, fails);
+    drop(trial);
+    let (lawful, ended) = tally?;
     let times = fails.len();
     write!(
         text,

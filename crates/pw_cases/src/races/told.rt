@@ -1,4 +1,4 @@
-use pw_audit::{AuditFault, audit};
+use pw_audit::{Audit, AuditFault, audit};
 use pw_plan::Plan;
 use pw_played::Played;
 use pw_script::Script;
@@ -22,15 +22,9 @@ pub(crate) fn put_counts(text: &mut String, played: &Played) -> Option<()> {
     writeln!(text, "{entries} entries, {done} operations").ok()
 }
 
-/// What the audit answers to the text of a history.
-pub(crate) fn put_audit(
-    text: &mut String,
-    alloc: Global,
-    plan: &Plan,
-    script: &Script,
-    written: &[u8],
-) -> Option<()> {
-    match audit(alloc, plan, script, written) {
+/// What the audit answered.
+fn put_answer(text: &mut String, answer: &Result<Audit, AuditFault>) -> Option<()> {
+    match answer {
         Ok(shown) => writeln!(text, "lawful entries {}", shown.entries.as_slice().len()).ok(),
         Err(AuditFault::Wrong { line }) => writeln!(text, "history: line {line}").ok(),
         Err(AuditFault::Unfinished { lines }) => {
@@ -41,4 +35,18 @@ pub(crate) fn put_audit(
         }
         Err(AuditFault::Memory) => None,
     }
+}
+
+/// What the audit answers to the text of a history.
+pub(crate) fn put_audit(
+    text: &mut String,
+    alloc: Global,
+    plan: &Plan,
+    script: &Script,
+    written: &[u8],
+) -> Option<()> {
+    let answer = audit(alloc, plan, script, written);
+    let told = put_answer(text, &answer);
+    drop(answer);
+    told
 }

@@ -1,7 +1,7 @@
 use Rattle.std.proofs.Common.{◌≡◌, ℕ, ◌+◌, ◌-◌, ◌*◌, ◌<◌, ◌≤◌, length}
 use denote.Text.{Utf8}
 use denote.Shadow.{shadow}
-use Rattle.pw_cases.proofs.main.Given as goal
+use Rattle.pw_cases.proofs.print_cases.Given as goal
 
 -- says that each `&str` the loop changes is text: keep it, and add clauses with ×
 abbrev pub invariant-loop-line : goal.invariant-loop-line
