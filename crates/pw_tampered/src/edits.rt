@@ -85,8 +85,8 @@ fn put_line(out: &mut Vec<u8>, edits: &str, number: usize, line: &str) -> Option
     out.extend_from_slice(end.as_bytes()).ok()
 }
 
-/// Appends a text as edits change it: `put LINE TEXT`, `drop FROM TO`, `swap ONE OTHER`, `returns` for a carriage
-/// return before each line feed, and `unended` without the last line feed.
+/// Appends a text as edits change it: `put LINE TEXT`, `drop FROM TO`, `swap ONE OTHER`, `returns` for a
+/// carriage return before each line feed, and `unended` without the last line feed.
 fn put_lines(out: &mut Vec<u8>, text: &str, edits: &str) -> Option<()> {
     let mut number = 0usize;
     for line in text.lines() {
