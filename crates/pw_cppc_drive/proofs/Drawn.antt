@@ -1,5 +1,5 @@
 -- What a run by workers is to its caller.
-use Rattle.std.proofs.Common.{◌≡◌, ◌≤◌, ◌∙◌, ℕ, suc, List, Vec, [], ◌∷◌, length, None, refl, ap, sym, subst, arith}
+use Rattle.std.proofs.Common.{◌≡◌, ◌≤◌, ◌∙◌, ℕ, suc, List, Vec, [], ◌∷◌, length, None, Some, refl, ap, sym, subst, arith}
 use Rattle.std.specs.List.{AllByRecursion}
 use Rattle.std.specs.declared.alloc.Global.{Global}
 use Rattle.pw_regs.specs.declared.registers.Registers.{Ghosts as Registers}
@@ -21,6 +21,7 @@ use Rattle.pw_cppc_drive.specs.declared.script.CppcLine.{CppcLine as line}
 use Rattle.pw_cppc_drive.proofs.Printed.{entry_cpu}
 use Rattle.pw_cppc_drive.specs.Reading.{operations, requests_of}
 use Rattle.pw_cppc_drive.specs.Driven.{OperatesFor}
+use Rattle.pw_cppc_desk.specs.Opens.{FailsAfter}
 use Rattle.pw_cppc_desk.specs.Slots.{bound_of}
 use Rattle.pw_cppc_drive.specs.Lawful.{Lawful, TellSeats, telling}
 use Rattle.pw_cppc_drive.specs.inner.Lists.{AreLists, AreListsFor}
@@ -83,3 +84,16 @@ module _ {R : Type 0} (by : Registers R) (P : CppcPlan) (lines : List line) (reg
       → AllByRecursion (λ (l : line). Has P l.request) lines → AreLists (requests_of lines) (length P.cpus) lists → Makes by D n given lists entries left → Ran entries left
   ran_at D given n lists entries left plan old size has are m =
       ran n lists entries left size has are (subst (λ x. Makes by x n regs lists entries left) plan (subst (λ x. Makes by D n x lists entries left) old m))
+
+  -- the start was ended by a fault
+  pub failed_at : (done : ℕ) (left : R) → FailsAfter by P regs done left → OperatesFor P (operations P lines) (Some done) [] (registers_seen by regs) (registers_seen by left)
+  failed_at done left f =
+      let few = f.promised in
+      record {
+        same_told = f.same_told;
+        count = f.least;
+        log = f.ops;
+        fault = λ _. f.failed;
+        promised = λ enough. absurd (omega (arith, enough, few));
+        left = omega (arith, few);
+      }

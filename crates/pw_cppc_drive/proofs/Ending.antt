@@ -15,6 +15,7 @@ use Rattle.pw_regs.proofs.Operating.{did_within}
 use Rattle.pw_cppc_desk.specs.Slots.{bound_of}
 use Rattle.pw_cppc_desk.specs.Ends.{Ends}
 use Rattle.pw_books.proofs.Ended as any
+use Rattle.pw_books.proofs.Joins.{each_map}
 use Rattle.pw_books.proofs.Ended.{AllBecame, AreTaken, EndedFrom, became_too, each_became, made_by, none_made}
 use Rattle.pw_cppc_drive.specs.declared.working.Worker.{Worker}
 use Rattle.pw_cppc_drive.specs.Lawful.{Opened, telling}
@@ -28,6 +29,9 @@ pub all_ready : (id : TableId) (P : CppcPlan) (lists : List (Vec CppcRequest Glo
     → AllByRecursion (IsReady id P) ws
 all_ready id P lists ws are seated = any.all_ready telling holding (HasSeat id) lists (Has P) (IsReady id P)
     (λ w seat has. record { owns = seat.owns; fresh = seat.fresh; has = has }) (length P.cpus) ws are seated
+
+pub seated_members : (id : TableId) (lists : List (Vec CppcRequest Global)) (ws : List Worker) → AllByRecursion (SeatedFor id lists) ws → AllByRecursion (IsMember id) ws
+seated_members id lists ws seated = each_map (SeatedFor id lists) (IsMember id) (λ w s. record { owns = s.seat.owns; part = s.seat.part }) ws seated
 
 pub ended_members : (id : TableId) (room : ℕ) (lists : List (Vec CppcRequest Global)) (vs ws : List Worker) → AllBecame (HasEnded id room) vs ws
     → AllByRecursion (SeatedFor id lists) vs → AllByRecursion (IsMember id) ws

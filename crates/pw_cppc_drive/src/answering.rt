@@ -1,5 +1,5 @@
 //! What the requests of a history are answered, for who has its entries alone.
-ghost use Rattle.std.specs.Prelude.{◌≡◌, ◌≤◌, IfOk};
+ghost use Rattle.std.specs.Prelude.{◌≡◌, ◌≤◌, [], length, vec_capacity, IfOk, OnOk};
 ghost use Rattle.std.specs.List.{AllByRecursion};
 ghost use Rattle.pw_cppc.specs.Answers.{answer};
 ghost use Rattle.pw_cppc.specs.History.{StatesRequest, after_entry, request_of};
@@ -32,6 +32,47 @@ fn answer(plan: &CppcPlan, state: &mut CppcState, ops: &mut Ops, entry: &CppcEnt
     reply
 }
 
+/// Answers the requests of entries in their order, from the numbers at the opening on.
+fn answer_all(
+    plan: &CppcPlan,
+    state: &mut CppcState,
+    ops: &mut Ops,
+    entries: &[CppcEntry],
+    answers: &mut Vec<CppcReply>,
+)
+    requires entries { AllByRecursion (StatesRequest plan.now) entries.now }
+    requires opening { state.old ≡ opening plan.now }
+    requires fits { AreNumbers plan.now state.old }
+    requires room { 257 ≤ ops.old.capacity }
+    requires none { answers.old.items ≡ [] }
+    requires spare { length entries.now ≤ vec_capacity answers.old }
+    ensures { answers.new.items ≡ answers_from plan.now (opening plan.now) entries.now }
+{
+    for entry in entries {
+        answers.push_reserved(answer(plan, state, ops, entry));
+    }
+}
+
+/// Answers the requests of entries in their order, into a list that has room for the answers.
+fn answer_into(
+    alloc: Global,
+    plan: &CppcPlan,
+    entries: &[CppcEntry],
+    answers: &mut Vec<CppcReply>,
+) -> Result<(), Memory>
+    requires entries { AllByRecursion (StatesRequest plan.now) entries.now }
+    requires none { answers.old.items ≡ [] }
+    requires spare { length entries.now ≤ vec_capacity answers.old }
+    ensures { OnOk result
+        (answers.new.items ≡ answers_from plan.now (opening plan.now) entries.now) }
+{
+    let mut ops = Ops::new(alloc, MOST_OF_A_REQUEST)?;
+    let mut state = CppcState::open(alloc, plan)?;
+    answer_all(plan, &mut state, &mut ops, entries, answers);
+    drop(state);
+    Ok(())
+}
+
 /// What the requests of entries are answered, in their order.
 pub(crate) fn answers_of(
     alloc: Global,
@@ -41,11 +82,7 @@ pub(crate) fn answers_of(
     requires { AllByRecursion (StatesRequest plan.now) entries.now }
     ensures { IfOk result (λ answers. answers.items ≡ answers_from plan.now (opening plan.now) entries.now) }
 {
-    let mut state = CppcState::open(alloc, plan)?;
-    let mut ops = Ops::new(alloc, MOST_OF_A_REQUEST)?;
     let mut answers = Vec::with_capacity(alloc, entries.len())?;
-    for entry in entries {
-        answers.push_reserved(answer(plan, &mut state, &mut ops, entry));
-    }
+    answer_into(alloc, plan, entries, &mut answers)?;
     Ok(answers)
 }

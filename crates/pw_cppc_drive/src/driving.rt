@@ -82,11 +82,15 @@ pub fn cppc_serial<R: Registers>(
 {
     let lines = script.lines.as_slice();
     let Ok(mut replies) = Vec::with_capacity(alloc, lines.len()) else {
+        drop(plan);
         return Err(regs);
     };
     let mut ledger = match Ledger::open(alloc, &plan, lines.len() as u32, regs) {
         Ok(ledger) => ledger,
-        Err(regs) => return Err(regs),
+        Err(regs) => {
+            drop(plan);
+            return Err(regs);
+        }
     };
     let opening = run(&plan, lines, &mut ledger, &mut replies);
     let (entries, regs) = ledger.finish();

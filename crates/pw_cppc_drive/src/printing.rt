@@ -292,8 +292,9 @@ fn print_by<K: Sink>(
     ensures memory { result ≡ Err faults.Memory → out.new ≡ out.old }
 {
     let mut held = hold(alloc, plan)?;
-    put_history(&mut held, out, opening, entries, answers)?;
-    Ok(())
+    let put = put_history(&mut held, out, opening, entries, answers);
+    drop(held);
+    Ok(put?)
 }
 
 /// Prints the text of a history: the opening with its operations, and each entry with its reply and

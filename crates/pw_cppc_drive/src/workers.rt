@@ -66,7 +66,10 @@ fn run<T: Threads + Wait + Sync, R: Registers + Send>(
         Opened R.Registers desk.plan desk.table.shared.key.regs.value back) }
 {
     if !seat_all(&desk, &mut first, lists, &mut workers) {
-        return Err(end(desk, first, workers).regs);
+        let closed = end(desk, first, workers);
+        drop(closed.plan);
+        drop(closed.entries);
+        return Err(closed.regs);
     }
     work_all(rt, &desk, workers.as_mut_slice());
     Ok(end(desk, first, workers))
@@ -100,19 +103,20 @@ pub fn cppc_drive<T: Threads + Wait + Sync, R: Registers + Send>(
 {
     let lines = script.lines.as_slice();
     let Ok((lists, workers)) = prepare(alloc, &plan, lines) else {
+        drop(plan);
         return Err(regs);
     };
     match CppcDesk::open(alloc, plan, regs, lines.len() as u32) {
-        Ok((desk, first)) => {
-            let closed = run(rt, desk, first, lists, workers)?;
-            Ok(CppcDriven {
+        Ok((desk, first)) => match run(rt, desk, first, lists, workers) {
+            Ok(closed) => Ok(CppcDriven {
                 plan: closed.plan,
                 opening: None,
                 entries: closed.entries,
                 replies: None,
                 regs: closed.regs,
-            })
-        }
+            }),
+            Err(regs) => Err(regs),
+        },
         Err(CppcOpenFault::RegisterFault { done, plan, regs }) => Ok(CppcDriven {
             plan,
             opening: Some(done),

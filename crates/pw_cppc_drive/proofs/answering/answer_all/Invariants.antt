@@ -2,7 +2,7 @@ use Rattle.std.proofs.Common.{◌≡◌, ◌≤◌, ◌++◌, drop}
 use Rattle.std.specs.Prelude.{vec_capacity, vec_len}
 use Rattle.pw_cppc.specs.States.{AreNumbers, opening}
 use Rattle.pw_cppc_drive.specs.inner.Known.{answers_from}
-use Rattle.pw_cppc_drive.proofs.answering.answers_of.Given as goal
+use Rattle.pw_cppc_drive.proofs.answering.answer_all.Given as goal
 
 abbrev pub invariant-loop-entry : goal.invariant-loop-entry
 invariant-loop-entry l = record {
