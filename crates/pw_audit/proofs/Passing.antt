@@ -43,6 +43,13 @@ stops_here ls n k left rest line Memory lt is same h = absurd h
 
 -- # The lines of elements
 
+-- a line takes a byte at least
+pub shorter : (rest next l : List ℕ) → rest ≡ with_feed l ++ next → length next + 1 ≤ length rest
+shorter rest next l e =
+    let a : length rest ≡ length (with_feed l) + length next = ap length e ∙ length-append (with_feed l) next in
+    let b : length (with_feed l) ≡ length l + 1 = length-append l (10 ∷ []) in
+    omega (arith, a, b)
+
 module _ {X : Type 0} (f : X → List ℕ) where
   taken : (k : ℕ) (xs : List X) (d : X) → k < length xs → map f (take (k + 1) xs) ≡ map f (take k xs) ++ f (get_or xs k d) ∷ []
   taken k xs d lt = ap (λ (l : List X). map f l) (take_more xs k d lt) ∙ map-append f (take k xs) (get_or xs k d ∷ [])
@@ -55,6 +62,9 @@ module _ {X : Type 0} (f : X → List ℕ) where
       let more : text_of (map f (take (k + 1) xs)) ≡ shown ++ line =
       ap text_of (taken k xs d lt) ∙ text_of-append (map f (take k xs)) (f (get_or xs k d) ∷ []) ∙ ap (λ (l : List ℕ). shown ++ l) (text_of-one (f (get_or xs k d)) ∙ sym same) in
       is ∙ ap (λ (l : List ℕ). shown ++ l) goes ∙ sym (append_assoc shown line next) ∙ ap (λ (l : List ℕ). l ++ next) (sym more)
+
+  pub shorter_on : (k : ℕ) (xs : List X) (d : X) (rest next line : List ℕ) → line ≡ with_feed (f (get_or xs k d)) → rest ≡ line ++ next → length next + 1 ≤ length rest
+  shorter_on k xs d rest next line same goes = shorter rest next (f (get_or xs k d)) (goes ∙ ap (λ (l : List ℕ). l ++ next) same)
 
   pub take_mapped : (k : ℕ) (xs : List X) → take k (map f xs) ≡ map f (take k xs)
   take_mapped k xs = take-map f k xs
@@ -102,10 +112,3 @@ listed_stops P ops n left (Unfinished lines) (k, ends, at) =
     let lt = ends.within in
     (record { done = take k ls; later = drop k ls; tells = take-append-drop k ls; lacks = left_over ls k lt; is = ends.is }, omega arith)
 listed_stops P ops n left Memory stops = tt
-
--- a line takes a byte at least
-pub shorter : (rest next l : List ℕ) → rest ≡ with_feed l ++ next → length next + 1 ≤ length rest
-shorter rest next l e =
-    let a : length rest ≡ length (with_feed l) + length next = ap length e ∙ length-append (with_feed l) next in
-    let b : length (with_feed l) ≡ length l + 1 = length-append l (10 ∷ []) in
-    omega (arith, a, b)

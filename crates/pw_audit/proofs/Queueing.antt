@@ -4,7 +4,7 @@ use Rattle.std.specs.Prelude.{reverse, MatchOption, option_to_list}
 use Rattle.std.specs.Vec.{vec_len}
 use Rattle.std.proofs.Math.ListN.{set, length-set}
 use Rattle.std.proofs.lemmas.Bool.{eqb-false}
-use Rattle.std.proofs.lemmas.List.{get_or-map, get_or-set_same, get_or-set_other, length-map, map-append, map-set, reverse-append, reverse-reverse, take_more}
+use Rattle.std.proofs.lemmas.List.{get_or-map, get_or-set_same, get_or-set_other, length-map, map-append, map-set, replicate_more, reverse-append, reverse-reverse, take_more}
 use Rattle.std.proofs.lemmas.List.Elements.{filter-append}
 use Rattle.acpi_values.specs.declared.operation.Op.{Op}
 use Rattle.pw_plan.specs.declared.request.Request.{Request}
@@ -25,6 +25,11 @@ pub none_left : {X : Type 0} → (n p : ℕ) → left_of {X = X} (replicate n []
 none_left zero p = refl
 none_left (suc n) zero = refl
 none_left (suc n) (suc p) = none_left n p
+
+pub none_more : {X : Type 0} → (vs ws : List (Vec X Global)) (v : Vec X Global) (n : ℕ) → queues_of vs ≡ replicate n [] → v.items ≡ [] → ws ≡ vs ++ v ∷ [] → queues_of ws ≡ replicate (n + 1) []
+none_more vs ws v n is none more =
+    ap queues_of more ∙ map-append queue_of vs (v ∷ []) ∙ ap (λ (qs : List (List _)). qs ++ queue_of v ∷ []) is
+    ∙ ap (λ (q : List _). replicate n [] ++ reverse q ∷ []) none ∙ replicate_more n []
 
 queue_at : {X : Type 0} → (vs : List (Vec X Global)) (i : ℕ) (v : Vec X Global) → i < length vs → v ≡ get_or vs i v → left_of (queues_of vs) i ≡ queue_of v
 queue_at vs i v lt is = get_or-map queue_of vs i v [] lt ∙ ap queue_of (sym is)
