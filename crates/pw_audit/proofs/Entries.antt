@@ -1,5 +1,5 @@
 -- The line of an entry, and the entries that may have it.
-use Rattle.std.proofs.Common.{◌≡◌, ◌≤◌, ◌==◌, ◌+◌, ◌-◌, ◌∙◌, ℕ, cond, List, [], ◌∷◌, ◌++◌, take, length, refl, ap, sym, subst, arith, append_assoc, append-nil}
+use Rattle.std.proofs.Common.{◌≡◌, ◌≤◌, ◌==◌, ◌+◌, ◌-◌, ◌∙◌, ℕ, cond, List, [], ◌∷◌, ◌++◌, take, length, refl, ap, sym, subst, inl, inr, arith, append_assoc, append-nil}
 use Rattle.std.proofs.lemmas.List.{append_cancel_left, length-append}
 use Rattle.acpi_values.specs.declared.operation.Op.{Op}
 use Rattle.pw_plan.specs.declared.plan.Plan.{Plan}
@@ -8,6 +8,8 @@ use Rattle.pw_plan.specs.declared.request.Request.TheVariants.{Idle, Wake, Perf,
 use Rattle.pw_plan.specs.Requests.{Has, cpu_of}
 use Rattle.pw_model.specs.declared.entry.HistoryEntry.{HistoryEntry}
 use Rattle.pw_model.specs.declared.state.State.{State}
+use Rattle.pw_model.specs.Answers.{after}
+use Rattle.pw_model.specs.States.{IsState}
 use Rattle.pw_model.specs.History.{FaultFits, IsEntry, entry_ops, request_of}
 use Rattle.pw_model.specs.Operations.{ops_of}
 use Rattle.pw_model.proofs.Joining.{entry_is}
@@ -23,8 +25,26 @@ use Rattle.pw_audit.specs.inner.Queues.{IsNext, Takes, left_of}
 use Rattle.pw_audit.specs.declared.form.Form.{Form}
 use Rattle.pw_audit.specs.Traces.{TellsOps}
 use Rattle.pw_audit.specs.inner.Stopping.{EntryRead, FitsAt, MayCome, NoEntry, OpsRead, StopsBehind, StopsInOps, entry_with, outcome_at}
+use Rattle.pw_audit.specs.inner.Walking.{Steps}
+use Rattle.pw_audit.proofs.Passing.{shorter}
 
 -- # The entry of a request with a fault
+
+with_seat : (q : Request) (f : ℕ) → (entry_with q f).seat ≡ 0
+with_seat (Idle p s t) f = refl
+with_seat (Wake p) f = refl
+with_seat (Perf p i) f = refl
+with_seat (Throttle p i) f = refl
+with_seat (PerfLimit p n) f = refl
+with_seat (ThrottleLimit p n) f = refl
+
+with_cpu : (q : Request) (f : ℕ) → cpu_of q ≡ (entry_with q f).cpu
+with_cpu (Idle p s t) f = refl
+with_cpu (Wake p) f = refl
+with_cpu (Perf p i) f = refl
+with_cpu (Throttle p i) f = refl
+with_cpu (PerfLimit p n) f = refl
+with_cpu (ThrottleLimit p n) f = refl
 
 pub with_request : (q : Request) (f : ℕ) → request_of (entry_with q f) ≡ q
 with_request (Idle p s t) f = refl
@@ -93,7 +113,7 @@ module _ (P : Plan) (S : State) (n : ℕ) (queues : List (List Request)) (left :
       next_is : IsNext queues (request_of (entry_with q f))
       next_is = subst (IsNext queues) (sym (with_request q f)) (record { later = left_of new (cpu_of q); is = takes.first })
 
-      pub may_come : MayCome P S queues (entry_with q f)
+      may_come : MayCome P S queues (entry_with q f)
       may_come = record { entry = with_is P q f has; fits = with_fits P S q f fits; next = next_is }
 
       pub line_read : left ≡ with_feed (entry_line P S n (entry_with q f)) ++ rest
@@ -101,7 +121,7 @@ module _ (P : Plan) (S : State) (n : ℕ) (queues : List (List Request)) (left :
           head ∙ ap (λ (l : List ℕ). head_text P n q ++ l) outcome ∙ sym (append_assoc (head_text P n q) (with_feed (behind (outcome_at P S q f))) rest)
           ∙ ap (λ (l : List ℕ). l ++ rest) (sym (with_line P S n q f))
 
-      pub entry_read : (form : Form) (done : List Op) (next : List ℕ) → done ≡ done_of (ops_of P S q) f → OpsRead form P done rest next → EntryRead form P S n (entry_with q f) left next
+      entry_read : (form : Form) (done : List Op) (next : List ℕ) → done ≡ done_of (ops_of P S q) f → OpsRead form P done rest next → EntryRead form P S n (entry_with q f) left next
       entry_read form done next is read =
           let first = with_feed (entry_line P S n (entry_with q f)) in
           record {
@@ -109,6 +129,18 @@ module _ (P : Plan) (S : State) (n : ℕ) (queues : List (List Request)) (left :
             tells = subst (λ (os : List Op). TellsOps form P os read.lines) (is ∙ sym (with_ops P S q f)) read.tells;
             is = line_read ∙ ap (λ (l : List ℕ). first ++ l) read.is ∙ sym (append_assoc first (text_of read.lines) next);
           }
+
+      pub entry_steps : (form : Form) (done : List Op) (T : State) (before : ℕ) (next : List ℕ) → done ≡ done_of (ops_of P S q) f → OpsRead form P done rest next → T ≡ cond (f == 0) (after P S q) S
+          → IsState P T → Steps form P S n queues before left (entry_with q f) T new (before + 1 + length done) next
+      entry_steps form done T before next is read state fit = record {
+        may = may_come;
+        seat = with_seat q f;
+        read = entry_read form done next is read;
+        lines = ap (λ (os : List Op). before + 1 + length os) (is ∙ sym (with_ops P S q f));
+        takes = subst (λ (r : Request). Takes queues (entry_with q f).cpu r new) (sym (with_request q f)) (subst (λ (p : ℕ). Takes queues p q new) (with_cpu q f) takes);
+        after = state ∙ ap (λ (r : Request). cond (f == 0) (after P S r) S) (sym (with_request q f));
+        fits = fit;
+      }
 
       pub stops_behind : (form : Form) (done : List Op) (before : ℕ) (fault : AuditFault) → done ≡ done_of (ops_of P S q) f → StopsInOps form P done (before + 1) rest fault
           → StopsBehind form P S n queues before left fault
@@ -121,6 +153,17 @@ module _ (P : Plan) (S : State) (n : ℕ) (queues : List (List Request)) (left :
       }
 
 -- # How many lines
+
+pub fits_le : (P : Plan) (S : State) (q : Request) (f : ℕ) (ops : List Op) → ops ≡ ops_of P S q → FitsAt P S q f → f ≤ length ops
+fits_le P S q f ops is (inl z) = omega arith
+fits_le P S q f ops is (inr le) = let size = ap (λ (os : List Op). length os) is in omega arith
+
+-- what stands behind the line of an entry is shorter
+pub line_less : (head later outcome rest left : List ℕ) → left ≡ head ++ later → later ≡ with_feed outcome ++ rest → length rest + 1 ≤ length left
+line_less head later outcome rest left is goes =
+    let less = shorter later rest outcome goes in
+    let whole : length left ≡ length head + length later = ap length is ∙ length-append head later in
+    omega arith
 
 pub lines_few : (ls : List (List ℕ)) → length ls ≤ length (text_of ls)
 lines_few [] = omega arith
@@ -138,7 +181,3 @@ counted form P left first rest next done head read size =
     let b : length (with_feed first) ≡ length first + 1 = length-append first (10 ∷ []) in
     let d : length rest ≡ length (text_of read.lines) + length next = ap length read.is ∙ length-append (text_of read.lines) next in
     omega arith
-
-pub ops_count : (P : Plan) (S : State) (before : ℕ) (q : Request) (f : ℕ) (done : List Op) → done ≡ done_of (ops_of P S q) f
-    → before + 1 + length done ≡ before + 1 + length (entry_ops P S (entry_with q f))
-ops_count P S before q f done is = ap (λ (os : List Op). before + 1 + length os) (is ∙ sym (with_ops P S q f))

@@ -1,15 +1,14 @@
 -- What a whole text shows.
 use Rattle.std.proofs.Common.{◌≡◌, ◌<◌, ◌∙◌, ◌++◌, ℕ, List, [], Option, Some, None, length, refl, ap, sym, subst, append-nil}
-use Rattle.std.specs.List.{AllByRecursion}
 use Rattle.pw_plan.specs.declared.plan.Plan.{Plan}
 use Rattle.pw_plan.specs.declared.request.Request.{Request}
 use Rattle.pw_model.specs.declared.entry.HistoryEntry.{HistoryEntry}
 use Rattle.pw_model.specs.Operations.{opening_ops}
 use Rattle.pw_text.specs.Lines.{text_of}
-use Rattle.pw_script.specs.Lawful.{Lawful}
 use Rattle.pw_audit.specs.declared.form.Form.{Form}
-use Rattle.pw_audit.specs.Traces.{ShowsAs, TextTells}
+use Rattle.pw_audit.specs.Traces.{ShowsAs}
 use Rattle.pw_audit.specs.inner.Stopping.{OpeningRead, known}
+use Rattle.pw_audit.specs.inner.Walking.{opened_with}
 use Rattle.pw_audit.proofs.Knowing.{shows_to}
 use Rattle.pw_base.proofs.Facts.{empty}
 
@@ -30,8 +29,7 @@ shows_opening form P qs text left o k before entries fault lt read none nothing 
       seats = tt;
     }))
 
-pub shows_entries : (form : Form) (P : Plan) (qs : List Request) (text : List ℕ) (o : Option ℕ) (entries : List HistoryEntry) → o ≡ None → Lawful P (known P qs) None entries
-    → TextTells form P None entries text → AllByRecursion (λ (e : HistoryEntry). e.seat ≡ 0) entries → ShowsAs form P qs text (record { opening = o; entries = entries })
-shows_entries form P qs text o entries none lawful is seats =
-    subst (λ (f : Option ℕ). ShowsAs form P qs text (record { opening = f; entries = entries })) (sym none)
-    (shows_to P form qs text (record { opening = None; entries = entries }) (record { lawful = lawful; is = is; seats = seats }))
+pub shows_entries : (form : Form) (P : Plan) (qs : List Request) (text : List ℕ) (o : Option ℕ) (entries : List HistoryEntry) → o ≡ None → ShowsAs form P (known P qs) text (opened_with entries)
+    → ShowsAs form P qs text (record { opening = o; entries = entries })
+shows_entries form P qs text o entries none shows =
+    subst (λ (f : Option ℕ). ShowsAs form P qs text (record { opening = f; entries = entries })) (sym none) (shows_to P form qs text (opened_with entries) shows)

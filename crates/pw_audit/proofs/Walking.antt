@@ -1,5 +1,5 @@
 -- The walk over the entries of a text.
-use Rattle.std.proofs.Common.{◌≡◌, ◌≢◌, ◌<◌, ◌≤◌, ◌==◌, ◌+◌, ◌∙◌, ℕ, true, false, eqb-true, List, [], ◌∷◌, ◌++◌, codes, length, None, refl, ap, sym, subst, arith, append_assoc, append-nil}
+use Rattle.std.proofs.Common.{◌≡◌, ◌≢◌, ◌<◌, ◌≤◌, ◌==◌, ◌+◌, ◌∙◌, ℕ, true, false, eqb-true, List, [], ◌∷◌, ◌++◌, length, None, refl, ap, sym, subst, arith, append_assoc, append-nil}
 use Rattle.std.specs.List.{AllByRecursion}
 use Rattle.std.proofs.lemmas.Bool.{eqb-false}
 use Rattle.std.proofs.lemmas.List.{length-append}
@@ -9,7 +9,7 @@ use Rattle.pw_plan.proofs.Lists.{each_append}
 use Rattle.pw_model.specs.declared.entry.HistoryEntry.{HistoryEntry}
 use Rattle.pw_model.specs.declared.state.State.{State}
 use Rattle.pw_model.specs.States.{IsState, opening}
-use Rattle.pw_model.specs.History.{Faultless, after_entry, entry_ops, replay, request_of}
+use Rattle.pw_model.specs.History.{after_entry, entry_ops, replay}
 use Rattle.pw_notice.specs.Limits.{own}
 use Rattle.pw_text.specs.Lines.{text_of}
 use Rattle.pw_script.specs.Asking.{CanBeAsked}
@@ -19,43 +19,16 @@ use Rattle.pw_script.specs.Completing.{IsStart}
 use Rattle.pw_script.specs.Wholes.{entry_line, pieces_of}
 use Rattle.pw_audit.specs.declared.answer.AuditFault.{AuditFault}
 use Rattle.pw_audit.specs.declared.form.Form.{Form}
-use Rattle.pw_audit.specs.declared.form.Form.TheVariants.{Trace}
-use Rattle.pw_audit.specs.Traces.{IsUnfinishedAs, IsWrongAs, Opens, Tells, TextTells}
-use Rattle.pw_audit.specs.inner.Queues.{EachOwn, Leaves, Takes, left_of}
-use Rattle.pw_audit.specs.inner.Stopping.{EntryRead, LacksFirst, MayCome, OpeningRead, Refuses, StopsAtEntry, known}
+use Rattle.pw_audit.specs.Traces.{IsUnfinishedAs, IsWrongAs, ShowsAs, Tells, TextTells}
+use Rattle.pw_audit.specs.inner.Queues.{EachOwn, Leaves, left_of}
+use Rattle.pw_audit.specs.inner.Stopping.{EntryRead, MayCome, OpeningRead, Refuses, StopsAtEntry, known}
+use Rattle.pw_audit.specs.inner.Walking.{Steps, Walked, opened_with}
 use Rattle.pw_audit.proofs.Entries.{lines_few}
 use Rattle.pw_audit.proofs.Entering.{at_entry, behind_fault, faulty_run, lines_left_over, run_of}
 use Rattle.pw_audit.proofs.Following.{faultless_step, faulty, goes_on, leaves_own, leaves_step, replay_step, start_none}
 use Rattle.pw_audit.proofs.Knowing.{own_known}
 use Rattle.pw_audit.proofs.Passing.{text_of-append}
 use Rattle.pw_audit.proofs.Told.{ops_length, tells_append, tells_one}
-
--- where the walk over a text stands: behind these entries, in this state, with this left of the script and of the text, behind so many lines
-pub record Walked (form : Form) (P : Plan) (L : List Request) (text : List ℕ) (H : List HistoryEntry) (S : State) (queues : List (List Request)) (passed : ℕ) (left : List ℕ) : Type 0 where
-  pub start : IsStart P L H
-  pub faultless : Faultless H
-  pub seats : AllByRecursion (λ (e : HistoryEntry). e.seat ≡ 0) H
-  pub state : S ≡ replay P H
-  pub fits : IsState P S
-  pub leaves : Leaves P L H queues
-  pub first : List (List ℕ)
-  pub told : List (List ℕ)
-  pub opens : Opens form P None first
-  pub tells : Tells form P (opening P) 1 H told
-  pub lines : passed ≡ length (first ++ told)
-  pub is : text ≡ text_of (first ++ told) ++ left
-  pub out : form ≡ Trace → first ≡ codes "open" ∷ [] → H ≡ [] → LacksFirst P left
-
--- the next entry of a text, and what comes of it
-pub record Steps (form : Form) (P : Plan) (S : State) (n : ℕ) (queues : List (List Request)) (passed : ℕ) (left : List ℕ) (e : HistoryEntry) (T : State) (new : List (List Request)) (next : ℕ)
-    (rest : List ℕ) : Type 0 where
-  pub may : MayCome P S queues e
-  pub seat : e.seat ≡ 0
-  pub read : EntryRead form P S n e left rest
-  pub lines : next ≡ passed + 1 + length (entry_ops P S e)
-  pub takes : Takes queues e.cpu (request_of e) new
-  pub after : T ≡ after_entry P S e
-  pub fits : IsState P T
 
 pub walked_init : (form : Form) (P : Plan) (L : List Request) (text : List ℕ) (S : State) (queues : List (List Request)) (passed : ℕ) (left : List ℕ) → S ≡ opening P → IsState P S
     → Leaves P L [] queues → OpeningRead form P None text passed left → Walked form P L text [] S queues passed left
@@ -91,7 +64,7 @@ not_empty : (H : List HistoryEntry) (e : HistoryEntry) → H ++ e ∷ [] ≡ [] 
 not_empty [] e same = cc
 not_empty (x ∷ H) e same = cc
 
-module _ (form : Form) (P : Plan) (L : List Request) (text : List ℕ) (H : List HistoryEntry) (S : State) (queues : List (List Request)) (passed : ℕ) (left : List ℕ)
+module _ {form : Form} {P : Plan} {L : List Request} {text : List ℕ} {H : List HistoryEntry} {S : State} {queues : List (List Request)} {passed : ℕ} {left : List ℕ}
     (w : Walked form P L text H S queues passed left) where
   pub walked_own : EachOwn queues
   walked_own = leaves_own P L H queues w.leaves
@@ -105,23 +78,23 @@ module _ (form : Form) (P : Plan) (L : List Request) (text : List ℕ) (H : List
   pub walked_size : length queues ≡ length P.cpus
   walked_size = w.leaves.size
 
-  module _ (n : ℕ) (number : n ≡ 1 + length H) where
+  module _ {n : ℕ} (number : n ≡ 1 + length H) where
     pub walked_refuses : HasSegments P → CanBeAsked P L → (fault : AuditFault) → 0 < length left → StopsAtEntry form P S n queues passed left fault → Refuses form P L text fault
     walked_refuses tell are fault some stops =
         at_entry form P tell L are H w.start w.first w.told w.opens w.tells text queues w.faultless w.leaves left w.is w.out passed n fault w.lines number some
         (subst (λ (T : State). StopsAtEntry form P T n queues passed left fault) w.state stops)
 
-    module _ (tell : HasSegments P) (e : HistoryEntry) (T : State) (new : List (List Request)) (next : ℕ) (rest : List ℕ) (s : Steps form P S n queues passed left e T new next rest) where
+    module _ (tell : HasSegments P) {e : HistoryEntry} {T : State} {new : List (List Request)} {next : ℕ} {rest : List ℕ} (s : Steps form P S n queues passed left e T new next rest) where
       may : MayCome P (replay P H) queues e
       may = subst (λ (U : State). MayCome P U queues e) w.state s.may
 
       read : EntryRead form P (replay P H) (1 + length H) e left rest
       read = subst (λ (U : State). EntryRead form P U (1 + length H) e left rest) w.state (subst (λ (m : ℕ). EntryRead form P S m e left rest) number s.read)
 
-      pub step_start : IsStart P L (H ++ e ∷ [])
+      step_start : IsStart P L (H ++ e ∷ [])
       step_start = goes_on P L H queues w.start w.faultless w.leaves e may
 
-      pub step_seats : AllByRecursion (λ (x : HistoryEntry). x.seat ≡ 0) (H ++ e ∷ [])
+      step_seats : AllByRecursion (λ (x : HistoryEntry). x.seat ≡ 0) (H ++ e ∷ [])
       step_seats = each_append (λ (x : HistoryEntry). x.seat ≡ 0) H (e ∷ []) w.seats (s.seat, tt)
 
       step_told : List (List ℕ)
@@ -140,7 +113,7 @@ module _ (form : Form) (P : Plan) (L : List Request) (text : List ℕ) (H : List
           w.is ∙ ap (λ (l : List ℕ). front ++ l) read.is ∙ sym (append_assoc front (text_of more) rest)
           ∙ ap (λ (l : List ℕ). l ++ rest) (sym (text_of-append (w.first ++ w.told) more)) ∙ ap (λ (ls : List (List ℕ)). text_of ls ++ rest) (append_assoc w.first w.told more)
 
-      pub step_whole : length rest ≡ 0 → TextTells form P None (H ++ e ∷ []) text
+      step_whole : length rest ≡ 0 → TextTells form P None (H ++ e ∷ []) text
       step_whole none = record {
         first = w.first;
         later = step_told;
@@ -184,7 +157,7 @@ module _ (form : Form) (P : Plan) (L : List Request) (text : List ℕ) (H : List
           subst (λ (m : ℕ). IsWrongAs form P L text (m + 1)) (sym step_lines)
           (behind_fault form P tell L are (H ++ e ∷ []) step_start w.first step_told w.opens step_tells text rest (faulty H e ne) step_is some)
 
-      pub fault_whole : e.fault ≢ 0 → IsRunOf P L (H ++ e ∷ [])
+      fault_whole : e.fault ≢ 0 → IsRunOf P L (H ++ e ∷ [])
       fault_whole ne = faulty_run P L (H ++ e ∷ []) step_start (faulty H e ne)
 
       pub step_short : next + length rest ≤ length text
@@ -200,16 +173,19 @@ module _ (form : Form) (P : Plan) (L : List Request) (text : List ℕ) (H : List
           let size : length left ≡ length (text_of ls) + length rest = ap length s.read.is ∙ length-append (text_of ls) rest in
           omega arith
 
+      pub fault_shows : e.fault ≢ 0 → length rest ≡ 0 → ShowsAs form P L text (opened_with (H ++ e ∷ []))
+      fault_shows ne none = record { lawful = fault_whole ne; is = step_whole none; seats = step_seats }
+
   -- at the end of the text
   module _ (none : length left ≡ 0) where
     end_is : text ≡ text_of (w.first ++ w.told)
     end_is = w.is ∙ ap (λ (l : List ℕ). text_of (w.first ++ w.told) ++ l) (no_bytes left none) ∙ append-nil (text_of (w.first ++ w.told))
 
-    pub end_text : TextTells form P None H text
+    end_text : TextTells form P None H text
     end_text = record { first = w.first; later = w.told; opens = w.opens; tells = w.tells; is = end_is }
 
-    pub end_whole : ((p : ℕ) → left_of queues p ≡ []) → IsRunOf P L H
-    end_whole made = run_of P L H queues w.start w.leaves made
+    pub end_shows : ((p : ℕ) → left_of queues p ≡ []) → ShowsAs form P L text (opened_with H)
+    end_shows made = record { lawful = run_of P L H queues w.start w.leaves made; is = end_text; seats = w.seats }
 
     pub end_unfinished : HasSegments P → CanBeAsked P L → (((p : ℕ) → left_of queues p ≡ []) → ⊥) → (passed ≡ length (pieces_of text)) × IsUnfinishedAs form P L text
     end_unfinished tell are some =

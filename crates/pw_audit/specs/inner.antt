@@ -1,3 +1,4 @@
 pub mod Looking
 pub mod Queues
 pub mod Stopping
+pub mod Walking

@@ -1,13 +1,12 @@
 //! The lines of an entry.
 ghost use Rattle.std.specs.Prelude.{◌≡◌, ◌<◌, ◌≤◌, ◌+◌, ◌^◌, length, take, IfErr, IfOk, if◌then◌else◌, ◌==◌, ◌-◌};
-ghost use Rattle.pw_plan.specs.Requests.{cpu_of};
 ghost use Rattle.pw_model.specs.States.{IsState};
-ghost use Rattle.pw_model.specs.History.{after_entry, entry_ops, request_of};
 ghost use Rattle.pw_script.specs.inner.Paths.{paths_of};
 ghost use Rattle.pw_script.specs.Telling.{HasSegments};
 ghost use Rattle.pw_audit.specs.inner.Looking.{LeadsTo};
-ghost use Rattle.pw_audit.specs.inner.Queues.{AreWithin, EachOwn, Takes};
-ghost use Rattle.pw_audit.specs.inner.Stopping.{EntryRead, MayCome, OpsRead, StopsAtEntry, StopsInOps, entry_with};
+ghost use Rattle.pw_audit.specs.inner.Queues.{AreWithin, EachOwn};
+ghost use Rattle.pw_audit.specs.inner.Stopping.{OpsRead, StopsAtEntry, StopsInOps, entry_with};
+ghost use Rattle.pw_audit.specs.inner.Walking.{Steps};
 
 use crate::answer::AuditFault;
 use crate::form::Form;
@@ -122,14 +121,8 @@ pub(crate) fn read_entry<'a>(
     requires room { 256 ≤ ops.old.capacity }
     requires some { 0 < length left.now }
     requires short { before + length left.now < 2 ^ 32 }
-    ensures may { IfOk result (λ r. MayCome names.now state.old asked.old r.0) }
-    ensures seat { IfOk result (λ r. r.0.seat ≡ 0) }
-    ensures read { IfOk result (λ r.
-        EntryRead form names.now state.old number r.0 left.now r.2.now) }
-    ensures lines { IfOk result (λ r. r.1 ≡ before + 1 + length (entry_ops names.now state.old r.0)) }
-    ensures takes { IfOk result (λ r. Takes asked.old r.0.cpu (request_of r.0) asked.new) }
-    ensures after { IfOk result (λ r. state.new ≡ after_entry names.now state.old r.0) }
-    ensures fits { IsState names.now state.new }
+    ensures steps { IfOk result (λ r. Steps form names.now state.old number asked.old before left.now
+        r.0 state.new asked.new r.1 r.2.now) }
     ensures room { ops.new.capacity ≡ ops.old.capacity }
     ensures stops { IfErr result (
         StopsAtEntry form names.now state.old number asked.old before left.now) }

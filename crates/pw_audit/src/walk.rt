@@ -1,18 +1,16 @@
 //! The walk over a text, line by line, with the state of the plan at each line.
-ghost use Rattle.std.specs.Prelude.{◌≡◌, ◌<◌, ◌≤◌, ◌^◌, [], None, length, IfErr, IfOk, OnOk};
+ghost use Rattle.std.specs.Prelude.{◌≡◌, ◌<◌, ◌≤◌, ◌^◌, None, length, IfErr, IfOk, OnOk};
 ghost use Rattle.std.specs.List.{AllByRecursion};
-ghost use Rattle.pw_model.specs.declared.entry.HistoryEntry.{HistoryEntry as entry};
-ghost use Rattle.pw_model.specs.States.{IsState, opening};
 ghost use Rattle.pw_model.specs.Operations.{opening_ops};
 ghost use Rattle.pw_script.specs.Asking.{IsNarrowRequest};
-ghost use Rattle.pw_script.specs.Lawful.{Lawful};
 ghost use Rattle.pw_script.specs.Reading.{requests_of};
 ghost use Rattle.pw_script.specs.inner.Paths.{paths_of};
 ghost use Rattle.pw_script.specs.Telling.{HasSegments};
 ghost use Rattle.pw_audit.specs.Audited.{IsShort};
-ghost use Rattle.pw_audit.specs.Traces.{ShowsAs, TextTells};
+ghost use Rattle.pw_audit.specs.Traces.{ShowsAs};
 ghost use Rattle.pw_audit.specs.inner.Looking.{LeadsTo};
 ghost use Rattle.pw_audit.specs.inner.Stopping.{OpeningRead, Refuses, known};
+ghost use Rattle.pw_audit.specs.inner.Walking.{Walked, opened_with};
 
 use crate::answer::{Audit, AuditFault};
 use crate::asked::asked_by;
@@ -20,6 +18,7 @@ use crate::entry::read_entry;
 use crate::form::Form;
 use crate::names::{Names, index_of};
 use crate::opening::read_opening;
+use crate::queues::Queues;
 use pw_base::List;
 use pw_core::{Ops, State, open_all};
 use pw_model::HistoryEntry;
@@ -60,9 +59,10 @@ fn walk(
     line: &mut Vec<u8>,
     names: &Names,
     index: &HashMap<Vec<u8>, u32>,
+    lines: &[Line],
+    asked: &mut Queues<Request>,
     state: &mut State,
     ops: &mut Ops,
-    lines: &[Line],
     text: &[u8],
     before: u32,
     behind: &[u8],
@@ -70,27 +70,22 @@ fn walk(
 ) -> Result<(), AuditFault>
     requires segments { HasSegments names.now }
     requires index { LeadsTo 0 (paths_of names.now) index.now }
-    requires start { state.old ≡ opening names.now }
-    requires fits { IsState names.now state.old }
-    requires room { 256 ≤ ops.old.capacity }
     requires narrow { AllByRecursion IsNarrowRequest (requests_of lines.now) }
-    requires opened { OpeningRead form names.now None text.now before behind.now }
+    requires room { 256 ≤ ops.old.capacity }
     requires short { length text.now < 2 ^ 31 }
-    requires none { entries.old.items ≡ [] }
-    ensures lawful { OnOk result
-        (Lawful names.now (known names.now (requests_of lines.now)) None entries.new.items) }
-    ensures tells { OnOk result (TextTells form names.now None entries.new.items text.now) }
-    ensures seats { OnOk result (AllByRecursion (λ (e : entry). e.seat ≡ 0) entries.new.items) }
+    requires walked { Walked form names.now (known names.now (requests_of lines.now)) text.now
+        entries.old.items state.old asked.old before behind.now }
+    ensures shows { OnOk result (ShowsAs form names.now (known names.now (requests_of lines.now)) text.now
+        (opened_with entries.new.items)) }
     ensures refuses { IfErr result
         (Refuses form names.now (known names.now (requests_of lines.now)) text.now) }
 {
-    let mut asked = asked_by(alloc, names.plan().cpus.as_slice().len(), lines)?;
     let mut passed = before;
     let mut left = behind;
     while !left.is_empty() {
         let number = entries.len() as u64 + 1;
         let (entry, next, rest) = read_entry(
-            form, alloc, line, names, index, &mut asked, state, ops, number, passed, left,
+            form, alloc, line, names, index, asked, state, ops, number, passed, left,
         )?;
         entries.push(entry)?;
         if entry.fault != 0 {
@@ -125,30 +120,41 @@ fn read_entries(
     requires room { 256 ≤ ops.old.capacity }
     requires opened { OpeningRead form names.now None text.now before behind.now }
     requires short { length text.now < 2 ^ 31 }
-    ensures lawful { IfOk result
-        (λ entries. Lawful names.now (known names.now (requests_of lines.now)) None entries.items) }
-    ensures tells { IfOk result (λ entries. TextTells form names.now None entries.items text.now) }
-    ensures seats { IfOk result (λ entries. AllByRecursion (λ (e : entry). e.seat ≡ 0) entries.items) }
+    ensures shows { IfOk result (λ entries.
+        ShowsAs form names.now (known names.now (requests_of lines.now)) text.now (opened_with entries.items)) }
     ensures refuses { IfErr result
         (Refuses form names.now (known names.now (requests_of lines.now)) text.now) }
 {
     let index = index_of(alloc, names)?;
-    let mut state = State::open(alloc, names.plan())?;
+    let Ok(mut state) = State::open(alloc, names.plan()) else {
+        drop(index);
+        return Err(AuditFault::Memory);
+    };
+    let Ok(mut asked) = asked_by(alloc, names.plan().cpus.as_slice().len(), lines) else {
+        drop(index);
+        drop(state);
+        return Err(AuditFault::Memory);
+    };
     let mut entries = Vec::new(alloc);
-    walk(
+    let walked = walk(
         form,
         alloc,
         line,
         names,
         &index,
+        lines,
+        &mut asked,
         &mut state,
         ops,
-        lines,
         text,
         before,
         behind,
         &mut entries,
-    )?;
+    );
+    drop(index);
+    drop(state);
+    drop(asked);
+    walked?;
     Ok(entries)
 }
 

@@ -94,4 +94,4 @@ returns-clause-shown c =
     let text = c.args.text.now in
     let es = c.in_ok-entries.entries.items in
     subst (λ (entries : List HistoryEntry). ShowsAs form P qs text (record { opening = c.in_ok-opening.opening; entries = entries })) (sym c.from_vec-2.ensures)
-    (shows_entries form P qs text c.in_ok-opening.opening es c.in_default.is c.in_ok-entries.ensures.lawful c.in_ok-entries.ensures.tells c.in_ok-entries.ensures.seats)
+    (shows_entries form P qs text c.in_ok-opening.opening es c.in_default.is c.in_ok-entries.ensures.shows)

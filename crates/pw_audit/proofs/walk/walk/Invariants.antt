@@ -1,7 +1,7 @@
 use Rattle.std.proofs.Common.{◌≤◌, length}
 use Rattle.pw_script.specs.Reading.{requests_of}
 use Rattle.pw_audit.specs.inner.Stopping.{known}
-use Rattle.pw_audit.proofs.Walking.{Walked}
+use Rattle.pw_audit.specs.inner.Walking.{Walked}
 use Rattle.pw_audit.proofs.walk.walk.Given as goal
 
 abbrev pub invariant-loop-left : goal.invariant-loop-left
