@@ -120,8 +120,8 @@ fn read_entries(
     requires room { 256 ≤ ops.old.capacity }
     requires opened { OpeningRead form names.now None text.now before behind.now }
     requires short { length text.now < 2 ^ 31 }
-    ensures shows { IfOk result (λ entries.
-        ShowsAs form names.now (known names.now (requests_of lines.now)) text.now (opened_with entries.items)) }
+    ensures shows { IfOk result (λ entries. ShowsAs form names.now (known names.now (requests_of lines.now))
+        text.now (opened_with entries.items)) }
     ensures refuses { IfErr result
         (Refuses form names.now (known names.now (requests_of lines.now)) text.now) }
 {
