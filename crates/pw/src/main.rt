@@ -7,7 +7,7 @@ ghost use Rattle.std.specs.Prelude.{◌≡◌, codes, if◌then◌else◌};
 use pw_base::{OpenGate, StdFiles, StdSink, put_all};
 use pw_cli::run;
 use pw_regs::RegisterFile;
-use pw_script::MOST_OPERATIONS;
+use pw_text::MOST_OPERATIONS;
 use std::process::ExitCode;
 use std::{env, io};
 

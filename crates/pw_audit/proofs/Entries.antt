@@ -15,9 +15,10 @@ use Rattle.pw_model.specs.Operations.{ops_of}
 use Rattle.pw_model.proofs.Joining.{entry_is}
 use Rattle.pw_model.proofs.Staying.{request_cpu, request_has}
 use Rattle.pw_text.specs.Lines.{text_of, with_feed}
+use Rattle.pw_text.specs.Behind.{behind}
 use Rattle.pw_script.specs.HistoryText.{outcome_words, request_line}
 use Rattle.pw_script.specs.Lawful.{Begins}
-use Rattle.pw_script.specs.inner.Behind.{behind, head_text}
+use Rattle.pw_script.specs.inner.Behind.{head_text}
 use Rattle.pw_script.proofs.Printed.{entry_text}
 use Rattle.pw_script.specs.Wholes.{entry_line}
 use Rattle.pw_audit.specs.declared.answer.AuditFault.{AuditFault}

@@ -5,9 +5,9 @@ use Rattle.pw_plan.specs.declared.plan.Plan.{Plan}
 use Rattle.pw_model.specs.Operations.{opening_ops}
 use Rattle.pw_model.proofs.Bounds.{opening_ops-length}
 use Rattle.pw_text.specs.Lines.{with_feed}
+use Rattle.pw_text.specs.Openings.{opened, opening_line}
 use Rattle.pw_script.specs.Lawful.{Begins}
 use Rattle.acpi_values.specs.declared.operation.Op.{Op}
-use Rattle.pw_script.specs.inner.Openings.{opened, opening_line}
 use Rattle.pw_audit.specs.inner.Stopping.{WithinOpening}
 
 abbrev lead : List ℕ

@@ -3,6 +3,7 @@ use Rattle.std.proofs.Common.{◌≡◌, ◌≢◌, ◌<◌, ◌==◌, ◌∙◌
 use Rattle.std.specs.List.{AllByRecursion}
 use Rattle.std.proofs.lemmas.Bool.{cases_eq, cases_lt, eqb-false}
 use Rattle.std.proofs.lemmas.List.{append_cancel_left, get_or_past}
+use Rattle.pw_text.specs.Openings.{opened, opening_line}
 use Rattle.pw_plan.specs.declared.plan.Plan.{Plan}
 use Rattle.pw_plan.specs.declared.request.Request.{Request}
 use Rattle.pw_plan.specs.Requests.{cpu_of}
@@ -15,7 +16,6 @@ use Rattle.pw_model.proofs.Staying.{request_cpu}
 use Rattle.pw_notice.specs.Limits.{own, requests}
 use Rattle.pw_script.specs.HistoryText.{op_line, opening_lines}
 use Rattle.pw_script.specs.Lawful.{Begins}
-use Rattle.pw_script.specs.inner.Openings.{opened, opening_line}
 use Rattle.pw_script.specs.Completing.{IsStart}
 use Rattle.pw_script.specs.Wholes.{Starts}
 use Rattle.pw_script.proofs.Firsts.{each_rest, own-append}

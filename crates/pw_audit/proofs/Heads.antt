@@ -4,6 +4,7 @@ use Rattle.std.specs.Prelude.{bytes_eq}
 use Rattle.std.proofs.lemmas.List.{get_or-map, length-map}
 use Rattle.std.proofs.lemmas.Slice.Eq.{bytes_eq-Decides}
 use Rattle.pw_text.specs.Text.{place_text}
+use Rattle.pw_text.specs.Behind.{behind}
 use Rattle.pw_plan.specs.declared.parts.CpuParts.{CpuParts}
 use Rattle.pw_plan.specs.declared.plan.Plan.{Plan}
 use Rattle.pw_plan.specs.declared.request.Request.{Request}
@@ -14,7 +15,7 @@ use Rattle.pw_model.specs.States.{opening}
 use Rattle.pw_model.specs.History.{entry_of}
 use Rattle.pw_script.specs.HistoryText.{path_of, request_words, tolerance_words}
 use Rattle.pw_script.specs.Lawful.{Begins}
-use Rattle.pw_script.specs.inner.Behind.{behind, head_text}
+use Rattle.pw_script.specs.inner.Behind.{head_text}
 use Rattle.pw_script.specs.inner.Paths.{paths_of}
 use Rattle.pw_script.specs.Telling.{HasSegments}
 use Rattle.pw_script.proofs.TextWords.{entry-over, path_of-same}

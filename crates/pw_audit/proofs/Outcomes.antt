@@ -10,10 +10,11 @@ use Rattle.pw_model.specs.declared.state.State.{State}
 use Rattle.pw_model.specs.Answers.{answer}
 use Rattle.pw_model.specs.Operations.{ops_of}
 use Rattle.pw_text.specs.Lines.{with_feed}
-use Rattle.pw_script.specs.HistoryText.{chain_words, fault_words, reply_words}
+use Rattle.pw_text.specs.HistoryText.{fault_words}
+use Rattle.pw_text.specs.Behind.{behind}
+use Rattle.pw_text.proofs.Spacing.{behind_more}
+use Rattle.pw_script.specs.HistoryText.{chain_words, reply_words}
 use Rattle.pw_script.specs.Lawful.{Begins}
-use Rattle.pw_script.specs.inner.Behind.{behind}
-use Rattle.pw_script.proofs.Spacing.{behind_more}
 use Rattle.pw_audit.specs.inner.Stopping.{FitsAt, outcome_at}
 
 abbrev lead : List ℕ

@@ -8,10 +8,10 @@ use Rattle.pw_model.specs.declared.entry.HistoryEntry.{HistoryEntry}
 use Rattle.pw_model.specs.States.{opening}
 use Rattle.pw_model.specs.Operations.{opening_ops}
 use Rattle.pw_text.specs.Lines.{text_of, with_feed}
+use Rattle.pw_text.specs.Openings.{opened, opening_line}
 use Rattle.pw_script.specs.Asking.{CanBeAsked}
 use Rattle.pw_script.specs.HistoryText.{op_line, opening_lines}
 use Rattle.pw_script.specs.Lawful.{Begins, Lawful}
-use Rattle.pw_script.specs.inner.Openings.{opened, opening_line}
 use Rattle.pw_script.specs.Telling.{HasSegments, IsNarrowFault}
 use Rattle.pw_script.proofs.Determined.{head_of, heads-tell, tail_of}
 use Rattle.pw_script.proofs.Narrow.{lawful-opening, opening-narrow}

@@ -13,11 +13,12 @@ use Rattle.pw_model.specs.History.{IsEntry, after_entry, entry_ops, replay_from,
 use Rattle.pw_model.specs.Operations.{opening_ops}
 use Rattle.pw_text.specs.Lines.{with_feed}
 use Rattle.pw_text.specs.Text.{hex_text, segments_text}
+use Rattle.pw_text.specs.HistoryText.{register_text}
+use Rattle.pw_text.specs.Behind.{behind}
 use Rattle.pw_plan.specs.Places.{cpu_at}
-use Rattle.pw_script.specs.HistoryText.{history_lines, lines_from, op_line, opening_lines, outcome_words, path_of, register_text, request_words}
+use Rattle.pw_script.specs.HistoryText.{history_lines, lines_from, op_line, opening_lines, outcome_words, path_of, request_words}
 use Rattle.pw_script.specs.Telling.{HasSegments, IsNarrow, IsNarrowFault, unseated}
 use Rattle.pw_script.specs.Wholes.{entry_line}
-use Rattle.pw_script.specs.inner.Behind.{behind}
 use Rattle.pw_script.proofs.Cuts.{AllOver, Over, joined-over, over-test}
 use Rattle.pw_script.proofs.Determined.{head-opening, head_of, heads-tell, lines-over, tail_of}
 use Rattle.pw_script.proofs.Readers.{entry-same}

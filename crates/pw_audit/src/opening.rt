@@ -1,9 +1,9 @@
 //! The lines of the opening.
 ghost use Rattle.std.specs.Prelude.{◌≡◌, ◌<◌, ◌+◌, ◌^◌, ◌++◌, ◌∷◌, [], ℕ, None, Option, false, length, true, IfErr, IfOk, MatchOption};
 ghost use Rattle.pw_text.specs.Lines.{with_feed};
+ghost use Rattle.pw_text.specs.Openings.{opened, opening_line};
 ghost use Rattle.pw_model.specs.Operations.{opening_ops};
 ghost use Rattle.pw_script.specs.Lawful.{Begins};
-ghost use Rattle.pw_script.specs.inner.Openings.{opened, opening_line};
 ghost use Rattle.pw_audit.specs.declared.form.Form.TheVariants.{Trace};
 ghost use Rattle.pw_audit.specs.inner.Stopping.{HasFirst, LacksFirst, OpeningRead, StopsAtOpening, WithinOpening};
 

@@ -3,7 +3,8 @@ ghost use Rattle.std.specs.Prelude.{◌≡◌, ◌∷◌, ◌++◌, [], codes, d
 ghost use Rattle.std.specs.List.{join_with_byte};
 ghost use Rattle.pw_text.specs.Lines.{with_feed};
 ghost use Rattle.pw_text.specs.Text.{hex_text};
-ghost use Rattle.pw_script.specs.HistoryText.{op_line, path_of, register_text};
+ghost use Rattle.pw_text.specs.HistoryText.{register_text};
+ghost use Rattle.pw_script.specs.HistoryText.{op_line, path_of};
 
 use crate::names::Names;
 use crate::words::{push, push_decimal, push_hex, push_labelled};

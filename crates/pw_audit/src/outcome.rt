@@ -1,13 +1,13 @@
 //! What came of a request, as its line says it.
 ghost use Rattle.std.specs.Prelude.{◌≡◌, ◌<◌, ◌≤◌, ◌==◌, ◌-◌, ◌++◌, ◌∷◌, [], ℕ, decimal, IfOk, MatchOption, if◌then◌else◌};
 ghost use Rattle.pw_text.specs.Lines.{with_feed};
+ghost use Rattle.pw_text.specs.Behind.{behind};
 ghost use Rattle.pw_plan.specs.Requests.{Has};
 ghost use Rattle.pw_model.specs.States.{IsState};
 ghost use Rattle.pw_model.specs.Answers.{after};
 ghost use Rattle.pw_model.specs.Operations.{ops_of};
 ghost use Rattle.pw_script.specs.HistoryText.{reply_words};
 ghost use Rattle.pw_script.specs.Lawful.{Begins};
-ghost use Rattle.pw_script.specs.inner.Behind.{behind};
 ghost use Rattle.pw_audit.specs.inner.Stopping.{FitsAt, outcome_at};
 
 use crate::matching::strip;

@@ -2,8 +2,9 @@
 ghost use Rattle.std.specs.Prelude.{◌≡◌, ◌∷◌, ◌++◌, codes, decimal, length, take, true, OnOk};
 ghost use Rattle.std.specs.List.{flat_map};
 ghost use Rattle.pw_text.specs.Text.{hex_text};
-ghost use Rattle.pw_script.specs.HistoryText.{fault_words, reply_words, request_words, tolerance_words};
-ghost use Rattle.pw_script.specs.inner.Behind.{behind};
+ghost use Rattle.pw_text.specs.HistoryText.{fault_words};
+ghost use Rattle.pw_text.specs.Behind.{behind};
+ghost use Rattle.pw_script.specs.HistoryText.{reply_words, request_words, tolerance_words};
 
 use acpi_values::Chain;
 use itoa::Buffer;

@@ -2,6 +2,7 @@
 use Rattle.std.proofs.Common.{◌≡◌, ◌+◌, ◌++◌, ◌∷◌, ◌∙◌, ℕ, Bool, true, false, List, [], length, take, drop, Option, Some, None, refl, sym, ap, subst, arith, append_assoc, eq-eqb}
 use Rattle.std.proofs.lemmas.List.{take-append-drop}
 use Rattle.pw_base.specs.Seen.{Grew}
+use Rattle.pw_text.specs.HistoryText.{opened_lines}
 use Rattle.pw_turns.specs.declared.close.Sealed.{Sealed}
 use Rattle.pw_model.proofs.Joining.{each_first, each_last}
 use Rattle.pw_books.specs.Asked.{own}
@@ -36,7 +37,6 @@ use Rattle.pw_cppc.proofs.Refused.{comes, is_due, may_ask}
 use Rattle.pw_cppc.proofs.Starting.{ask_at_start, maximum_at_start, minimum_at_start}
 use Rattle.pw_cppc.proofs.Starts.{all_start, start_there}
 use Rattle.pw_cppc.proofs.Staying.{replay_fits}
-use Rattle.pw_script.specs.HistoryText.{opened_lines}
 use Rattle.pw_cppc_drive.specs.declared.script.CppcLine.{CppcLine}
 use Rattle.pw_cppc_drive.specs.Driven.{OperatesFor}
 use Rattle.pw_cppc_drive.specs.HistoryText.{entry_lines, history_lines, history_text, lines_from, op_line}

@@ -10,6 +10,7 @@ use Rattle.pw_base.specs.Seen.{Grew, OfFiles}
 use Rattle.aml_block.specs.declared.block.Block.{Block}
 use Rattle.aml_block.specs.declared.block.Signature.TheVariants.{Ssdt}
 use Rattle.pw_text.specs.Lines.{text_of}
+use Rattle.pw_text.specs.declared.script.TheConstants.{MOST_OPERATIONS}
 use Rattle.pw_plan.specs.declared.plan.Plan.{Plan}
 use Rattle.pw_plan.specs.Groups.{has_member, is_software}
 use Rattle.pw_plan.specs.Places.{domain_at}
@@ -29,7 +30,6 @@ use Rattle.pw_regs.specs.Seen.{Operated}
 use Rattle.pw_notice.specs.Limits.{own, requests}
 use Rattle.pw_script.specs.declared.script.Line.{Line as line}
 use Rattle.pw_script.specs.Asking.{IsNarrowRequest}
-use Rattle.pw_script.specs.declared.script.TheConstants.{MOST_OPERATIONS}
 use Rattle.pw_script.specs.HistoryText.{history_lines, history_text, lines_from}
 use Rattle.pw_script.specs.Lawful.{HasLine, IsRunOf}
 use Rattle.pw_script.specs.Reading.{operations, refused, requests_of}

@@ -1,12 +1,12 @@
 ghost use Rattle.std.specs.Prelude.{◌≡◌, ◌≤◌, None, codes};
 ghost use Rattle.pw_base.specs.Outside.{KeepsFiles, KeepsSink};
 ghost use Rattle.pw_base.specs.Seen.{sink_seen, GrewByLine};
+ghost use Rattle.pw_text.specs.declared.script.TheConstants.{MOST_OPERATIONS};
 ghost use Rattle.pw_words.specs.Command.{asked_of};
 ghost use Rattle.pw_words.specs.Words.{texts};
 ghost use Rattle.aml_block.specs.Held.{names_of};
 ghost use Rattle.pw_load.specs.Ends.{Ended};
 ghost use Rattle.pw_load.specs.Seen.{all_seen, outputs_seen};
-ghost use Rattle.pw_script.specs.declared.script.TheConstants.{MOST_OPERATIONS};
 ghost use Rattle.pw_cli.specs.Runs.{DrivesBy, IsComplete, IsSpared, IsWithin, Obeys, Ran, SteersBy};
 ghost use Rattle.pw_cli.specs.Runs.{form_of, words_line, words_status};
 

@@ -6,11 +6,11 @@ use Rattle.aml_data.specs.declared.path.FullPath.{FullPath}
 use Rattle.acpi_values.specs.declared.operation.Op.{Op}
 use Rattle.pw_text.specs.Lines.{text_of}
 use Rattle.pw_text.specs.Text.{place_text}
+use Rattle.pw_text.specs.HistoryText.{op_line_by, opened_lines}
+use Rattle.pw_text.specs.Paths.{text_at}
+use Rattle.pw_text.proofs.Pathed.{opened_same, ops_same}
 use Rattle.pw_cppc.specs.declared.plan.CppcPlan.{CppcPlan}
 use Rattle.pw_cppc.specs.Operations.{opening_ops}
-use Rattle.pw_script.specs.HistoryText.{op_line_by, opened_lines}
-use Rattle.pw_script.specs.Paths.{text_at}
-use Rattle.pw_script.proofs.Pathed.{opened_same, ops_same}
 use Rattle.pw_cppc_drive.specs.HistoryText.{no_path, op_line, path_of}
 use Rattle.pw_cppc_drive.specs.inner.Paths.{paths_of}
 

@@ -22,9 +22,9 @@ use Rattle.pw_cppc.specs.States.{opening}
 use Rattle.pw_cppc.specs.History.{StatesRequest, after_entry, request_of}
 use Rattle.pw_cppc.specs.Operations.{opening_ops, ops_of}
 use Rattle.pw_text.specs.Lines.{text_of}
-use Rattle.pw_script.specs.Behind.{asked_head, behind}
-use Rattle.pw_script.specs.HistoryText.{asked_line, fault_words, opened_lines}
-use Rattle.pw_script.proofs.Printed.{asked_text}
+use Rattle.pw_text.specs.Behind.{asked_head, behind}
+use Rattle.pw_text.specs.HistoryText.{asked_line, fault_words, opened_lines}
+use Rattle.pw_text.proofs.Printed.{asked_text}
 use Rattle.pw_cppc_drive.specs.HistoryText.{entry_lines, history_lines, history_text, lines_from, op_line, path_of, reply_words, request_words}
 
 -- # How many operations a request has

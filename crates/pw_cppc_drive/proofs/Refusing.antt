@@ -1,11 +1,11 @@
 -- Why bytes are no script.
 use Rattle.std.proofs.Common.{◌≡◌, ◌∙◌, ◌<◌, ℕ, Bool, true, false, cond, refl, List, length, Option, Some, None, arith}
 use Rattle.std.specs.Prelude.{nat_lt}
-use Rattle.pw_script.specs.declared.script.ScriptFault.{ScriptFault}
-use Rattle.pw_script.specs.declared.script.ScriptFault.TheVariants as faults
-use Rattle.pw_script.specs.declared.script.TheConstants.{MOST_BYTES, MOST_LINES, MOST_OPERATIONS}
-use Rattle.pw_script.specs.Lines.{lines_of}
-use Rattle.pw_script.specs.Reading.{first_bad_by, too_long}
+use Rattle.pw_text.specs.declared.script.ScriptFault.TheVariants as faults
+use Rattle.pw_text.specs.declared.script.ScriptFault.{ScriptFault}
+use Rattle.pw_text.specs.declared.script.TheConstants.{MOST_BYTES, MOST_LINES, MOST_OPERATIONS}
+use Rattle.pw_text.specs.Fields.{lines_of}
+use Rattle.pw_text.specs.Scripts.{first_bad_by, too_long}
 use Rattle.pw_cppc.specs.declared.plan.CppcPlan.{CppcPlan}
 use Rattle.pw_cppc_drive.specs.declared.script.CppcLine.{CppcLine}
 use Rattle.pw_cppc_drive.specs.Forms.{request_in}

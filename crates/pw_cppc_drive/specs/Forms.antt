@@ -2,10 +2,10 @@
 use Rattle.std.specs.Prelude.{◌==◌, ℕ, List, [], ◌∷◌, codes, bytes_eq, Option, Some, None, Result, Ok, Err, if◌then◌else◌}
 use Rattle.std.specs.Option.{option_map}
 use Rattle.aml_data.specs.declared.path.FullPath.{FullPath}
-use Rattle.pw_script.specs.declared.script.LineWhy.{LineWhy}
-use Rattle.pw_script.specs.declared.script.LineWhy.TheVariants.{Grammar, Processor, Number}
-use Rattle.pw_script.specs.Lines.{fields_of}
-use Rattle.pw_script.specs.Forms.{is_number, name_of, named_from, number_of}
+use Rattle.pw_text.specs.declared.script.LineWhy.{LineWhy}
+use Rattle.pw_text.specs.declared.script.LineWhy.TheVariants.{Grammar, Processor, Number}
+use Rattle.pw_text.specs.Fields.{fields_of}
+use Rattle.pw_text.specs.Forms.{is_number, name_of, named_from, number_of}
 use Rattle.pw_cppc.specs.declared.parts.Control.{Control}
 use Rattle.pw_cppc.specs.declared.parts.Control.TheVariants as controls
 use Rattle.pw_cppc.specs.declared.plan.CppcPlan.{CppcPlan}

@@ -4,7 +4,7 @@ use Rattle.aml_data.specs.declared.path.FullPath.{FullPath}
 use Rattle.acpi_values.specs.declared.operation.Op.{Op}
 use Rattle.pw_text.specs.Lines.{text_of}
 use Rattle.pw_text.specs.Text.{place_text}
-use Rattle.pw_script.specs.HistoryText.{asked_line, fault_words, op_line_by, opened_lines}
+use Rattle.pw_text.specs.HistoryText.{asked_line, fault_words, op_line_by, opened_lines}
 use Rattle.pw_cppc.specs.declared.plan.CppcPlan.{CppcPlan}
 use Rattle.pw_cppc.specs.declared.request.CppcRequest.{CppcRequest}
 use Rattle.pw_cppc.specs.declared.request.CppcRequest.TheVariants.{Desired, Minimum, Maximum}

@@ -1,12 +1,12 @@
 -- A script of requests for performance: its lines, and why bytes are none.
 use Rattle.std.specs.Prelude.{◌≡◌, ◌<◌, ◌≤◌, ◌+◌, ℕ, suc, List, [], ◌∷◌, map, length, sum_by, Option, Some, None, Result, Ok, Err}
 use Rattle.std.specs.List.{AllByRecursion}
-use Rattle.pw_script.specs.declared.script.LineWhy.{LineWhy}
-use Rattle.pw_script.specs.declared.script.ScriptFault.{ScriptFault}
-use Rattle.pw_script.specs.declared.script.ScriptFault.TheVariants as faults
-use Rattle.pw_script.specs.declared.script.TheConstants.{MOST_LINES, MOST_OPERATIONS}
-use Rattle.pw_script.specs.Lines.{lines_of}
-use Rattle.pw_script.specs.Reading.{refused_by}
+use Rattle.pw_text.specs.declared.script.ScriptFault.TheVariants as faults
+use Rattle.pw_text.specs.declared.script.LineWhy.{LineWhy}
+use Rattle.pw_text.specs.declared.script.ScriptFault.{ScriptFault}
+use Rattle.pw_text.specs.declared.script.TheConstants.{MOST_LINES, MOST_OPERATIONS}
+use Rattle.pw_text.specs.Fields.{lines_of}
+use Rattle.pw_text.specs.Scripts.{refused_by}
 use Rattle.pw_cppc.specs.declared.plan.CppcPlan.{CppcPlan}
 use Rattle.pw_cppc.specs.declared.request.CppcRequest.{CppcRequest}
 use Rattle.pw_cppc.specs.Requests.{Has, opening_bound, ops_bound}

@@ -1,10 +1,10 @@
 ghost use Rattle.std.specs.Prelude.{◌≡◌, ◌<◌, length, IfOk, IfSome};
-ghost use Rattle.pw_script.specs.Looking.{LeadsTo};
+ghost use Rattle.pw_text.specs.Looking.{LeadsTo};
 ghost use Rattle.pw_cppc_drive.specs.Forms.{cpu_named, segs_of};
 
 use pw_base::Memory;
 use pw_cppc::CppcPlan;
-use pw_script::{find_path, index_path};
+use pw_text::{find_path, index_path};
 use std::alloc::Global;
 use std::collections::HashMap;
 

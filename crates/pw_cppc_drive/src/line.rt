@@ -1,13 +1,13 @@
 ghost use Rattle.std.specs.Prelude.{◌≡◌, bytes_eq, IfOk, IfSome};
+ghost use Rattle.pw_text.specs.Fields.{fields_of};
+ghost use Rattle.pw_text.specs.Looking.{LeadsTo};
 ghost use Rattle.pw_cppc.specs.Requests.{Has, cpu_of};
-ghost use Rattle.pw_script.specs.Lines.{fields_of};
-ghost use Rattle.pw_script.specs.Looking.{LeadsTo};
 ghost use Rattle.pw_cppc_drive.specs.Forms.{control_named, request_by, request_in, said, segs_of};
 
 use crate::index::find;
 use pw_base::Memory;
 use pw_cppc::{Control, CppcPlan, CppcRequest};
-use pw_script::{LineWhy, first_field, is_number, value_of, write_name};
+use pw_text::{LineWhy, first_field, is_number, value_of, write_name};
 use std::collections::HashMap;
 
 /// Whether bytes are this text.

@@ -4,7 +4,7 @@ ghost use Rattle.pw_cppc_drive.specs.inner.Paths.{paths_of};
 
 use pw_base::Memory;
 use pw_cppc::CppcPlan;
-use pw_script::PathTexts;
+use pw_text::PathTexts;
 use std::alloc::Global;
 use std::marker::Model;
 

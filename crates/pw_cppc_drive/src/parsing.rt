@@ -1,11 +1,11 @@
 ghost use Rattle.std.specs.Prelude.{◌≡◌, ◌≢◌, ◌≤◌, [], None, Some, length, nat_lt, IfOk, IfErr, OnOk};
 ghost use Rattle.std.specs.List.{AllByRecursion};
 ghost use Rattle.pw_cppc.specs.Requests.{Has};
-ghost use Rattle.pw_script.specs.declared.script.ScriptFault.TheVariants as faults;
-ghost use Rattle.pw_script.specs.declared.script.TheConstants.{MOST_LINES, MOST_OPERATIONS};
-ghost use Rattle.pw_script.specs.Lines.{lines_of};
-ghost use Rattle.pw_script.specs.Looking.{LeadsTo};
-ghost use Rattle.pw_script.specs.Reading.{first_bad_by};
+ghost use Rattle.pw_text.specs.declared.script.ScriptFault.TheVariants as faults;
+ghost use Rattle.pw_text.specs.declared.script.TheConstants.{MOST_LINES, MOST_OPERATIONS};
+ghost use Rattle.pw_text.specs.Fields.{lines_of};
+ghost use Rattle.pw_text.specs.Looking.{LeadsTo};
+ghost use Rattle.pw_text.specs.Scripts.{first_bad_by};
 ghost use Rattle.pw_cppc_drive.specs.Forms.{request_in, segs_of};
 ghost use Rattle.pw_cppc_drive.specs.Reading.{Fit, IsNoScript, IsScript, lines_in, operations};
 
@@ -14,7 +14,7 @@ use crate::line::request_in;
 use crate::script::{CppcLine, CppcScript};
 use pw_base::List;
 use pw_cppc::CppcPlan;
-use pw_script::{MOST_OPERATIONS, ScriptFault, first_line, too_long};
+use pw_text::{MOST_OPERATIONS, ScriptFault, first_line, too_long};
 use std::alloc::Global;
 use std::collections::HashMap;
 

@@ -4,6 +4,8 @@ ghost use Rattle.pw_base.specs.Outside.{GrewByPart, KeepsSink, Rose};
 ghost use Rattle.pw_text.specs.Lines.{text_of};
 ghost use Rattle.pw_text.specs.Puts.{PutsText};
 ghost use Rattle.pw_text.specs.declared.fault.PrintFault.TheVariants as faults;
+ghost use Rattle.pw_text.specs.Behind.{asked_head};
+ghost use Rattle.pw_text.specs.HistoryText.{asked_line, fault_words, opened_lines};
 ghost use Rattle.pw_cppc.specs.declared.numbers.CppcNumbers.{CppcNumbers as numbers};
 ghost use Rattle.pw_cppc.specs.Requests.{cpu_of, opening_bound};
 ghost use Rattle.pw_cppc.specs.States.{opening as opening_numbers};
@@ -11,8 +13,6 @@ ghost use Rattle.pw_cppc.specs.Answers.{answer};
 ghost use Rattle.pw_cppc.specs.History.{StatesRequest, after_entry, replies, request_of};
 ghost use Rattle.pw_cppc.specs.Operations.{opening_ops};
 ghost use Rattle.pw_cppc.specs.Standings.{AreStandings};
-ghost use Rattle.pw_script.specs.Behind.{asked_head};
-ghost use Rattle.pw_script.specs.HistoryText.{asked_line, fault_words, opened_lines};
 ghost use Rattle.pw_cppc_drive.specs.HistoryText.{entry_lines, history_text, lines_from, op_line};
 ghost use Rattle.pw_cppc_drive.specs.HistoryText.{path_of, reply_words, request_words};
 ghost use Rattle.pw_cppc_drive.specs.inner.Known.{answers_from};
@@ -26,8 +26,7 @@ use pw_cppc::{
     CppcEntry, CppcPlan, CppcReply, CppcRequest, CppcStandings, MOST_OF_A_REQUEST, open_all,
 };
 use pw_regs::Ops;
-use pw_script::{first_of, put_asker, put_fault, put_opened, put_ops};
-use pw_text::{Page, PrintFault};
+use pw_text::{Page, PrintFault, first_of, put_asker, put_fault, put_opened, put_ops};
 use std::alloc::Global;
 
 /// Puts the lines of operations that were done, in order.

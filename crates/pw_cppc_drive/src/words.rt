@@ -1,12 +1,11 @@
 ghost use Rattle.std.specs.Prelude.{◌∷◌, ◌++◌, codes, decimal, is_ok};
 ghost use Rattle.pw_text.specs.Puts.{PutsText};
-ghost use Rattle.pw_script.specs.Behind.{behind};
+ghost use Rattle.pw_text.specs.Behind.{behind};
 ghost use Rattle.pw_cppc_drive.specs.HistoryText.{reply_words, request_words};
 
 use pw_base::{Failed, Sink};
 use pw_cppc::{CppcReply, CppcRequest};
-use pw_script::{put_decimal, put_labelled};
-use pw_text::Page;
+use pw_text::{Page, put_decimal, put_labelled};
 
 /// Puts what was asked behind its processor's path.
 pub(crate) fn put_request<K: Sink>(

@@ -11,6 +11,7 @@ use Rattle.std.proofs.lemmas.List.FromFn.{length-range_with_len}
 use Rattle.std.proofs.lemmas.List.Sums.{sum_by-le}
 use Rattle.acpi_values.specs.declared.dependency.Coord.{Coord}
 use Rattle.acpi_values.specs.declared.dependency.Coord.TheVariants.{SwAll, SwAny, HwAll}
+use Rattle.pw_text.specs.declared.script.TheConstants.{MOST_OPERATIONS}
 use Rattle.pw_plan.specs.declared.domain.Domain.{Domain}
 use Rattle.pw_plan.specs.declared.domain.DomainKind.{DomainKind}
 use Rattle.pw_plan.specs.declared.domain.DomainKind.TheVariants as kinds
@@ -31,7 +32,6 @@ use Rattle.pw_plan.proofs.Lists.{and_first, and_second, or_left, or_right}
 use Rattle.pw_plan.proofs.Memberships.{covers_has}
 use Rattle.pw_plan.proofs.Rising.{rises_of}
 use Rattle.pw_script.specs.declared.script.Line.{Line}
-use Rattle.pw_script.specs.declared.script.TheConstants.{MOST_OPERATIONS}
 use Rattle.pw_script.specs.Reading.{operations}
 use Rattle.pw_generate.specs.Loads.{load_lines, machine_load}
 use Rattle.pw_generate.specs.Tables.{cpu_domain}

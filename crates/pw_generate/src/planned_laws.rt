@@ -4,6 +4,7 @@ ghost use Rattle.std.specs.Prelude.{◌≡◌, ◌≤◌, ℕ, List, [], ◌∷�
 ghost use Rattle.std.specs.List.{AllByRecursion};
 ghost use Rattle.acpi_space.specs.Distinct.{IsDistinct};
 ghost use Rattle.acpi_space.specs.Namespace.{entries_in, places_of};
+ghost use Rattle.pw_text.specs.declared.script.TheConstants.{MOST_LINES, MOST_OPERATIONS};
 ghost use Rattle.acpi_build.specs.declared.fault.BuildFault.{BuildFault as fault};
 ghost use Rattle.acpi_build.specs.declared.fault.BuildFault.TheVariants.{Memory};
 ghost use Rattle.acpi_build.specs.declared.note.Note.{Note as note};
@@ -13,7 +14,6 @@ ghost use Rattle.acpi_build.specs.Planning.{IsPlanFrom, parts_within};
 ghost use Rattle.pw_plan.specs.declared.plan.Plan.{Plan as plan};
 ghost use Rattle.pw_plan.specs.Requests.{Has};
 ghost use Rattle.pw_script.specs.Reading.{operations};
-ghost use Rattle.pw_script.specs.declared.script.TheConstants.{MOST_LINES, MOST_OPERATIONS};
 ghost use Rattle.pw_generate.specs.declared.tables.TheConstants.{MOST_CONTAINERS};
 ghost use Rattle.pw_generate.specs.Loads.{machine_load};
 ghost use Rattle.pw_generate.specs.Machines.{machine_block};

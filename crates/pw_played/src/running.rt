@@ -1,15 +1,16 @@
 ghost use Rattle.std.specs.Prelude.{◌≤◌, length, IsTrue};
 ghost use Rattle.std.specs.List.{AllByRecursion};
+ghost use Rattle.pw_text.specs.declared.script.TheConstants.{MOST_LINES};
 ghost use Rattle.pw_plan.specs.Requests.{Has};
 ghost use Rattle.pw_script.specs.declared.script.Line.{Line as asked};
-ghost use Rattle.pw_script.specs.declared.script.TheConstants.{MOST_LINES};
 
 use crate::telling::{Played, told};
 use pw_base::Gate;
 use pw_drive::{Drove, drive, serial};
 use pw_plan::Plan;
 use pw_regs::FailingRegisters;
-use pw_script::{Line, MOST_LINES, Script};
+use pw_script::{Line, Script};
+use pw_text::MOST_LINES;
 use std::alloc::Global;
 use std::sync::Wait;
 use std::thread::Threads;

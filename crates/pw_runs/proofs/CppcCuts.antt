@@ -4,9 +4,9 @@ use Rattle.std.specs.Prelude.{IsSomeAnd}
 use Rattle.std.proofs.lemmas.Bool.{lt-ltb, false≢true}
 use Rattle.pw_base.specs.Seen.{FilesSeen}
 use Rattle.aml_block.specs.Answers.{IsHeldAnd}
-use Rattle.pw_script.specs.declared.script.ScriptFault.{ScriptFault}
-use Rattle.pw_script.specs.declared.script.ScriptFault.TheVariants.{TooLong}
-use Rattle.pw_script.specs.declared.script.TheConstants.{MOST_BYTES}
+use Rattle.pw_text.specs.declared.script.ScriptFault.{ScriptFault}
+use Rattle.pw_text.specs.declared.script.ScriptFault.TheVariants.{TooLong}
+use Rattle.pw_text.specs.declared.script.TheConstants.{MOST_BYTES}
 use Rattle.pw_load.proofs.Outcomes.{IsWithin}
 use Rattle.pw_runs.proofs.Cuts.{cut_or_long}
 use Rattle.pw_cppc.specs.declared.plan.CppcPlan.{CppcPlan}

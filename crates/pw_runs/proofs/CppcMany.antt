@@ -3,10 +3,10 @@ use Rattle.std.proofs.Common.{◌≡◌, ◌<◌, ◌==◌, ◌∙◌, ℕ, suc,
 use Rattle.std.specs.Prelude.{IfOk, IfSome}
 use Rattle.std.specs.List.{AllByRecursion}
 use Rattle.pw_base.specs.Seen.{FilesSeen}
-use Rattle.pw_script.specs.declared.script.LineWhy.{LineWhy}
-use Rattle.pw_script.specs.Forms.{name_of}
-use Rattle.pw_script.specs.Lines.{fields_of, lines_of}
-use Rattle.pw_script.proofs.Leading.{name_within}
+use Rattle.pw_text.specs.declared.script.LineWhy.{LineWhy}
+use Rattle.pw_text.specs.Forms.{name_of}
+use Rattle.pw_text.specs.Fields.{fields_of, lines_of}
+use Rattle.pw_text.proofs.Leading.{name_within}
 use Rattle.pw_cppc.specs.declared.parts.Control.{Control}
 use Rattle.pw_cppc.specs.declared.parts.Control.TheVariants as controls
 use Rattle.pw_cppc.specs.declared.plan.CppcPlan.{CppcPlan}

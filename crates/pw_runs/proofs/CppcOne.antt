@@ -4,9 +4,9 @@ use Rattle.pw_base.specs.Seen.{FilesSeen}
 use Rattle.aml_block.specs.declared.block.Block.{Block}
 use Rattle.acpi_space.specs.Namespace.{entries_in}
 use Rattle.aml_block.proofs.OneReading.{same_blocks}
+use Rattle.pw_text.specs.declared.script.ScriptFault.{ScriptFault}
 use Rattle.pw_plan.specs.declared.parts.CpuParts.{CpuParts}
 use Rattle.pw_plan.specs.declared.plan.Plan.{Plan}
-use Rattle.pw_script.specs.declared.script.ScriptFault.{ScriptFault}
 use Rattle.pw_load.specs.Seen.{NoneFailed}
 use Rattle.pw_load.proofs.Completeness.{IsJudged, IsOne}
 use Rattle.pw_load.specs.Steps.{AreHeldBy, IsNoPlanOf, IsUnspelled}

@@ -1,7 +1,7 @@
 -- Registers with room for all operations of a script never fail, whoever makes its lines.
 use Rattle.std.proofs.Common.{◌≡◌, ◌≤◌, ℕ, List, [], Option, Some, None, inl, inr, ◌⊎◌, ap, arith}
+use Rattle.pw_text.specs.declared.script.TheConstants.{MOST_OPERATIONS}
 use Rattle.pw_regs.specs.Seen.{RegistersSeen}
-use Rattle.pw_script.specs.declared.script.TheConstants.{MOST_OPERATIONS}
 use Rattle.pw_load.specs.Seen.{Seen}
 use Rattle.pw_load.specs.Ends.{Stops, Work}
 use Rattle.pw_load.specs.Ends.Stops.{refused, read_fault}

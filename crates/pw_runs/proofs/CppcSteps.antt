@@ -7,11 +7,11 @@ use Rattle.pw_base.specs.Seen.{FilesSeen, OfFiles, files_seen}
 use Rattle.aml_block.specs.declared.block.Block.{Block}
 use Rattle.acpi_space.specs.Distinct.{IsDistinct}
 use Rattle.acpi_space.specs.Namespace.{Entry, entries_in, places_of}
+use Rattle.pw_text.specs.declared.script.ScriptFault.{ScriptFault}
+use Rattle.pw_text.specs.declared.script.ScriptFault.TheVariants.{Line, Memory, TooLong}
+use Rattle.pw_text.specs.declared.script.TheConstants.{MOST_OPERATIONS}
 use Rattle.pw_regs.specs.declared.registers.Registers.{Ghosts as Registers}
 use Rattle.pw_regs.specs.Seen.{registers_seen}
-use Rattle.pw_script.specs.declared.script.ScriptFault.{ScriptFault}
-use Rattle.pw_script.specs.declared.script.ScriptFault.TheVariants.{Line, Memory, TooLong}
-use Rattle.pw_script.specs.declared.script.TheConstants.{MOST_OPERATIONS}
 use Rattle.pw_load.specs.Seen.{Outputs, Seen}
 use Rattle.pw_load.specs.Ends.{Stops}
 use Rattle.pw_load.specs.Ends.Stops.{refused, read_fault, without_memory}

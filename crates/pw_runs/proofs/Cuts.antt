@@ -5,12 +5,12 @@ use Rattle.std.proofs.lemmas.Bool.{lt-ltb, ltb-false, ltb-true}
 use Rattle.std.proofs.lemmas.List.{length-take-le, take_all}
 use Rattle.pw_base.specs.Seen.{FilesSeen}
 use Rattle.aml_block.specs.Answers.{IsHeldAnd}
+use Rattle.pw_text.specs.declared.script.ScriptFault.{ScriptFault}
+use Rattle.pw_text.specs.declared.script.ScriptFault.TheVariants.{TooLong}
+use Rattle.pw_text.specs.declared.script.TheConstants.{MOST_BYTES}
 use Rattle.pw_plan.specs.declared.plan.Plan.{Plan}
 use Rattle.pw_script.specs.declared.script.Line.{Line as line}
 use Rattle.pw_script.specs.declared.script.Script.{Script}
-use Rattle.pw_script.specs.declared.script.ScriptFault.{ScriptFault}
-use Rattle.pw_script.specs.declared.script.ScriptFault.TheVariants.{TooLong}
-use Rattle.pw_script.specs.declared.script.TheConstants.{MOST_BYTES}
 use Rattle.pw_script.specs.Reading.{refused}
 use Rattle.pw_runs.specs.Scripts.{HoldsNoScript, HoldsScript, IsNoScript, IsScript}
 use Rattle.pw_runs.specs.declared.script.Missing.{Missing}

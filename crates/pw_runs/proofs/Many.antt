@@ -2,6 +2,7 @@
 use Rattle.std.proofs.Common.{◌≡◌, ◌≢◌, ℕ, Bool, true, List, [], ◌∷◌, Option, Some, None, ◌⊎◌, refl}
 use Rattle.std.specs.List.{AllByRecursion}
 use Rattle.pw_base.specs.Seen.{FilesSeen}
+use Rattle.pw_text.specs.Fields.{lines_of}
 use Rattle.pw_plan.specs.declared.plan.Plan.{Plan}
 use Rattle.pw_plan.specs.declared.request.Request.{Request}
 use Rattle.pw_plan.specs.Requests.{Has}
@@ -12,7 +13,6 @@ use Rattle.pw_notice.specs.Limits.{answer_by}
 use Rattle.pw_turns.specs.declared.close.Sealed.{Sealed}
 use Rattle.pw_script.specs.declared.script.Line.{Line as line}
 use Rattle.pw_script.specs.Lawful.{Lawful}
-use Rattle.pw_script.specs.Lines.{lines_of}
 use Rattle.pw_script.specs.Reading.{Answered, Chosen, requests_of}
 use Rattle.pw_script.proofs.Existing.{lines_fit}
 use Rattle.pw_script.proofs.Completions.{completed-run, entry_faultless}

@@ -6,6 +6,8 @@ use Rattle.pw_base.specs.Seen.{FilesSeen}
 use Rattle.aml_block.specs.declared.block.Block.{Block}
 use Rattle.acpi_space.specs.Distinct.{IsDistinct}
 use Rattle.acpi_space.specs.Namespace.{entries_in, places_of}
+use Rattle.pw_text.specs.declared.script.ScriptFault.{ScriptFault}
+use Rattle.pw_text.specs.Fields.{lines_of}
 use Rattle.acpi_build.proofs.Planned.{same_plan}
 use Rattle.acpi_build.specs.Planning.{IsPlanFrom}
 use Rattle.acpi_build.specs.declared.note.Note.{Note}
@@ -15,9 +17,7 @@ use Rattle.aml_block.proofs.OneReading.{same_blocks, same_first_fault, blocks_no
 use Rattle.pw_governor.specs.Choices.{choice}
 use Rattle.pw_notice.specs.Limits.{answer_by}
 use Rattle.pw_script.specs.declared.script.Line.{Line as line}
-use Rattle.pw_script.specs.declared.script.ScriptFault.{ScriptFault}
 use Rattle.pw_script.specs.HistoryText.{history_text}
-use Rattle.pw_script.specs.Lines.{lines_of}
 use Rattle.pw_script.specs.Reading.{operations, requests_of}
 use Rattle.pw_script.proofs.Existing.{lines_told}
 use Rattle.pw_load.specs.Seen.{NoneFailed}

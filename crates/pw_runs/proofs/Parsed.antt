@@ -4,6 +4,10 @@ use Rattle.std.specs.Borrow.{Bor}
 use Rattle.std.specs.List.{AllByRecursion}
 use Rattle.std.proofs.lemmas.Bool.{ltb-false}
 use Rattle.acpi_values.specs.declared.idle.IdleTable.{IdleTable}
+use Rattle.pw_text.specs.declared.script.ScriptFault.{ScriptFault}
+use Rattle.pw_text.specs.declared.script.ScriptFault.TheVariants.{TooLong, Memory}
+use Rattle.pw_text.specs.declared.script.TheConstants.{MOST_BYTES, MOST_LINES, MOST_OPERATIONS}
+use Rattle.pw_text.specs.Fields.{lines_of}
 use Rattle.pw_plan.specs.declared.plan.Plan.{Plan}
 use Rattle.pw_plan.specs.Requests.{Has}
 use Rattle.pw_governor.specs.Choices.{ChoosesAs, choice}
@@ -11,10 +15,6 @@ use Rattle.pw_notice.specs.Handling.{HandlesAs}
 use Rattle.pw_notice.specs.Limits.{AnsweredBy}
 use Rattle.pw_script.specs.declared.script.Line.{Line as line}
 use Rattle.pw_script.specs.declared.script.Script.{Script}
-use Rattle.pw_script.specs.declared.script.ScriptFault.{ScriptFault}
-use Rattle.pw_script.specs.declared.script.ScriptFault.TheVariants.{TooLong, Memory}
-use Rattle.pw_script.specs.declared.script.TheConstants.{MOST_BYTES, MOST_LINES, MOST_OPERATIONS}
-use Rattle.pw_script.specs.Lines.{lines_of}
 use Rattle.pw_script.specs.Reading.{AreLines, Fit, LawfullyChosen, first_bad, operations, refused}
 use Rattle.pw_script.proofs.Askable.{lines_by}
 use Rattle.pw_runs.specs.Scripts.{AreLinesIn, IsNoScript, IsScript, limit_by}

@@ -7,6 +7,9 @@ use Rattle.pw_base.specs.Seen.{FilesSeen, OfFiles, files_seen}
 use Rattle.aml_block.specs.declared.block.Block.{Block}
 use Rattle.acpi_space.specs.Distinct.{IsDistinct}
 use Rattle.acpi_space.specs.Namespace.{Entry, entries_in, places_of}
+use Rattle.pw_text.specs.declared.script.TheConstants.{MOST_OPERATIONS}
+use Rattle.pw_text.specs.declared.script.ScriptFault.{ScriptFault}
+use Rattle.pw_text.specs.declared.script.ScriptFault.TheVariants.{Line, Memory, TooLong}
 use Rattle.acpi_build.specs.declared.note.Note.{Note}
 use Rattle.acpi_build.specs.Planning.{IsPlanFrom}
 use Rattle.pw_plan.specs.declared.plan.Plan.{Plan}
@@ -14,11 +17,8 @@ use Rattle.pw_regs.specs.declared.registers.Registers.{Ghosts as Registers}
 use Rattle.pw_regs.specs.Seen.{registers_seen}
 use Rattle.pw_turns.specs.declared.close.Sealed.{Sealed}
 use Rattle.pw_script.specs.declared.script.Line.{Line as line}
-use Rattle.pw_script.specs.declared.script.TheConstants.{MOST_OPERATIONS}
 use Rattle.pw_script.specs.Reading.{operations}
 use Rattle.pw_script.specs.declared.script.Script.{Script}
-use Rattle.pw_script.specs.declared.script.ScriptFault.{ScriptFault}
-use Rattle.pw_script.specs.declared.script.ScriptFault.TheVariants.{Line, Memory, TooLong}
 use Rattle.pw_drive.specs.Drives.{GivesBack}
 use Rattle.pw_load.specs.Seen.{Outputs, Seen}
 use Rattle.pw_load.specs.Ends.{Stops}

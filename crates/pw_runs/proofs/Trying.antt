@@ -1,6 +1,7 @@
 -- A load that was tried is what was generated.
 use Rattle.std.proofs.Common.{◌≡◌, ◌≤◌, ℕ, List, [], Option, Some, None, codes, inl, inr, ap, refl}
 use Rattle.std.specs.List.{AllByRecursion}
+use Rattle.pw_text.specs.declared.script.TheConstants.{MOST_OPERATIONS}
 use Rattle.pw_plan.specs.declared.plan.Plan.{Plan}
 use Rattle.pw_plan.specs.Requests.{Has}
 use Rattle.pw_model.specs.declared.entry.HistoryEntry.{HistoryEntry}
@@ -8,7 +9,6 @@ use Rattle.pw_model.proofs.Joining.{fault_none}
 use Rattle.pw_regs.specs.declared.registers.Registers.{Ghosts as Registers}
 use Rattle.pw_regs.specs.Seen.{RegistersSeen, registers_seen}
 use Rattle.pw_turns.specs.declared.close.Sealed.{Sealed}
-use Rattle.pw_script.specs.declared.script.TheConstants.{MOST_OPERATIONS}
 use Rattle.pw_script.specs.declared.script.Line.{Line as line}
 use Rattle.pw_script.specs.Reading.{operations, requests_of}
 use Rattle.pw_drive.specs.Driven.{stopped_at}

@@ -1,8 +1,8 @@
 -- Lines of words, as they are put.
 use Rattle.std.proofs.Common.{◌≡◌, ℕ, List, [], ◌∷◌, ◌++◌, codes, decimal, refl, sym, ap, append_assoc}
 use Rattle.pw_text.specs.Lines.{line_of}
-use Rattle.pw_script.specs.declared.script.LineWhy.{LineWhy}
-use Rattle.pw_script.specs.declared.script.ScriptFault.TheVariants.{TooLong, Line}
+use Rattle.pw_text.specs.declared.script.LineWhy.{LineWhy}
+use Rattle.pw_text.specs.declared.script.ScriptFault.TheVariants.{TooLong, Line}
 use Rattle.pw_runs.specs.Runs.{register_line}
 use Rattle.pw_runs.specs.Scripts.{script_line, why_word}
 

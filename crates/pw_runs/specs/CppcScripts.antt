@@ -1,6 +1,6 @@
 -- What is held under the name of a script of requests for performance.
 use Rattle.std.specs.Prelude.{◌≡◌, ℕ, List, Option, Some}
-use Rattle.pw_script.specs.declared.script.ScriptFault.{ScriptFault}
+use Rattle.pw_text.specs.declared.script.ScriptFault.{ScriptFault}
 use Rattle.pw_cppc.specs.declared.plan.CppcPlan.{CppcPlan}
 use Rattle.pw_cppc_drive.specs.declared.script.CppcLine.{CppcLine}
 use Rattle.pw_cppc_drive.specs.Reading.{IsNoScript, IsScript}

@@ -15,10 +15,10 @@ use Rattle.pw_model.specs.declared.entry.HistoryEntry.{HistoryEntry}
 use Rattle.pw_model.specs.History.{entry_of}
 use Rattle.pw_regs.specs.Seen.{RegistersSeen}
 use Rattle.pw_text.specs.Lines.{line_of}
+use Rattle.pw_text.specs.declared.script.ScriptFault.{ScriptFault}
+use Rattle.pw_text.specs.declared.script.ScriptFault.TheVariants.{Memory}
+use Rattle.pw_text.specs.declared.script.TheConstants.{MOST_OPERATIONS}
 use Rattle.pw_script.specs.declared.script.Line.{Line as line}
-use Rattle.pw_script.specs.declared.script.ScriptFault.{ScriptFault}
-use Rattle.pw_script.specs.declared.script.ScriptFault.TheVariants.{Memory}
-use Rattle.pw_script.specs.declared.script.TheConstants.{MOST_OPERATIONS}
 use Rattle.pw_script.specs.HistoryText.{history_text}
 use Rattle.pw_script.specs.Lawful.{LawfulSerial}
 use Rattle.pw_script.specs.Reading.{operations, requests_of}

@@ -5,13 +5,13 @@ use Rattle.pw_governor.specs.Choices.{choice}
 use Rattle.pw_notice.specs.Handling.{followed, stepped}
 use Rattle.pw_notice.specs.Limits.{answer_by}
 use Rattle.pw_text.specs.Lines.{line_of}
+use Rattle.pw_text.specs.declared.script.LineWhy.{LineWhy}
+use Rattle.pw_text.specs.declared.script.LineWhy.TheVariants.{Grammar, Processor, Number}
+use Rattle.pw_text.specs.declared.script.ScriptFault.{ScriptFault}
+use Rattle.pw_text.specs.declared.script.ScriptFault.TheVariants.{TooLong, Line, Memory}
+use Rattle.pw_text.specs.declared.script.TheConstants.{MOST_OPERATIONS}
+use Rattle.pw_text.specs.Fields.{lines_of}
 use Rattle.pw_script.specs.declared.script.Line.{Line as line}
-use Rattle.pw_script.specs.declared.script.LineWhy.{LineWhy}
-use Rattle.pw_script.specs.declared.script.LineWhy.TheVariants.{Grammar, Processor, Number}
-use Rattle.pw_script.specs.declared.script.ScriptFault.{ScriptFault}
-use Rattle.pw_script.specs.declared.script.ScriptFault.TheVariants.{TooLong, Line, Memory}
-use Rattle.pw_script.specs.declared.script.TheConstants.{MOST_OPERATIONS}
-use Rattle.pw_script.specs.Lines.{lines_of}
 use Rattle.pw_script.specs.Reading.{AreLines, Answered, Chosen, operations, refused}
 
 -- the limit that is to stand after a notification: the platform's value, or one step towards it

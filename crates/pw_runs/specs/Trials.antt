@@ -2,13 +2,13 @@
 use Rattle.std.specs.Prelude.{◌≡◌, ◌≤◌, ℕ, false, List, [], ◌∷◌, codes, take, Option, Some, None}
 use Rattle.pw_base.specs.Outside.{Rose}
 use Rattle.acpi_space.specs.Namespace.{entries_in}
+use Rattle.pw_text.specs.declared.script.TheConstants.{MOST_OPERATIONS}
 use Rattle.acpi_build.specs.declared.note.Note.{Note}
 use Rattle.acpi_build.specs.Planning.{IsPlanFrom}
 use Rattle.pw_plan.specs.declared.plan.Plan.{Plan}
 use Rattle.pw_model.specs.declared.entry.HistoryEntry.{HistoryEntry}
 use Rattle.pw_regs.specs.Seen.{RegistersSeen}
 use Rattle.pw_turns.specs.declared.close.Sealed.{Sealed}
-use Rattle.pw_script.specs.declared.script.TheConstants.{MOST_OPERATIONS}
 use Rattle.pw_script.specs.Reading.{operations, requests_of}
 use Rattle.pw_drive.specs.Driven.{stopped_at}
 use Rattle.pw_drive.specs.Drives.{Opens, Runs}

@@ -2,7 +2,7 @@ ghost use Rattle.std.specs.Prelude.{◌≡◌, ◌≤◌, [], IfErr, IfOk, OnOk}
 ghost use Rattle.pw_base.specs.Outside.{KeepsFiles, KeepsSink};
 ghost use Rattle.pw_base.specs.Seen.{files_seen, sink_seen, OfFiles};
 ghost use Rattle.aml_block.specs.Held.{names_of};
-ghost use Rattle.pw_script.specs.declared.script.TheConstants.{MOST_OPERATIONS};
+ghost use Rattle.pw_text.specs.declared.script.TheConstants.{MOST_OPERATIONS};
 ghost use Rattle.pw_load.specs.Ends.{Stopped};
 ghost use Rattle.pw_cppc_drive.specs.Reading.{Fit, operations};
 ghost use Rattle.pw_runs.specs.CppcRuns.{AreGiven, steering};

@@ -1,7 +1,7 @@
 ghost use Rattle.std.specs.Prelude.{◌≡◌, ◌≤◌, [], IfErr, IfOk, OnOk};
 ghost use Rattle.pw_base.specs.Outside.{KeepsFiles, KeepsSink};
 ghost use Rattle.pw_base.specs.Seen.{files_seen, sink_seen, OfFiles};
-ghost use Rattle.pw_script.specs.declared.script.TheConstants.{MOST_OPERATIONS};
+ghost use Rattle.pw_text.specs.declared.script.TheConstants.{MOST_OPERATIONS};
 ghost use Rattle.pw_load.specs.Ends.{Stopped};
 ghost use Rattle.pw_cppc_drive.specs.Reading.{Fit, IsScript, operations};
 ghost use Rattle.pw_runs.specs.CppcScripts.{HoldsScript};
@@ -13,8 +13,7 @@ use pw_base::{Files, Sink};
 use pw_cppc::CppcPlan;
 use pw_cppc_drive::{CppcScript, cppc_parse};
 use pw_load::{read_fault, without_memory};
-use pw_script::MOST_BYTES;
-use pw_text::Page;
+use pw_text::{MOST_BYTES, Page};
 use std::alloc::Global;
 
 /// The script that these bytes spell; or the status, once the error output has the line that says why

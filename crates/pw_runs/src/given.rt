@@ -2,10 +2,10 @@ ghost use Rattle.std.specs.Prelude.{◌≡◌, ◌≤◌, [], length, IfErr, IfO
 ghost use Rattle.std.specs.List.{AllByRecursion};
 ghost use Rattle.pw_base.specs.Outside.{KeepsFiles, KeepsSink};
 ghost use Rattle.pw_base.specs.Seen.{files_seen, sink_seen, OfFiles};
+ghost use Rattle.pw_text.specs.declared.script.TheConstants.{MOST_OPERATIONS};
 ghost use Rattle.pw_plan.specs.Requests.{Has};
 ghost use Rattle.aml_block.specs.Held.{names_of};
 ghost use Rattle.pw_script.specs.declared.script.Line.{Line as line};
-ghost use Rattle.pw_script.specs.declared.script.TheConstants.{MOST_OPERATIONS};
 ghost use Rattle.pw_script.specs.Reading.{operations};
 ghost use Rattle.pw_load.specs.Ends.{Stopped};
 ghost use Rattle.pw_runs.specs.Runs.{AreGiven, driving};

@@ -7,8 +7,7 @@ ghost use Rattle.pw_runs.specs.Scripts.{script_line, script_status, why_word};
 use crate::say::say_number;
 use pw_base::Sink;
 use pw_load::without_memory;
-use pw_script::{LineWhy, ScriptFault};
-use pw_text::Page;
+use pw_text::{LineWhy, Page, ScriptFault};
 
 /// How the line of a bad line ends.
 fn why_ending(why: LineWhy) -> &'static [u8]

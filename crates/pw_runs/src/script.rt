@@ -5,8 +5,8 @@ ghost use Rattle.pw_base.specs.Seen.{files_seen, OfFiles};
 ghost use Rattle.pw_plan.specs.Requests.{Has};
 ghost use Rattle.pw_notice.specs.Handling.{Handles, HandlesAs};
 ghost use Rattle.pw_script.specs.declared.script.Line.{Line as line};
-ghost use Rattle.pw_script.specs.declared.script.ScriptFault.TheVariants as faults;
-ghost use Rattle.pw_script.specs.declared.script.TheConstants.{MOST_OPERATIONS};
+ghost use Rattle.pw_text.specs.declared.script.ScriptFault.TheVariants as faults;
+ghost use Rattle.pw_text.specs.declared.script.TheConstants.{MOST_OPERATIONS};
 ghost use Rattle.pw_script.specs.Reading.{operations};
 ghost use Rattle.pw_runs.specs.Scripts.{HoldsScript, IsNoScript, IsScript, limit_by};
 ghost use Rattle.pw_runs.specs.inner.Parts.{IsWhyMissing, IsWhyNone};
@@ -17,7 +17,8 @@ use pw_base::Files;
 use pw_governor::{Governor, deepest};
 use pw_notice::{Handlers, follow, step as step_once};
 use pw_plan::Plan;
-use pw_script::{MOST_BYTES, Script, ScriptFault, parse};
+use pw_script::{Script, parse};
+use pw_text::{MOST_BYTES, ScriptFault};
 use std::alloc::Global;
 
 /// Why there is no script.

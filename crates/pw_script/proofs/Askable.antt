@@ -5,6 +5,10 @@ use Rattle.std.specs.List.{AllByRecursion}
 use Rattle.std.proofs.lemmas.Bool.Decides.{nat_tests}
 use denote.Ref.{Bor}
 use Rattle.acpi_values.specs.declared.idle.IdleTable.{IdleTable}
+use Rattle.pw_text.specs.declared.script.LineWhy.{LineWhy}
+use Rattle.pw_text.specs.declared.script.LineWhy.TheVariants.{Number}
+use Rattle.pw_text.specs.Fields.{fields_of}
+use Rattle.pw_text.specs.Forms.{is_large, is_number, name_of, number_of, value_of}
 use Rattle.pw_plan.specs.declared.parts.Scale.{Scale}
 use Rattle.pw_plan.specs.declared.plan.Plan.{Plan}
 use Rattle.pw_plan.specs.declared.request.Request.{Request}
@@ -23,15 +27,12 @@ use Rattle.pw_governor.specs.Choices.{ChoosesAs, IsLawful}
 use Rattle.pw_notice.specs.Handling.{Handles, HandlesAs}
 use Rattle.pw_notice.specs.Limits.{AnsweredBy, IsAnswer, answer_by, kind_of, made_from, own, own_limit}
 use Rattle.pw_script.specs.declared.script.Line.{Line as line}
-use Rattle.pw_script.specs.declared.script.LineWhy.{LineWhy}
-use Rattle.pw_script.specs.declared.script.LineWhy.TheVariants.{Number}
 use Rattle.pw_script.specs.declared.wish.Verb.{Verb}
 use Rattle.pw_script.specs.declared.wish.Verb.TheVariants as verbs
 use Rattle.pw_script.specs.declared.wish.Wish.{Wish}
 use Rattle.pw_script.specs.declared.wish.Wish.TheVariants.{Plain, Within, Notice}
 use Rattle.pw_script.specs.Asking.{CanBeAsked, IsNarrowRequest}
-use Rattle.pw_script.specs.Lines.{fields_of}
-use Rattle.pw_script.specs.Forms.{Said, cpu_named, is_large, is_number, name_of, number_of, said, some_wish, value_of, verb_alone, verb_of_one, verb_of_two, wish_by, wish_in, wish_in_fields, wish_of, wish_on, wish_with}
+use Rattle.pw_script.specs.Forms.{Said, cpu_named, said, some_wish, verb_alone, verb_of_one, verb_of_two, wish_by, wish_in, wish_in_fields, wish_of, wish_on, wish_with}
 use Rattle.pw_script.specs.Reading.{Answered, AreLines, Chosen, GivesLines, IsAsked, LawfullyChosen, requests_of}
 use Rattle.pw_script.proofs.Counts.{counts_of}
 use Rattle.pw_script.proofs.Existing.{lines_fit}

@@ -4,6 +4,7 @@ use Rattle.std.specs.List.{AllByRecursion}
 use Rattle.std.proofs.lemmas.Fmt.{decimal_injective}
 use Rattle.std.proofs.lemmas.List.{append_cancel_left}
 use Rattle.acpi_values.specs.declared.operation.Op.{Op}
+use Rattle.pw_text.specs.HistoryText.{fault_words}
 use Rattle.pw_plan.specs.declared.plan.Plan.{Plan}
 use Rattle.pw_plan.proofs.Lists.{each_append, each_map}
 use Rattle.pw_model.specs.declared.entry.HistoryEntry.{HistoryEntry}
@@ -11,7 +12,7 @@ use Rattle.pw_model.specs.declared.state.State.{State}
 use Rattle.pw_model.specs.States.{opening}
 use Rattle.pw_model.specs.History.{IsEntry, after_entry, entry_ops, request_of}
 use Rattle.pw_model.specs.Operations.{opening_ops}
-use Rattle.pw_script.specs.HistoryText.{fault_words, history_lines, history_text, lines_from, op_line, opening_lines, outcome_words, path_of, request_words}
+use Rattle.pw_script.specs.HistoryText.{history_lines, history_text, lines_from, op_line, opening_lines, outcome_words, path_of, request_words}
 use Rattle.pw_script.specs.Telling.{HasSegments, IsNarrow, IsNarrowFault, unseated}
 use Rattle.pw_script.specs.Wholes.{entry_line}
 use Rattle.pw_script.proofs.Cuts.{AllOver, Over, ended-same, joined-over, joined-same, over-test}

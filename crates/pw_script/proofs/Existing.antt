@@ -2,6 +2,11 @@
 use Rattle.std.proofs.Common.{◌≡◌, ◌<◌, ◌==◌, ◌∙◌, ◌++◌, ℕ, suc, Bool, true, false, cond, List, [], ◌∷◌, length, refl, ap, ap₂, sym, subst, Option, Some, None, Result, Ok, Err, arith}
 use Rattle.std.specs.Prelude.{IfOk, IfSome, ok_or}
 use Rattle.acpi_values.specs.declared.idle.IdleTable.{IdleTable}
+use Rattle.pw_text.specs.declared.script.LineWhy.{LineWhy}
+use Rattle.pw_text.specs.declared.script.LineWhy.TheVariants.{Number}
+use Rattle.pw_text.specs.Fields.{fields_of}
+use Rattle.pw_text.specs.Forms.{name_of}
+use Rattle.pw_text.proofs.Leading.{name_within}
 use Rattle.pw_model.specs.declared.state.ScaleKind.{ScaleKind}
 use Rattle.pw_model.specs.declared.state.ScaleKind.TheVariants as scales
 use Rattle.pw_notice.specs.Limits.{IsAnswer, kind_of, limit_request, own_limit}
@@ -13,16 +18,16 @@ use Rattle.pw_plan.specs.Parts.{scale_of}
 use Rattle.pw_plan.specs.Places.{cpu_at}
 use Rattle.pw_plan.specs.Requests.{Has, cpu_of}
 use Rattle.pw_script.specs.declared.script.Line.{Line as line}
-use Rattle.pw_script.specs.declared.script.LineWhy.{LineWhy}
-use Rattle.pw_script.specs.declared.script.LineWhy.TheVariants.{Number}
 use Rattle.pw_script.specs.declared.wish.Verb.{Verb}
 use Rattle.pw_script.specs.declared.wish.Verb.TheVariants as verbs
 use Rattle.pw_script.specs.declared.wish.Wish.{Wish}
 use Rattle.pw_script.specs.declared.wish.Wish.TheVariants.{Plain, Within, Notice}
-use Rattle.pw_script.specs.Lines.{fields_of}
-use Rattle.pw_script.specs.Forms.{Said, cpu_named, name_of, said, some_wish, wish_by, wish_in, wish_in_fields, wish_of, wish_on, wish_with}
+use Rattle.pw_script.specs.Forms.{Said, cpu_named, said, segs_of, some_wish, wish_by, wish_in, wish_in_fields, wish_of, wish_on, wish_with}
 use Rattle.pw_script.specs.Reading.{Answered, AreLines, Chosen, Fit, GivesLines, IsAsked, asker}
-use Rattle.pw_script.proofs.Leading.{named_exists}
+
+-- a processor that is named is one of the plan's
+pub named_exists : (P : Plan) (name : List ℕ) → IfSome (cpu_named P name) (λ p. p < length P.cpus)
+named_exists P name = name_within segs_of P.cpus name
 
 -- who wishes is one of k processors, where there is a wish
 abbrev Among : ℕ → Result (Option Wish) LineWhy → Type 0

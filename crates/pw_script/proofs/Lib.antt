@@ -1,24 +1,17 @@
 pub mod Askable
 pub mod Counts
-pub mod Cutting
 mod Examples
 pub mod Existing
-pub mod Feeds
 pub mod Replied
-pub mod Leading
 pub mod Limiting
 pub mod Lined
 pub mod Sourced
 pub mod Making
-pub mod Naming
 pub mod Noticing
-pub mod Operated
 pub mod Orders
 pub mod Pathed
 pub mod Printed
-pub mod Shorts
 pub mod Spacing
-pub mod Values
 pub mod Firsts
 pub mod Cuts
 pub mod TextWords

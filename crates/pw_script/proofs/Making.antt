@@ -1,5 +1,5 @@
 -- One request, or one line, more.
-use Rattle.std.proofs.Common.{◌≡◌, ◌∙◌, ◌+◌, ℕ, suc, List, [], ◌∷◌, ◌++◌, refl, ap, Ok, Err, Option, Some, None, Result, append_assoc, add-one, length, arith}
+use Rattle.std.proofs.Common.{◌≡◌, ◌∙◌, ◌+◌, ℕ, suc, List, [], ◌∷◌, ◌++◌, refl, ap, Ok, Some, None, append_assoc, add-one}
 use Rattle.pw_plan.specs.declared.plan.Plan.{Plan}
 use Rattle.pw_plan.specs.declared.request.Request.{Request}
 use Rattle.pw_model.specs.declared.state.State.{State}
@@ -7,20 +7,17 @@ use Rattle.pw_model.specs.Answers.{after}
 use Rattle.acpi_values.specs.declared.idle.IdleTable.{IdleTable}
 use Rattle.pw_model.specs.declared.state.ScaleKind.{ScaleKind}
 use Rattle.pw_script.specs.declared.script.Line.{Line as line}
-use Rattle.pw_script.specs.declared.script.LineWhy.{LineWhy}
-use Rattle.pw_script.specs.declared.script.ScriptFault.TheVariants as faults
 use Rattle.pw_script.specs.declared.wish.Wish.{Wish}
 use Rattle.pw_script.specs.Forms.{wish_in}
-use Rattle.pw_script.specs.Lines.{lines_of}
 use Rattle.std.proofs.lemmas.List.{map-append}
 use Rattle.pw_notice.specs.Limits.{made_from}
-use Rattle.pw_script.specs.Reading.{AreLines, IsAsked, first_bad_by, requests_of}
+use Rattle.pw_script.specs.Reading.{AreLines, IsAsked, requests_of}
 
 pub made_more : (P : Plan) (S : State) (qs : List Request) (q : Request) → made_from P S (qs ++ q ∷ []) ≡ after P (made_from P S qs) q
 made_more P S [] q = refl
 made_more P S (r ∷ qs) q = made_more P (after P S r) qs q
 
--- # The first text asks for something, asks for nothing, or is bad
+-- # The first text asks for something, or for nothing
 
 pub lines_some : (P : Plan) (c : IdleTable → ℕ → ℕ → ℕ → Type 0) (m : ScaleKind → ℕ → ℕ → ℕ → ℕ → Type 0) (before : List Request) (n : ℕ) (texts : List (List ℕ)) (text : List ℕ) (rest : List (List ℕ))
     (wish : Wish) (q : Request) (more : List line)
@@ -33,14 +30,6 @@ pub lines_none : (P : Plan) (c : IdleTable → ℕ → ℕ → ℕ → Type 0) (
     → texts ≡ text ∷ rest → wish_in P text ≡ Ok None → AreLines P c m before (suc n) rest more
     → AreLines P c m before n texts more
 lines_none P c m before n texts text rest more e w h = rw (e, w) h
-
-pub bad_past : {W : Type 0} (asks : List ℕ → Result (Option W) LineWhy) (n : ℕ) (texts : List (List ℕ)) (text : List ℕ) (rest : List (List ℕ)) (wish : Option W)
-    → texts ≡ text ∷ rest → asks text ≡ Ok wish → first_bad_by asks n texts ≡ first_bad_by asks (suc n) rest
-bad_past asks n texts text rest wish e w = rw (e, w) refl
-
-pub bad_here : {W : Type 0} (asks : List ℕ → Result (Option W) LineWhy) (n : ℕ) (texts : List (List ℕ)) (text : List ℕ) (rest : List (List ℕ)) (why : LineWhy)
-    → texts ≡ text ∷ rest → asks text ≡ Err why → first_bad_by asks n texts ≡ Some (faults.Line n why)
-bad_here asks n texts text rest why e w = rw (e, w) refl
 
 -- # A loop over the lines, one line further
 
@@ -65,7 +54,3 @@ past_on P c m whole items number texts text rest e w so_far more h =
     let one : number + 1 ≡ suc number = add-one number in
     let there = rw one at h in
     so_far more (lines_none P c m (requests_of items) (suc number) texts text rest more e w there)
-
-pub no_texts : (xs : List ℕ) → length xs ≡ 0 → lines_of xs ≡ []
-no_texts [] e = refl
-no_texts (b ∷ xs) e = absurd (omega arith)

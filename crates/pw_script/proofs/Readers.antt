@@ -4,6 +4,7 @@ use Rattle.std.specs.Str.Parse.{digits_value}
 use Rattle.std.proofs.lemmas.Bool.{eqb-false}
 use Rattle.std.proofs.lemmas.Fmt.{decimal_is_IsNumeral, decimal_nonempty}
 use Rattle.std.proofs.lemmas.List.{append_cancel_left}
+use Rattle.pw_text.specs.HistoryText.{fault_words}
 use Rattle.pw_plan.specs.declared.plan.Plan.{Plan}
 use Rattle.pw_plan.specs.declared.request.Request.{Request}
 use Rattle.pw_plan.specs.declared.request.Request.TheVariants.{Idle, Wake, Perf, Throttle, PerfLimit, ThrottleLimit}
@@ -16,7 +17,7 @@ use Rattle.pw_model.specs.States.{any_latency}
 use Rattle.pw_model.specs.Answers.{answer}
 use Rattle.pw_model.specs.History.{IsEntry, entry_of, request_of}
 use Rattle.pw_model.proofs.Staying.{request_cpu}
-use Rattle.pw_script.specs.HistoryText.{fault_words, outcome_words, path_of, reply_words, request_words}
+use Rattle.pw_script.specs.HistoryText.{outcome_words, path_of, reply_words, request_words}
 use Rattle.pw_script.specs.Asking.{IsNarrowRequest}
 use Rattle.pw_script.specs.Telling.{HasSegments, IsNarrow, unseated}
 use Rattle.pw_script.specs.Wholes.{entry_line}

@@ -3,6 +3,7 @@ use Rattle.std.proofs.Common.{◌≡◌, ◌∙◌, ◌++◌, ◌∷◌, ◌==�
 use Rattle.std.proofs.Common.{append-nil, append_assoc, arith, drop, eq-eqb, get_or, length, length-append, ne_eqb, refl, subst, sym}
 use Rattle.std.specs.List.{AllByRecursion}
 use Rattle.acpi_values.specs.declared.idle.IdleTable.{IdleTable}
+use Rattle.pw_text.specs.declared.script.LineWhy.{LineWhy}
 use Rattle.pw_plan.specs.declared.domain.DomainKind.{DomainKind}
 use Rattle.pw_plan.specs.declared.domain.DomainKind.TheVariants as kinds
 use Rattle.pw_plan.specs.declared.parts.Scale.{Scale}
@@ -20,7 +21,6 @@ use Rattle.pw_model.specs.History.{IsEntry, replay, request_of}
 use Rattle.pw_model.proofs.Staying.{request_cpu}
 use Rattle.pw_notice.specs.Limits.{IsAnswer, own, own_limit}
 use Rattle.pw_script.specs.declared.script.Line.{Line as line}
-use Rattle.pw_script.specs.declared.script.LineWhy.{LineWhy}
 use Rattle.pw_script.specs.declared.wish.Wish.{Wish}
 use Rattle.pw_script.specs.declared.wish.Wish.TheVariants.{Plain, Within, Notice}
 use Rattle.pw_script.specs.Forms.{wish_in}

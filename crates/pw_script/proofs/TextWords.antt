@@ -11,6 +11,7 @@ use Rattle.acpi_values.specs.declared.register.Register.{Register}
 use Rattle.acpi_values.specs.declared.operation.Op.{Op}
 use Rattle.acpi_values.specs.declared.operation.Op.TheVariants.{Set, Enter}
 use Rattle.pw_text.specs.Text.{hex_text, place_text}
+use Rattle.pw_text.specs.HistoryText.{fault_words, register_text}
 use Rattle.pw_plan.proofs.Lists.{each_append}
 use Rattle.pw_plan.specs.declared.plan.Plan.{Plan}
 use Rattle.pw_plan.specs.Parts.{no_cpu}
@@ -24,7 +25,7 @@ use Rattle.pw_model.specs.declared.state.State.{State}
 use Rattle.pw_model.specs.States.{any_latency}
 use Rattle.pw_model.specs.Answers.{answer}
 use Rattle.pw_model.specs.History.{request_of}
-use Rattle.pw_script.specs.HistoryText.{fault_words, op_line, outcome_words, path_of, register_text, reply_words, request_words, tolerance_words}
+use Rattle.pw_script.specs.HistoryText.{op_line, outcome_words, path_of, reply_words, request_words, tolerance_words}
 use Rattle.pw_script.specs.Telling.{HasSegments, IsOfSegments}
 use Rattle.pw_script.proofs.Cuts.{AllOver, Over, all_over-test, joined-over, joined-same, over-lower, over-test}
 

@@ -1,12 +1,10 @@
 -- The printed text of a history.
-use Rattle.std.specs.Prelude.{◌==◌, ◌+◌, ◌-◌, ℕ, List, [], ◌∷◌, ◌++◌, map, take, codes, decimal, Option, Some, None, if◌then◌else◌}
-use Rattle.std.specs.List.{join_with_byte}
+use Rattle.std.specs.Prelude.{◌==◌, ◌+◌, ◌-◌, ℕ, List, [], ◌∷◌, ◌++◌, map, take, codes, decimal, Option, if◌then◌else◌}
 use Rattle.acpi_values.specs.declared.operation.Chain.{Chain}
 use Rattle.acpi_values.specs.declared.operation.Op.{Op}
-use Rattle.acpi_values.specs.declared.operation.Op.TheVariants.{Set, Enter}
-use Rattle.acpi_values.specs.declared.register.Register.{Register}
-use Rattle.pw_text.specs.Lines.{spaced, text_of}
-use Rattle.pw_text.specs.Text.{hex_text, place_text}
+use Rattle.pw_text.specs.HistoryText.{asked_line, fault_words, op_line_by, opened_lines}
+use Rattle.pw_text.specs.Lines.{text_of}
+use Rattle.pw_text.specs.Text.{place_text}
 use Rattle.pw_plan.specs.declared.plan.Plan.{Plan}
 use Rattle.pw_plan.specs.declared.request.Request.{Request}
 use Rattle.pw_plan.specs.declared.request.Request.TheVariants.{Idle, Wake, Perf, Throttle, PerfLimit, ThrottleLimit}
@@ -52,32 +50,14 @@ reply_words NoTable = codes "refused" ∷ codes "no" ∷ codes "table" ∷ []
 reply_words (Unfit domain why) = codes "refused" ∷ codes "unfit" ∷ codes "domain" ∷ decimal domain ∷ codes "why" ∷ decimal why ∷ []
 reply_words (TooSlow latency) = codes "refused" ∷ codes "latency" ∷ decimal latency ∷ []
 
--- a fault after k operations
-abbrev pub fault_words : ℕ → List (List ℕ)
-fault_words k = codes "register" ∷ codes "fault" ∷ codes "after" ∷ decimal k ∷ []
-
 -- what came of an entry that was asked in state S
 abbrev pub outcome_words : Plan → State → HistoryEntry → List (List ℕ)
 outcome_words P S e = if e.fault == 0 then reply_words (answer P S (request_of e)) else fault_words (e.fault - 1)
 
--- a register: its space, width, offset, access size and address
-abbrev pub register_text : Register → List ℕ
-register_text r = 91 ∷ (join_with_byte 44 (decimal r.space ∷ decimal r.width ∷ decimal r.offset ∷ decimal r.access ∷ hex_text r.address
-    ∷ []) ++ (93 ∷ []))
-
 -- # Lines
-
--- an operation, where each processor has this path
-abbrev pub op_line_by : (ℕ → List ℕ) → Op → List ℕ
-op_line_by path (Set p r v) = spaced ([] ∷ [] ∷ codes "set" ∷ path p ∷ register_text r ∷ hex_text v ∷ [])
-op_line_by path (Enter p composite) = spaced ([] ∷ [] ∷ codes "enter" ∷ path p ∷ register_text composite.register ∷ [])
 
 abbrev pub op_line : Plan → Op → List ℕ
 op_line P = op_line_by (path_of P)
-
--- entry n: the path of who asked, the words of what was asked, and those of what came of it
-abbrev pub asked_line : ℕ → List ℕ → List (List ℕ) → List (List ℕ) → List ℕ
-asked_line n path asked outcome = spaced (decimal n ∷ path ∷ (asked ++ (codes "->" ∷ outcome)))
 
 -- request n, of processor p, and what came of it
 abbrev pub request_line : Plan → ℕ → ℕ → Request → List (List ℕ) → List ℕ
@@ -91,11 +71,6 @@ entry_lines P S n e = request_line P n e.cpu (request_of e) (outcome_words P S e
 abbrev pub lines_from : Plan → State → ℕ → List HistoryEntry → List (List ℕ)
 lines_from P S n [] = []
 lines_from P S n (e ∷ es) = entry_lines P S n e ++ lines_from P (after_entry P S e) (n + 1) es
-
--- an opening of these operations, each with its line, which a fault may end after k of them
-abbrev pub opened_lines : (Op → List ℕ) → List Op → Option ℕ → List (List ℕ)
-opened_lines line ops None = codes "open" ∷ map line ops
-opened_lines line ops (Some k) = spaced (codes "open" ∷ codes "->" ∷ fault_words k) ∷ map line (take k ops)
 
 abbrev pub opening_lines : Plan → Option ℕ → List (List ℕ)
 opening_lines P fault = opened_lines (op_line P) (opening_ops P) fault

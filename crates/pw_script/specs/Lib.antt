@@ -1,13 +1,8 @@
-pub mod Lines
 pub mod Forms
-pub mod Looking
 pub mod Asking
 pub mod Reading
 pub mod Lawful
 pub mod Sources
-pub mod Behind
-pub mod Paths
-pub mod Openings
 pub mod HistoryText
 pub mod inner
 pub mod Telling

@@ -1,5 +1,5 @@
 -- A script: its lines' requests, and why bytes are none.
-use Rattle.std.specs.Prelude.{◌≡◌, ◌==◌, ◌+◌, ◌≤◌, ℕ, suc, List, [], ◌∷◌, ◌++◌, map, length, sum_by, nat_lt, Option, Some, None, Result, Ok, Err, if◌then◌else◌}
+use Rattle.std.specs.Prelude.{◌≡◌, ◌==◌, ◌+◌, ◌≤◌, ℕ, suc, List, [], ◌∷◌, ◌++◌, map, length, sum_by, Option, Some, None, Result, Ok, Err, if◌then◌else◌}
 use denote.Ref.{Bor}
 use Rattle.std.specs.List.{AllByRecursion}
 use Rattle.acpi_values.specs.declared.idle.IdleTable.{IdleTable}
@@ -11,14 +11,12 @@ use Rattle.pw_plan.specs.Requests.{Has, cpu_of, ops_bound, opening_bound}
 use Rattle.pw_model.specs.declared.state.ScaleKind.{ScaleKind}
 use Rattle.pw_governor.specs.Choices.{ChosenBy, IsLawful}
 use Rattle.pw_notice.specs.Limits.{IsNoticed}
-use Rattle.pw_script.specs.declared.script.TheConstants.{MOST_BYTES, MOST_LINES}
 use Rattle.pw_script.specs.declared.script.Line.{Line as line}
-use Rattle.pw_script.specs.declared.script.LineWhy.{LineWhy}
-use Rattle.pw_script.specs.declared.script.ScriptFault.{ScriptFault}
-use Rattle.pw_script.specs.declared.script.ScriptFault.TheVariants as faults
+use Rattle.pw_text.specs.declared.script.LineWhy.{LineWhy}
+use Rattle.pw_text.specs.declared.script.ScriptFault.{ScriptFault}
+use Rattle.pw_text.specs.Scripts.{first_bad_by, refused_by}
 use Rattle.pw_script.specs.declared.wish.Wish.{Wish}
 use Rattle.pw_script.specs.declared.wish.Wish.TheVariants.{Plain, Within, Notice}
-use Rattle.pw_script.specs.Lines.{lines_of}
 use Rattle.pw_script.specs.Forms.{wish_in}
 
 -- # Wishes that are answered
@@ -49,15 +47,6 @@ asker (Notice p kind value) = p
 
 -- # Lines one after the other, numbered from n on
 
-abbrev pub fault_or : {W : Type 0} → ℕ → Result (Option W) LineWhy → Option ScriptFault → Option ScriptFault
-fault_or n (Err why) rest = Some (faults.Line n why)
-fault_or n (Ok wish) rest = rest
-
--- the first bad line, by what a line asks for
-abbrev pub first_bad_by : {W : Type 0} → (List ℕ → Result (Option W) LineWhy) → ℕ → List (List ℕ) → Option ScriptFault
-first_bad_by asks n [] = None
-first_bad_by asks n (text ∷ texts) = fault_or n (asks text) (first_bad_by asks (suc n) texts)
-
 abbrev pub first_bad : Plan → ℕ → List (List ℕ) → Option ScriptFault
 first_bad P = first_bad_by (wish_in P)
 
@@ -82,20 +71,6 @@ AreLines P chooses answers before n (text ∷ texts) lines = GivesLines P choose
     (λ b l. AreLines P chooses answers b (suc n) texts l) lines
 
 -- # The whole script
-
--- why bytes are too long: they are too many, or have too many lines
-abbrev pub too_long : List ℕ → Option ScriptFault
-too_long bytes =
-    if nat_lt MOST_BYTES (length bytes) then Some (faults.TooLong MOST_BYTES) else
-    if nat_lt MOST_LINES (length (lines_of bytes)) then Some (faults.TooLong MOST_LINES) else
-    None
-
--- why bytes are no script, by what a line asks for: too many bytes or lines, or a bad line
-abbrev pub refused_by : {W : Type 0} → (List ℕ → Result (Option W) LineWhy) → List ℕ → Option ScriptFault
-refused_by asks bytes =
-    if nat_lt MOST_BYTES (length bytes) then Some (faults.TooLong MOST_BYTES) else
-    if nat_lt MOST_LINES (length (lines_of bytes)) then Some (faults.TooLong MOST_LINES) else
-    first_bad_by asks 1 (lines_of bytes)
 
 -- why bytes are no script, whatever is answered
 abbrev pub refused : Plan → List ℕ → Option ScriptFault

@@ -1,13 +1,14 @@
 -- Whole texts, and the lines that begin one.
 use Rattle.std.specs.Prelude.{◌≡◌, ◌==◌, ◌<◌, ◌⊎◌, ◌+◌, ◌++◌, ℕ, List, [], ◌∷◌, map, take, length, codes, Option, Some, None, if◌then◌else◌}
 use Rattle.pw_text.specs.Lines.{spaced, with_feed}
+use Rattle.pw_text.specs.HistoryText.{fault_words}
 use Rattle.pw_plan.specs.declared.plan.Plan.{Plan}
 use Rattle.pw_plan.specs.declared.request.Request.{Request}
 use Rattle.pw_model.specs.declared.entry.HistoryEntry.{HistoryEntry}
 use Rattle.pw_model.specs.declared.state.State.{State}
 use Rattle.pw_model.specs.History.{entry_ops, replay, request_of}
 use Rattle.pw_model.specs.Operations.{opening_ops}
-use Rattle.pw_script.specs.HistoryText.{fault_words, history_lines, history_text, op_line, outcome_words, request_line}
+use Rattle.pw_script.specs.HistoryText.{history_lines, history_text, op_line, outcome_words, request_line}
 use Rattle.pw_script.specs.Lawful.{Lawful}
 use Rattle.pw_script.specs.Completing.{IsStart}
 

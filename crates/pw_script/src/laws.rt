@@ -3,8 +3,6 @@ ghost use Rattle.pw_model.specs.declared.state.ScaleKind.{ScaleKind as kind};
 ghost use Rattle.pw_plan.specs.declared.plan.Plan.{Plan as plan};
 ghost use Rattle.pw_plan.specs.declared.request.Request.{Request as request};
 ghost use Rattle.acpi_values.specs.declared.idle.IdleTable.{IdleTable as table};
-ghost use Rattle.std.specs.List.{AllByRecursion};
-ghost use Rattle.aml_data.specs.Segment.{IsSegment, joined};
 ghost use Rattle.pw_script.specs.declared.script.Line.{Line as line};
 ghost use Rattle.pw_model.specs.declared.entry.HistoryEntry.{HistoryEntry as entry};
 ghost use Rattle.pw_governor.specs.Choices.{ChoosesAs};
@@ -57,13 +55,6 @@ pub fn functions_tell_lines<
         → AreLines M (LawfullyChosen (F.post governor.now))
         (AnsweredBy (P.post handlers.now.0) (T.post handlers.now.1)) before n texts lines
         → AreLines M (Chosen choose) (Answered (answer_by perf throttle)) before n texts lines }
-{}
-
-/// Segments one behind the other tell which they are.
-#[tactic(auto, using(crate::proofs::Naming::joined_tells))]
-pub fn names_tell_paths()
-    ensures { (a b : List (List ℕ)) → AllByRecursion IsSegment a → AllByRecursion IsSegment b
-        → joined a ≡ joined b → a ≡ b }
 {}
 
 /// What may come of a script in the order of its lines may come of it at all.

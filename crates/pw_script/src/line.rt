@@ -1,18 +1,15 @@
 ghost use Rattle.std.specs.Prelude.{◌≡◌, ◌<◌, length, bytes_eq, IfOk, IfSome};
-ghost use Rattle.pw_script.specs.Lines.{fields_of};
+ghost use Rattle.pw_text.specs.Fields.{fields_of};
+ghost use Rattle.pw_text.specs.Looking.{LeadsTo};
 ghost use Rattle.pw_script.specs.Forms.{said, segs_of, verb_alone, verb_of_one, verb_of_two, wish_by, wish_in};
-ghost use Rattle.pw_script.specs.Looking.{LeadsTo};
 ghost use Rattle.pw_script.specs.Reading.{asker};
 
 use crate::index::find;
-use crate::lines::first_field;
-use crate::name::write_name;
-use crate::number::{is_number, value_of};
-use crate::script::LineWhy;
 use crate::wish::{Verb, Wish};
 use pw_base::Memory;
 use pw_model::ScaleKind;
 use pw_plan::{ANY_LATENCY, Plan, Request};
+use pw_text::{LineWhy, first_field, is_number, value_of, write_name};
 use std::collections::HashMap;
 
 /// Whether bytes are this text.

@@ -2,9 +2,9 @@ ghost use Rattle.std.specs.Prelude.{◌≡◌, IfOk};
 ghost use Rattle.pw_script.specs.HistoryText.{path_of};
 ghost use Rattle.pw_script.specs.inner.Paths.{paths_of};
 
-use crate::paths::PathTexts;
 use pw_base::Memory;
 use pw_plan::Plan;
+use pw_text::PathTexts;
 use std::alloc::Global;
 use std::marker::Model;
 

@@ -5,41 +5,29 @@ ghost use Rattle.pw_governor.specs.Choices.{Chooses};
 ghost use Rattle.pw_notice.specs.Handling.{Handles};
 ghost use Rattle.pw_notice.specs.Limits.{AnsweredBy};
 ghost use Rattle.pw_script.specs.declared.script.Line.{Line as line};
-ghost use Rattle.pw_script.specs.declared.script.TheConstants.{MOST_LINES, MOST_OPERATIONS};
-ghost use Rattle.pw_script.specs.declared.script.ScriptFault.TheVariants as faults;
-ghost use Rattle.pw_script.specs.Lines.{lines_of};
+ghost use Rattle.pw_text.specs.declared.script.ScriptFault.TheVariants as faults;
+ghost use Rattle.pw_text.specs.declared.script.TheConstants.{MOST_LINES, MOST_OPERATIONS};
+ghost use Rattle.pw_text.specs.Fields.{lines_of};
+ghost use Rattle.pw_text.specs.Looking.{LeadsTo};
+ghost use Rattle.pw_text.specs.Scripts.{too_long};
 ghost use Rattle.pw_script.specs.Forms.{segs_of};
-ghost use Rattle.pw_script.specs.Looking.{LeadsTo};
 ghost use Rattle.pw_script.specs.Asking.{CanBeAsked};
 ghost use Rattle.pw_script.specs.Reading.{AreLines, Fit, LawfullyChosen, first_bad, operations, refused};
-ghost use Rattle.pw_script.specs.Reading.{requests_of, too_long};
+ghost use Rattle.pw_script.specs.Reading.{requests_of};
 
 use crate::asking::{note, request_of};
 use crate::index::index_of;
 use crate::line::wish_in;
-use crate::lines::{count_lines, first_line};
-use crate::script::{Line, MOST_BYTES, MOST_LINES, MOST_OPERATIONS, Script, ScriptFault};
+use crate::script::{Line, Script};
 use acpi_values::IdleTable;
 use pw_base::List;
 use pw_core::State;
 use pw_governor::Governor;
 use pw_notice::Handlers;
 use pw_plan::Plan;
+use pw_text::{MOST_OPERATIONS, ScriptFault, first_line, too_long};
 use std::alloc::Global;
 use std::collections::HashMap;
-
-/// The fault of bytes of which there are too many, or that have too many lines.
-pub fn too_long(bytes: &[u8]) -> Option<ScriptFault>
-    ensures { result ≡ too_long bytes.now }
-{
-    if bytes.len() > MOST_BYTES as usize {
-        return Some(ScriptFault::TooLong { bound: MOST_BYTES });
-    }
-    if count_lines(bytes) > MOST_LINES as usize {
-        return Some(ScriptFault::TooLong { bound: MOST_LINES });
-    }
-    None
-}
 
 /// Whether the lines have too many operations, with those at the start.
 fn has_too_many(plan: &Plan, lines: &[Line]) -> bool

@@ -5,27 +5,26 @@ ghost use Rattle.pw_base.specs.Outside.{GrewByPart, KeepsSink, Rose};
 ghost use Rattle.pw_text.specs.Lines.{text_of};
 ghost use Rattle.pw_text.specs.Puts.{PutsText};
 ghost use Rattle.pw_text.specs.declared.fault.PrintFault.TheVariants as faults;
+ghost use Rattle.pw_text.specs.HistoryText.{fault_words};
 ghost use Rattle.pw_plan.specs.Requests.{cpu_of, opening_bound};
 ghost use Rattle.pw_model.specs.States.{IsState, opening as opening_state};
 ghost use Rattle.pw_model.specs.Answers.{answer};
 ghost use Rattle.pw_model.specs.History.{StatesRequest, after_entry, replies, request_of};
 ghost use Rattle.pw_model.specs.Operations.{opening_ops};
-ghost use Rattle.pw_script.specs.HistoryText.{entry_lines, fault_words, history_text, lines_from, op_line};
+ghost use Rattle.pw_script.specs.HistoryText.{entry_lines, history_text, lines_from, op_line};
 ghost use Rattle.pw_script.specs.HistoryText.{opening_lines, reply_words, request_line};
 ghost use Rattle.pw_script.specs.inner.Behind.{head_text};
 ghost use Rattle.pw_script.specs.inner.Known.{AreKnown};
 
 use crate::known::{first_known, step};
 use crate::named::NamedPlan;
-use crate::openings::{first_of, put_opened};
-use crate::operations::put_ops;
-use crate::words::{put_asker, put_fault, put_reply, put_request};
+use crate::words::{put_reply, put_request};
 use acpi_values::Op;
 use pw_base::{Failed, Memory, Sink};
 use pw_core::{Ops, State, open_all};
 use pw_model::{HistoryEntry, Reply};
 use pw_plan::{MOST_OF_A_REQUEST, Plan, Request};
-use pw_text::{Page, PrintFault};
+use pw_text::{Page, PrintFault, first_of, put_asker, put_fault, put_opened, put_ops};
 use std::alloc::Global;
 
 /// Puts the lines of operations that were done, in order.

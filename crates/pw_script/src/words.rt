@@ -1,45 +1,14 @@
 ghost use Rattle.std.specs.Prelude.{◌≡◌, ◌∷◌, ◌++◌, codes, decimal, is_ok, take};
 ghost use Rattle.std.specs.List.{flat_map};
 ghost use Rattle.pw_text.specs.Puts.{PutsText};
-ghost use Rattle.pw_script.specs.HistoryText.{fault_words, reply_words, request_words, tolerance_words};
-ghost use Rattle.pw_script.specs.Behind.{behind};
+ghost use Rattle.pw_text.specs.Behind.{behind};
+ghost use Rattle.pw_script.specs.HistoryText.{reply_words, request_words, tolerance_words};
 
-use crate::digits::put_decimal;
 use acpi_values::Chain;
 use pw_base::{Failed, Sink};
 use pw_model::Reply;
 use pw_plan::{ANY_LATENCY, Request};
-use pw_text::Page;
-
-/// Puts a number behind a text.
-#[inline(always)]
-pub fn put_labelled<K: Sink>(
-    page: &mut Page,
-    sink: &mut K,
-    label: &[u8],
-    number: u32,
-) -> Result<(), Failed>
-    ensures { PutsText K.Sink sink.old sink.new page.old page.new
-        (label.now ++ decimal number) (is_ok result) }
-{
-    page.put(sink, label)?;
-    put_decimal(page, sink, u64::from(number))
-}
-
-/// Puts the number of an entry, and the path of who asked.
-pub fn put_asker<K: Sink>(
-    page: &mut Page,
-    sink: &mut K,
-    number: u64,
-    path: &[u8],
-) -> Result<(), Failed>
-    ensures { PutsText K.Sink sink.old sink.new page.old page.new
-        (decimal number ++ 32 ∷ path.now) (is_ok result) }
-{
-    put_decimal(page, sink, number)?;
-    page.put(sink, b" ")?;
-    page.put(sink, path)
-}
+use pw_text::{Page, put_labelled};
 
 /// Puts the tolerance of an idle request, unless it bears any latency.
 #[tactic(auto, unfolding(pw_model::specs::States::any_latency))]
@@ -147,12 +116,4 @@ pub(crate) fn put_reply<K: Sink>(page: &mut Page, sink: &mut K, reply: Reply) ->
         Reply::Unfit { domain, why } => put_unfit(page, sink, domain, why),
         Reply::TooSlow { latency } => put_labelled(page, sink, b" refused latency ", latency),
     }
-}
-
-/// Puts that a register failed after so many operations.
-pub fn put_fault<K: Sink>(page: &mut Page, sink: &mut K, done: u32) -> Result<(), Failed>
-    ensures { PutsText K.Sink sink.old sink.new page.old page.new
-        (behind (fault_words done)) (is_ok result) }
-{
-    put_labelled(page, sink, b" register fault after ", done)
 }

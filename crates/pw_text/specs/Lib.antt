@@ -1,3 +1,12 @@
 pub mod Lines
 pub mod Puts
 pub mod Text
+pub mod Fields
+pub mod Forms
+pub mod Looking
+pub mod Behind
+pub mod Paths
+pub mod Openings
+pub mod HistoryText
+pub mod Scripts
+pub mod inner

@@ -10,9 +10,10 @@ use Rattle.pw_model.specs.Answers.{answer}
 use Rattle.pw_model.specs.History.{FaultFits, IsEntry, entry_of, entry_ops, request_of}
 use Rattle.pw_model.specs.Operations.{opening_ops, ops_of}
 use Rattle.pw_text.specs.Lines.{text_of, with_feed}
-use Rattle.pw_script.specs.HistoryText.{fault_words, op_line, reply_words}
+use Rattle.pw_text.specs.HistoryText.{fault_words}
+use Rattle.pw_text.specs.Openings.{opened, opening_line}
+use Rattle.pw_script.specs.HistoryText.{op_line, reply_words}
 use Rattle.pw_script.specs.Lawful.{Begins}
-use Rattle.pw_script.specs.inner.Openings.{opened, opening_line}
 use Rattle.pw_script.specs.Wholes.{entry_line, pieces_of}
 use Rattle.pw_audit.specs.declared.answer.Audit.{Audit}
 use Rattle.pw_audit.specs.declared.answer.AuditFault.{AuditFault}

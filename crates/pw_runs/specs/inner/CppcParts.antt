@@ -5,9 +5,9 @@ use Rattle.pw_base.specs.Seen.{FilesSeen, OfFiles}
 use Rattle.aml_block.specs.declared.block.Block.{Block}
 use Rattle.acpi_space.specs.Distinct.{IsDistinct}
 use Rattle.acpi_space.specs.Namespace.{entries_in, places_of}
+use Rattle.pw_text.specs.declared.script.ScriptFault.{ScriptFault}
+use Rattle.pw_text.specs.declared.script.ScriptFault.TheVariants.{Memory}
 use Rattle.pw_regs.specs.Seen.{RegistersSeen}
-use Rattle.pw_script.specs.declared.script.ScriptFault.{ScriptFault}
-use Rattle.pw_script.specs.declared.script.ScriptFault.TheVariants.{Memory}
 use Rattle.pw_load.specs.Seen.{Outputs}
 use Rattle.pw_load.specs.Ends.{Work}
 use Rattle.pw_runs.specs.Scripts.{script_line}

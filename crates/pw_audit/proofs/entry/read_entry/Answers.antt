@@ -1,12 +1,13 @@
 use Rattle.std.proofs.Common.{◌≡◌, ◌≤◌, ◌∙◌, ◌+◌, List, length, ap, sym, subst, inl, inr, refl, arith}
 use Rattle.std.proofs.lemmas.Result.{err_from_is_err_and}
 use Rattle.acpi_values.specs.declared.operation.Op.{Op}
+use Rattle.pw_text.specs.Behind.{behind}
 use Rattle.pw_plan.specs.declared.plan.Plan.{Plan}
 use Rattle.pw_model.specs.declared.entry.HistoryEntry.{HistoryEntry}
 use Rattle.pw_model.specs.States.{IsState}
 use Rattle.pw_model.specs.Operations.{ops_of}
 use Rattle.pw_script.specs.Wholes.{entry_line}
-use Rattle.pw_script.specs.inner.Behind.{behind, head_text}
+use Rattle.pw_script.specs.inner.Behind.{head_text}
 use Rattle.pw_audit.specs.inner.Queues.{AreWithin}
 use Rattle.pw_audit.specs.inner.Stopping.{entry_with, outcome_at}
 use Rattle.pw_audit.specs.inner.Walking.{Steps}

@@ -1,9 +1,9 @@
 use Rattle.std.proofs.Common.{◌≡◌, ◌∙◌, List, length, map, ap, subst, inr, arith}
 use Rattle.std.proofs.lemmas.Result.{err_from_is_err_and}
 use Rattle.acpi_values.specs.declared.operation.Op.{Op}
+use Rattle.pw_text.specs.Openings.{opened}
 use Rattle.pw_model.specs.Operations.{opening_ops}
 use Rattle.pw_script.specs.HistoryText.{op_line}
-use Rattle.pw_script.specs.inner.Openings.{opened}
 use Rattle.pw_audit.specs.inner.Stopping.{StopsIn, WithinOpening}
 use Rattle.pw_audit.proofs.Firsts.{opened_few}
 use Rattle.pw_audit.proofs.Refusing.{opening_out, opening_read}

@@ -1,5 +1,5 @@
 use Rattle.std.proofs.Common.{◌≡◌, ◌∙◌}
-use Rattle.pw_script.proofs.Leading.{name_within}
+use Rattle.pw_text.proofs.Leading.{name_within}
 use Rattle.pw_cppc_drive.specs.Forms.{cpu_named, segs_of}
 use Rattle.pw_cppc_drive.proofs.index.find.Goals as goal
 

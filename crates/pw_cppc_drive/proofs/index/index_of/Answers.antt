@@ -1,5 +1,5 @@
 use Rattle.std.proofs.Common.{arith}
-use Rattle.pw_script.proofs.Leading.{leads_on}
+use Rattle.pw_text.proofs.Leading.{leads_on}
 use Rattle.pw_cppc_drive.specs.Forms.{segs_of}
 use Rattle.pw_cppc_drive.proofs.index.index_of.Goals as goal
 

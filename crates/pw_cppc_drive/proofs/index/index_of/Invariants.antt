@@ -1,5 +1,5 @@
 use Rattle.std.proofs.Common.{◌≤◌, drop, length}
-use Rattle.pw_script.specs.Looking.{LeadsTo}
+use Rattle.pw_text.specs.Looking.{LeadsTo}
 use Rattle.pw_cppc_drive.specs.Forms.{segs_of}
 use Rattle.pw_cppc_drive.proofs.index.index_of.Given as goal
 

@@ -1,7 +1,7 @@
 use Rattle.std.proofs.Common.{◌≡◌, ◌∙◌, suc, Ok, Some, sym, ap, length, arith, add-one}
 use Rattle.std.proofs.lemmas.Grind.{common_steps}
+use Rattle.pw_text.proofs.Refusing.{bad_past}
 use Rattle.pw_cppc.specs.Requests.{Has}
-use Rattle.pw_script.proofs.Making.{bad_past}
 use Rattle.pw_cppc_drive.specs.Forms.{request_in}
 use Rattle.pw_cppc_drive.proofs.Making.{all_have, read_on}
 use Rattle.pw_cppc_drive.proofs.parsing.read_into.Goals as goal

@@ -1,8 +1,8 @@
 use Rattle.std.proofs.Common.{◌≡◌, ◌≤◌, ◌+◌, ◌++◌, suc, length}
 use Rattle.std.specs.List.{AllByRecursion}
+use Rattle.pw_text.specs.Fields.{lines_of}
+use Rattle.pw_text.specs.Scripts.{first_bad_by}
 use Rattle.pw_cppc.specs.Requests.{Has}
-use Rattle.pw_script.specs.Lines.{lines_of}
-use Rattle.pw_script.specs.Reading.{first_bad_by}
 use Rattle.pw_cppc_drive.specs.declared.script.CppcLine.{CppcLine}
 use Rattle.pw_cppc_drive.specs.Forms.{request_in}
 use Rattle.pw_cppc_drive.specs.Reading.{lines_from, lines_in}

@@ -1,7 +1,7 @@
 use Rattle.std.proofs.Common.{◌∷◌, ◌++◌, append_assoc, codes, decimal}
 use Rattle.pw_text.proofs.Putting.{PutsText-as, PutsText-stop, PutsText-then}
+use Rattle.pw_text.specs.Behind.{behind}
 use Rattle.pw_cppc.specs.Requests.{cpu_of}
-use Rattle.pw_script.specs.Behind.{behind}
 use Rattle.pw_cppc_drive.specs.HistoryText.{path_of, request_words}
 use Rattle.pw_cppc_drive.proofs.printing.put_head.Goals as goal
 

@@ -1,5 +1,5 @@
 use Rattle.std.proofs.Common.{[]}
-use Rattle.pw_script.specs.Lines.{lines_of}
+use Rattle.pw_text.specs.Fields.{lines_of}
 use Rattle.pw_script.proofs.Askable.{lines_asked}
 use Rattle.pw_script.proofs.parsing.parse.Goals as goal
 

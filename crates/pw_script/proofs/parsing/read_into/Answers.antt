@@ -1,13 +1,14 @@
 use Rattle.std.proofs.Common.{◌≡◌, ◌∙◌, suc, [], Ok, None, Some, sym, ap, length, arith, refl, add-one}
 use Rattle.std.proofs.lemmas.List.{append-nil}
 use Rattle.std.proofs.lemmas.Grind.{common_steps}
+use Rattle.pw_text.specs.Fields.{lines_of}
+use Rattle.pw_text.proofs.Refusing.{bad_past, no_texts}
 use Rattle.pw_model.specs.States.{opening}
-use Rattle.pw_script.specs.Lines.{lines_of}
 use Rattle.pw_script.specs.Forms.{wish_in}
 use Rattle.pw_script.specs.Reading.{LawfullyChosen, AreLines, requests_of}
 use Rattle.pw_notice.specs.Limits.{AnsweredBy}
 use Rattle.pw_script.proofs.Limiting.{limits_on}
-use Rattle.pw_script.proofs.Making.{reads_on, past_on, bad_past, no_texts}
+use Rattle.pw_script.proofs.Making.{reads_on, past_on}
 use Rattle.pw_script.proofs.parsing.read_into.Goals as goal
 
 pub loop-left-preserved : goal.loop-left-preserved

@@ -1,8 +1,8 @@
 use Rattle.std.proofs.Common.{◌≡◌, ◌+◌, ◌++◌, suc, List, [], length}
+use Rattle.pw_text.specs.Fields.{lines_of}
 use Rattle.pw_notice.specs.Limits.{AnsweredBy, made_from}
 use Rattle.pw_model.specs.States.{IsState, opening}
 use Rattle.pw_script.specs.declared.script.Line.{Line as line}
-use Rattle.pw_script.specs.Lines.{lines_of}
 use Rattle.pw_script.specs.Reading.{LawfullyChosen, AreLines, first_bad, requests_of}
 use Rattle.pw_script.specs.inner.Limiting.{SameLimits}
 use Rattle.pw_script.proofs.parsing.read_into.Given as goal

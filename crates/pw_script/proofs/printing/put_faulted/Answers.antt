@@ -1,5 +1,5 @@
 use Rattle.pw_text.proofs.Putting.{PutsText-as, PutsText-stop, PutsText-then}
-use Rattle.pw_script.specs.HistoryText.{fault_words}
+use Rattle.pw_text.specs.HistoryText.{fault_words}
 use Rattle.pw_script.proofs.Printed.{entry_text}
 use Rattle.pw_script.proofs.printing.put_faulted.Goals as goal
 

@@ -1,6 +1,6 @@
 use Rattle.std.proofs.Common.{codes, decimal, ◌∷◌, map, take}
 use Rattle.pw_text.proofs.Putting.{PutsText-as}
-use Rattle.pw_script.specs.Behind.{behind}
+use Rattle.pw_text.specs.Behind.{behind}
 use Rattle.pw_script.proofs.Spacing.{behind_chain}
 use Rattle.pw_script.proofs.words.put_reply.Goals as goal
 

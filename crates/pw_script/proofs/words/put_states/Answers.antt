@@ -1,7 +1,7 @@
 use Rattle.std.proofs.Common.{◌∷◌, ◌+◌, ◌<◌, ℕ, decimal, drop, length, take, arith}
 use Rattle.std.specs.List.{flat_map}
 use Rattle.pw_text.proofs.Putting.{PutsText-as, PutsText-stop, PutsText-then}
-use Rattle.pw_script.proofs.Spacing.{in_parts, one_more}
+use Rattle.pw_text.proofs.Spacing.{in_parts, one_more}
 use Rattle.pw_script.proofs.words.put_states.Goals as goal
 
 pub returns-in_err-put_labelled : goal.returns-in_err-put_labelled

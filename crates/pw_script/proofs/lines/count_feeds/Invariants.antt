@@ -1,9 +1,0 @@
-use Rattle.std.proofs.Common.{◌≡◌, ◌==◌, ◌+◌, length}
-use Rattle.std.specs.List.{count_by}
-use Rattle.pw_script.proofs.lines.count_feeds.Given as goal
-
-abbrev pub invariant-loop-left : goal.invariant-loop-left
-invariant-loop-left l = l.feeds + count_by (λ b. b == 10) l.left ≡ count_by (λ b. b == 10) l.bytes
-
-abbrev pub decreases-loop-left : goal.decreases-loop-left
-decreases-loop-left l = length l.left

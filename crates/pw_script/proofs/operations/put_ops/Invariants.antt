@@ -1,9 +1,0 @@
-use Rattle.std.proofs.Common.{true, ◌∷◌, ◌++◌, [], take}
-use Rattle.std.specs.List.{flat_map}
-use Rattle.pw_text.specs.Puts.{PutsText}
-use Rattle.pw_script.specs.HistoryText.{op_line_by}
-use Rattle.pw_script.specs.Paths.{text_at}
-use Rattle.pw_script.proofs.operations.put_ops.Given as goal
-
-abbrev pub invariant-loop-op : goal.invariant-loop-op
-invariant-loop-op g l = PutsText g.K.Sink l.initial.sink l.sink l.initial.page l.page (flat_map (λ o. op_line_by (text_at l.paths) o ++ (10 ∷ [])) (take l.op-index l.ops)) true

@@ -1,0 +1,4 @@
+pub mod Cuts
+pub mod Feeds
+pub mod Front
+pub mod Names
