@@ -1,14 +1,11 @@
-ghost use Rattle.std.specs.Prelude.{◌≡◌, ◌<◌, ◌∷◌, ◌++◌, length, map, IfOk, IfSome, OnOk};
-ghost use Rattle.std.specs.List.{flat_map};
-ghost use Rattle.pw_text.specs.Text.{place_text, segments_text};
+ghost use Rattle.std.specs.Prelude.{◌≡◌, ◌<◌, length, IfOk, IfSome};
 ghost use Rattle.pw_script.specs.HistoryText.{path_of};
 ghost use Rattle.pw_script.specs.inner.Paths.{paths_of};
 ghost use Rattle.pw_audit.specs.inner.Looking.{LeadsTo, cpu_by};
 
-use crate::words::push;
-use aml_data::Seg;
-use pw_base::{List, Memory};
+use pw_base::Memory;
 use pw_plan::Plan;
+use pw_text::PathTexts;
 use std::alloc::Global;
 use std::collections::HashMap;
 use std::marker::Model;
@@ -17,7 +14,7 @@ use std::marker::Model;
 #[derive(Drop)]
 pub(crate) struct Names<'a> {
     plan: &'a Plan,
-    paths: List<List<u8>>,
+    paths: PathTexts,
 }
 
 impl<'a> Model for Names<'a> {
@@ -51,76 +48,34 @@ impl<'a> Names<'a> {
     }
 
     /// The text of a processor's path.
-    #[tactic(auto, unfolding(pw_plan::specs::Parts::no_cpu))]
+    #[tactic(auto, using(pw_script::proofs::Pathed::path_text))]
     pub(crate) fn path(&self, cpu: u32) -> &[u8]
         ensures { result.now ≡ path_of self.now cpu }
     {
-        match self.paths.as_slice().get(cpu as usize) {
-            None => b"\\",
-            Some(text) => text.as_slice(),
-        }
+        self.paths.path(cpu)
     }
 }
 
 /// The texts of the processors' paths, by their numbers.
-fn path_texts(alloc: Global, plan: &Plan) -> Result<List<List<u8>>, Memory>
+fn path_texts(alloc: Global, plan: &Plan) -> Result<PathTexts, Memory>
     ensures { IfOk result (λ paths. paths ≡ paths_of plan.now) }
 {
-    let mut paths = Vec::new(alloc);
+    let mut paths = PathTexts::new(alloc);
     for cpu in plan.cpus.as_slice() {
-        paths.push(place_bytes(alloc, cpu.path.segs.as_slice())?)?;
+        paths.push(alloc, cpu.path.segs.as_slice())?;
     }
-    Ok(List::from_vec(paths))
-}
-
-/// The text of the place of these segments, counted from the root.
-fn place_bytes(alloc: Global, segs: &[Seg]) -> Result<List<u8>, Memory>
-    ensures { IfOk result (λ text. text ≡ place_text segs.now) }
-{
-    let mut text = Vec::new(alloc);
-    push(&mut text, b"\\")?;
-    push_segments(&mut text, segs)?;
-    Ok(List::from_vec(text))
-}
-
-fn push_segments(text: &mut Vec<u8>, segs: &[Seg]) -> Result<(), Memory>
-    ensures { OnOk result (text.new.items ≡ text.old.items ++ segments_text segs.now) }
-{
-    match segs.split_first() {
-        None => Ok(()),
-        Some((first, rest)) => {
-            push(text, &first.bytes())?;
-            push_behind_dots(text, rest)
-        }
-    }
-}
-
-fn push_behind_dots(text: &mut Vec<u8>, segs: &[Seg]) -> Result<(), Memory>
-    ensures { OnOk result (text.new.items ≡ text.old.items ++ flat_map (λ seg. 46 ∷ seg) segs.now) }
-{
-    for seg in segs {
-        push_behind_dot(text, *seg)?;
-    }
-    Ok(())
-}
-
-fn push_behind_dot(text: &mut Vec<u8>, seg: Seg) -> Result<(), Memory>
-    ensures { OnOk result (text.new.items ≡ text.old.items ++ 46 ∷ seg) }
-{
-    let [a, b, c, d] = seg.bytes();
-    push(text, &[b'.', a, b, c, d])
+    Ok(paths)
 }
 
 /// A map from the texts of the paths to the processors.
 pub(crate) fn index_of(alloc: Global, names: &Names) -> Result<HashMap<Vec<u8>, u32>, Memory>
     ensures { IfOk result (λ index. LeadsTo 0 (paths_of names.now) index) }
 {
-    let paths = names.paths.as_slice();
     let mut index = HashMap::new(alloc);
-    let mut number = paths.len();
+    let mut number = names.plan.cpus.as_slice().len();
     while number > 0 {
         number -= 1;
-        let key = Vec::from_slice(alloc, paths[number].as_slice())?;
+        let key = Vec::from_slice(alloc, names.path(number as u32))?;
         index.insert(key, number as u32)?;
     }
     Ok(index)
