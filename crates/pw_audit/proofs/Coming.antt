@@ -4,9 +4,11 @@ use Rattle.std.specs.List.{AllByRecursion}
 use Rattle.std.proofs.lemmas.List.{length-append, map-append}
 use Rattle.pw_plan.specs.declared.plan.Plan.{Plan}
 use Rattle.pw_plan.specs.declared.request.Request.{Request}
+use Rattle.pw_kind.specs.History as histories
+use Rattle.pw_kind.proofs.Joining.{last_before}
 use Rattle.pw_model.specs.declared.entry.HistoryEntry.{HistoryEntry}
 use Rattle.pw_model.specs.States.{opening}
-use Rattle.pw_model.specs.History.{FaultIsLast, Faultless, IsEntry, entry_ops, replay}
+use Rattle.pw_model.specs.History.{Faultless, IsEntry, entry_ops, power, replay}
 use Rattle.pw_model.proofs.Joining.{legal-first}
 use Rattle.pw_notice.specs.Limits.{own, requests}
 use Rattle.pw_script.specs.Asking.{CanBeAsked}
@@ -30,11 +32,6 @@ use Rattle.pw_audit.proofs.Told.{NotFirst, behind_opened, entry_no_op, follows, 
 nothing : {x : List ℕ} {xs : List (List ℕ)} → x ∷ xs ≡ [] → ⊥
 nothing e = cc
 
-last_alone : (es : List HistoryEntry) (e : HistoryEntry) → FaultIsLast (es ++ e ∷ []) → Faultless es
-last_alone [] e last = tt
-last_alone (f ∷ []) e last = (last.0, tt)
-last_alone (f ∷ g ∷ es) e last = (last.0, last_alone (g ∷ es) e last.1)
-
 module _ (form : Form) (P : Plan) (tell : HasSegments P) (L : List Request) (are : CanBeAsked P L) where
   module _ (H : List HistoryEntry) (start : IsStart P L H) (first told : List (List ℕ)) (opens : Opens form P None first) (tells : Tells form P (opening P) 1 H told) where
     -- a history of the script that goes on with these lines
@@ -49,7 +46,7 @@ module _ (form : Form) (P : Plan) (tell : HasSegments P) (L : List Request) (are
 
     pub after : (Z : List (List ℕ)) → (form ≡ Trace → first ≡ codes "open" ∷ [] → NotFirst P tell (told ++ Z)) → (o : Option ℕ) (es : List HistoryEntry) (other Y : List (List ℕ))
         → Lawful P L o es → Opens form P o other → Tells form P (opening P) 1 es Y → other ++ Y ≡ (first ++ told) ++ Z → After Z
-    unfolding replay
+    unfolding histories.replay
     after Z free o es other Y lawful opens_o tells_o same =
         let whole : other ++ Y ≡ first ++ (told ++ Z) = same ∙ append_assoc first told Z in
         let none : None ≡ o = same_opening P tell form None o first other opens opens_o tt (lawful-opening P L o es lawful) (told ++ Z) Y whole in
@@ -95,7 +92,7 @@ module _ (form : Form) (P : Plan) (tell : HasSegments P) (L : List Request) (are
             }
 
     pub only_faultless : (l : List ℕ) → NextEntry l → Faultless H
-    only_faultless l next = last_alone H next.entry next.starts.legal.well_formed.fault
+    only_faultless l next = last_before power H [] next.entry next.starts.legal.well_formed.fault
 
     -- # The end
 

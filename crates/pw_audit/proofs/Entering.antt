@@ -4,6 +4,7 @@ use Rattle.std.proofs.lemmas.Bool.{cases_lt}
 use Rattle.std.proofs.lemmas.List.{append_cancel_left, get_or_past, length-append}
 use Rattle.pw_plan.specs.declared.plan.Plan.{Plan}
 use Rattle.pw_plan.specs.declared.request.Request.{Request}
+use Rattle.pw_kind.specs.History as histories
 use Rattle.pw_model.specs.declared.entry.HistoryEntry.{HistoryEntry}
 use Rattle.pw_model.specs.States.{opening}
 use Rattle.pw_model.specs.History.{Faultless, entry_ops, replay}
@@ -54,7 +55,7 @@ module _ (form : Form) (P : Plan) (tell : HasSegments P) (L : List Request) (are
 
       tells_more : (ops : List (List ℕ)) → TellsOps form P (entry_ops P (replay P H) e) ops
           → Tells form P (opening P) 1 (H ++ e ∷ []) (told ++ entry_line P (replay P H) (1 + length H) e ∷ ops)
-      unfolding replay
+      unfolding histories.replay
       tells_more ops is =
           tells_append form P H (e ∷ []) (opening P) 1 told (entry_line P (replay P H) (1 + length H) e ∷ ops) tells (tells_one form P e (replay P H) (1 + length H) ops is)
 

@@ -6,6 +6,7 @@ use Rattle.std.proofs.lemmas.List.{length-append}
 use Rattle.pw_plan.specs.declared.plan.Plan.{Plan}
 use Rattle.pw_plan.specs.declared.request.Request.{Request}
 use Rattle.pw_plan.proofs.Lists.{each_append}
+use Rattle.pw_kind.specs.History as histories
 use Rattle.pw_model.specs.declared.entry.HistoryEntry.{HistoryEntry}
 use Rattle.pw_model.specs.declared.state.State.{State}
 use Rattle.pw_model.specs.States.{IsState, opening}
@@ -32,7 +33,7 @@ use Rattle.pw_audit.proofs.Told.{ops_length, tells_append, tells_one}
 
 pub walked_init : (form : Form) (P : Plan) (L : List Request) (text : List ℕ) (S : State) (queues : List (List Request)) (passed : ℕ) (left : List ℕ) → S ≡ opening P → IsState P S
     → Leaves P L [] queues → OpeningRead form P None text passed left → Walked form P L text [] S queues passed left
-unfolding replay
+unfolding histories.replay
 walked_init form P L text S queues passed left state fits leaves read = record {
   start = start_none P L;
   faultless = tt;
@@ -101,7 +102,7 @@ module _ {form : Form} {P : Plan} {L : List Request} {text : List ℕ} {H : List
       step_told = w.told ++ entry_line P (replay P H) (1 + length H) e ∷ read.ops
 
       step_tells : Tells form P (opening P) 1 (H ++ e ∷ []) step_told
-      unfolding replay step_told
+      unfolding histories.replay step_told
       step_tells =
           tells_append form P H (e ∷ []) (opening P) 1 w.told (entry_line P (replay P H) (1 + length H) e ∷ read.ops) w.tells (tells_one form P e (replay P H) (1 + length H) read.ops read.tells)
 

@@ -7,6 +7,7 @@ use Rattle.std.proofs.lemmas.List.Sums.{sum_by-cons}
 use Rattle.pw_plan.specs.declared.plan.Plan.{Plan}
 use Rattle.pw_plan.specs.declared.request.Request.{Request}
 use Rattle.pw_plan.specs.Requests.{cpu_of, ops_bound}
+use Rattle.pw_kind.specs.History as histories
 use Rattle.pw_model.specs.declared.entry.HistoryEntry.{HistoryEntry}
 use Rattle.pw_model.specs.declared.state.State.{State}
 use Rattle.pw_model.specs.States.{opening}
@@ -41,7 +42,7 @@ module _ (P : Plan) (lines : List line) (es : List HistoryEntry) (run : IsRunOf 
 
   -- as many as may come of the lines
   pub ops_few : length (opening_ops P ++ history_ops P es) ≤ operations P lines
-  unfolding history_ops
+  unfolding histories.history_ops
   ops_few =
       let both = length-append (opening_ops P) (ops_from P (opening P) es) in
       let start = opening_ops-length P in

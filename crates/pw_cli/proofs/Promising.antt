@@ -21,7 +21,8 @@ use Rattle.pw_model.proofs.Gathering.{behind_own, entered_greatest, entered_may,
 use Rattle.pw_model.proofs.Greatest.{greatest-le}
 use Rattle.pw_model.proofs.AnyMember.{any_is_set}
 use Rattle.pw_model.proofs.Setting.{member_is_set}
-use Rattle.pw_model.proofs.Joining.{each_first, each_last, fault_none, legal-first, replay-append}
+use Rattle.pw_kind.proofs.Joining.{each_first, each_last}
+use Rattle.pw_model.proofs.Joining.{fault_none, legal-first, replay-append}
 use Rattle.pw_model.proofs.Operating.{all_start}
 use Rattle.pw_model.proofs.Staying.{replay_fits, request_has}
 use Rattle.pw_notice.specs.Limits.{requests}

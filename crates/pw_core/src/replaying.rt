@@ -23,7 +23,7 @@ pub fn replay_on(plan: &Plan, state: &mut State, entries: &[HistoryEntry])
 }
 
 /// The state that a history leaves.
-#[tactic(auto, unfolding(pw_model::specs::History::replay))]
+#[tactic(auto, unfolding(pw_kind::specs::History::replay))]
 pub fn replay(alloc: Global, plan: &Plan, entries: &[HistoryEntry]) -> Result<State, Memory>
     requires { All (StatesRequest plan.now) entries.now }
     ensures replay { IfOk result (λ state. state ≡ replay plan.now entries.now) }

@@ -10,6 +10,7 @@ use Rattle.acpi_values.specs.declared.operation.Op.{Op}
 use Rattle.acpi_values.specs.declared.register.Register.{Register}
 use Rattle.pw_plan.specs.Groups.{has_member, is_software}
 use Rattle.pw_plan.proofs.Lists.{or_left}
+use Rattle.pw_kind.specs.History as histories
 use Rattle.pw_model.proofs.Maps.{map_agree}
 use Rattle.pw_model.proofs.Registers.{opening_at_members, set_at_members}
 use Rattle.pw_model.specs.Operations.{opening_at, set_at}
@@ -177,7 +178,7 @@ module _ (P : CppcPlan) (Stands : CppcNumbers → List Op → Type 0)
       (entries_stand es (after P S (request_of e)) (ops ++ ops_of P S (request_of e)) faults.1 (after_fits P S (request_of e) fits) (request_stands S (request_of e) ops fits last)))
 
   pub history_stands : (es : List CppcEntry) → Faultless es → Stands (opening P) (opening_ops P) → Stands (replay P es) (opening_ops P ++ history_ops P es)
-  unfolding replay history_ops
+  unfolding histories.replay histories.history_ops
   history_stands es faults last = entries_stand es (opening P) (opening_ops P) faults (opening_fits P) last
 
 -- # A minimum or a maximum

@@ -3,6 +3,7 @@ use Rattle.std.proofs.Common.{◌≡◌, ◌<◌, ◌≤◌, ◌==◌, ℕ, suc,
 use Rattle.std.specs.Prelude.{◌⊎◌, nat_lt, slice_index_or, slice_set}
 use Rattle.std.proofs.lemmas.Bool.Decides.{nat_tests}
 use Rattle.pw_plan.specs.Groups.{has_member}
+use Rattle.pw_kind.specs.History as histories
 use Rattle.pw_cppc.specs.declared.plan.CppcPlan.{CppcPlan}
 use Rattle.pw_cppc.specs.declared.request.CppcRequest.{CppcRequest}
 use Rattle.pw_cppc.specs.declared.request.CppcRequest.TheVariants.{Desired, Minimum, Maximum}
@@ -71,7 +72,7 @@ module _ (P : CppcPlan) (Holds : CppcNumbers → Type 0) (keeps : (S : CppcNumbe
   from_keeps S (e ∷ es) h = from_keeps (after_entry P S e) es (entry_keeps S e h)
 
   pub replay_keeps : (es : List CppcEntry) → Holds (opening P) → Holds (replay P es)
-  unfolding replay
+  unfolding histories.replay
   replay_keeps es h = from_keeps (opening P) es h
 
 pub after_fits : (P : CppcPlan) (S : CppcNumbers) (q : CppcRequest) → AreNumbers P S → AreNumbers P (after P S q)

@@ -28,12 +28,12 @@ some_is k = grind (arith, nat_tests)
 
 module _ (P : CppcPlan) (es : List CppcEntry) (seat : ℕ) (q : CppcRequest) (none : Faultless es) (has : Has P q) where
   pub follows_done : MayFollow P es (entry_as seat q 0)
-  follows_done = record { faultless = none; states = entry_states P seat 0 q has; fits = inl refl }
+  follows_done = record { faultless = none; entry = entry_states P seat 0 q has; fits = inl refl }
 
   pub follows_stopped : (k : ℕ) → k < length (ops_of P (replay P es) q) → MayFollow P es (entry_as seat q (k + 1))
   follows_stopped k lt =
       let within : k + 1 ≤ length (ops_of P (replay P es) (request_of (entry_as seat q (k + 1)))) = rw (request_of-entry seat (k + 1) q) (omega (arith, lt)) in
-      record { faultless = none; states = entry_states P seat (k + 1) q has; fits = inr within }
+      record { faultless = none; entry = entry_states P seat (k + 1) q has; fits = inr within }
 
   pub legal_done : Legal P es → Legal P (es ++ entry_as seat q 0 ∷ [])
   legal_done legal = legal-more P es (entry_as seat q 0) legal follows_done

@@ -8,6 +8,7 @@ use Rattle.pw_regs.specs.declared.registers.Registers.{Ghosts as Registers}
 use Rattle.pw_regs.specs.Seen.{registers_seen}
 use Rattle.pw_regs.specs.Doing.{Did}
 use Rattle.pw_regs.proofs.Operating.{did_as, did_more}
+use Rattle.pw_kind.specs.History as histories
 use Rattle.pw_cppc.specs.declared.plan.CppcPlan.{CppcPlan}
 use Rattle.pw_cppc.specs.declared.request.CppcRequest.{CppcRequest}
 use Rattle.pw_cppc.specs.Requests.{opening_bound, ops_bound}
@@ -21,7 +22,7 @@ use Rattle.pw_cppc_desk.proofs.Entering.{fault_of_stopped, faultless_done, ops_d
 use Rattle.pw_cppc_desk.specs.Slots.{Given, IsHeld, bound_of}
 
 pub no_ops : (P : CppcPlan) → history_ops P [] ≡ []
-unfolding history_ops
+unfolding histories.history_ops
 no_ops P = refl
 
 module _ {R : Type 0} (by : Registers R) (given : Given) where

@@ -1,5 +1,6 @@
 -- The work of a plan, as it opens and behind each request.
 use Rattle.std.proofs.Common.{◌≡◌, ◌≤◌, ◌<◌, ◌+◌, ◌++◌, ◌∷◌, ◌∙◌, ℕ, [], length, length-append, ap, sym, arith}
+use Rattle.pw_kind.specs.History as histories
 use Rattle.pw_cppc.specs.declared.plan.CppcPlan.{CppcPlan}
 use Rattle.pw_cppc.specs.declared.request.CppcRequest.{CppcRequest}
 use Rattle.pw_cppc.specs.Requests.{Has, opening_bound, ops_bound}
@@ -16,7 +17,7 @@ use Rattle.pw_cppc_desk.specs.Ledgered.{IsLedgerOf, Ledgered}
 use Rattle.pw_cppc_desk.proofs.Entering.{legal_done, legal_stopped, replay_done, replay_stopped}
 
 pub opening_replayed : (P : CppcPlan) (S : CppcNumbers) → S ≡ opening P → S ≡ replay P []
-unfolding replay
+unfolding histories.replay
 opening_replayed P S is = is
 
 module _ {R : Type 0} (P : CppcPlan) where

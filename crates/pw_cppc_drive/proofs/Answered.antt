@@ -1,6 +1,7 @@
 -- The replies of a history, and what its requests are answered.
 use Rattle.std.proofs.Common.{◌≡◌, ◌<◌, ◌≤◌, ◌+◌, ◌==◌, ◌++◌, ◌∷◌, ◌∙◌, ℕ, suc, zero, Bool, true, false, cond, List, [], length, drop, get_or, refl, ap, sym, arith, append-nil, append_assoc}
 use Rattle.std.proofs.lemmas.Bool.Decides.{nat_tests}
+use Rattle.pw_kind.specs.History as histories
 use Rattle.pw_cppc.specs.declared.plan.CppcPlan.{CppcPlan}
 use Rattle.pw_cppc.specs.declared.request.CppcRequest.{CppcRequest}
 use Rattle.pw_cppc.specs.declared.entry.CppcEntry.{CppcEntry}
@@ -16,7 +17,7 @@ use Rattle.pw_cppc_drive.specs.inner.Known.{answers_from}
 -- # One more entry
 
 pub replies_none : (P : CppcPlan) → replies P [] ≡ []
-unfolding replies
+unfolding histories.replies
 replies_none P = refl
 
 pub replied_done : (P : CppcPlan) (es fs : List CppcEntry) (q : CppcRequest) (reply : CppcReply) → fs ≡ es ++ entry_as 0 q 0 ∷ [] → reply ≡ answer P (replay P es) q
@@ -55,7 +56,7 @@ all_replied P S (e ∷ es) same = step (e.fault == 0) same (all_replied P (after
 
 -- as many replies as entries are all answers
 pub are_answers : (P : CppcPlan) (es : List CppcEntry) (known : List CppcReply) → known ≡ replies P es → length known ≡ length es → known ≡ answers_from P (opening P) es
-unfolding replies
+unfolding histories.replies
 are_answers P es known is same = is ∙ all_replied P (opening P) es (sym (ap length is) ∙ same)
 
 -- # One after the other

@@ -6,6 +6,7 @@ use Rattle.pw_plan.specs.declared.request.Request.{Request}
 use Rattle.pw_plan.specs.declared.request.Request.TheVariants.{Idle, Wake, Perf, Throttle, PerfLimit, ThrottleLimit}
 use Rattle.pw_plan.specs.Requests.{Has}
 use Rattle.pw_plan.proofs.Lists.{each_append}
+use Rattle.pw_kind.specs.History as histories
 use Rattle.pw_model.specs.declared.entry.HistoryEntry.{HistoryEntry}
 use Rattle.pw_model.specs.declared.state.State.{State}
 use Rattle.pw_model.specs.Answers.{after, answer}
@@ -85,5 +86,5 @@ pub replies_stopped : (P : Plan) (es : List HistoryEntry) (q : Request) (k : ℕ
 replies_stopped P es q k = replies-append P es (fault_entry 0 q k ∷ []) ∙ rw (some_is k) (append-nil (replies P es))
 
 pub replies_none : (P : Plan) → replies P [] ≡ []
-unfolding replies
+unfolding histories.replies
 replies_none P = refl

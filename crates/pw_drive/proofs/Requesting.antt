@@ -6,6 +6,7 @@ use Rattle.acpi_values.specs.declared.operation.Op.{Op}
 use Rattle.pw_plan.specs.declared.plan.Plan.{Plan}
 use Rattle.pw_plan.specs.declared.request.Request.{Request}
 use Rattle.pw_plan.specs.Requests.{Has, opening_bound, ops_bound}
+use Rattle.pw_kind.specs.History as histories
 use Rattle.pw_model.specs.declared.entry.HistoryEntry.{HistoryEntry}
 use Rattle.pw_model.specs.declared.reply.Reply.{Reply}
 use Rattle.pw_model.specs.Answers.{after, answer}
@@ -114,5 +115,5 @@ opening_few P ops is = ap length is ∙ opening_ops-length P
 
 -- the records at the start
 pub stands_first : (P : Plan) (R : Records) → AreRecordsOf P R → ((r : Record) → IsRecord P r → part_in R r ≡ opening_part P r) → Stands P [] R
-unfolding replay
+unfolding histories.replay
 stands_first P R of parts = record { legal = legal-empty P; faultless = tt; keeps = record { of = of; told = λ r is. opens_right P r ∙ sym (parts r is) } }

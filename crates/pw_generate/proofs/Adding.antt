@@ -14,6 +14,7 @@ use Rattle.pw_plan.specs.declared.request.Request.TheVariants.{Idle, Wake, Perf,
 use Rattle.pw_plan.specs.Parts.{count_of, scale_of}
 use Rattle.pw_plan.specs.Limits.{in_32_bits}
 use Rattle.pw_plan.specs.Places.{cpu_at, domain_at, domain_of, row_at}
+use Rattle.pw_kind.specs.History as histories
 use Rattle.pw_model.specs.declared.entry.HistoryEntry.{HistoryEntry}
 use Rattle.pw_model.specs.declared.reply.Reply.{Reply}
 use Rattle.pw_model.specs.declared.reply.Reply.TheVariants.{Entered, Running, Stands, NoState, Disabled, AboveLimit, NoTable, Unfit, TooSlow}
@@ -67,7 +68,7 @@ module _ (P : Plan) where
       rw f (ap suc (each_answered es (after P S (request_of e)) none.1))
 
   pub adds_up : (es : List HistoryEntry) → Faultless es → AddsUp P es
-  unfolding summary_text replies
+  unfolding summary_text histories.replies
   adds_up es none =
       let rs = replies P es in
       let entered = count_by is_entered rs in

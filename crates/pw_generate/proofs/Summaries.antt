@@ -8,6 +8,7 @@ use Rattle.pw_plan.specs.declared.plan.Plan.{Plan}
 use Rattle.pw_plan.specs.declared.request.Request.{Request}
 use Rattle.pw_plan.specs.declared.request.Request.TheVariants.{Idle}
 use Rattle.pw_plan.specs.Requests.{Has}
+use Rattle.pw_kind.specs.History as histories
 use Rattle.pw_model.specs.declared.entry.HistoryEntry.{HistoryEntry}
 use Rattle.pw_model.specs.declared.reply.Reply.{Reply}
 use Rattle.pw_model.specs.declared.state.State.{State}
@@ -81,14 +82,14 @@ module _ (P : Plan) (asked : List Request) (H G : List HistoryEntry)
   ]
 
   pub same-end : replay P H ≡ replay P G
-  unfolding replay
+  unfolding histories.replay
   same-end =
       replayed P H (opening P) h_none
       ∙ same-made P (requests H) (requests G) (opening P) same_own
       ∙ sym (replayed P G (opening P) g_none)
 
   same_count : (t : Reply → Bool) → IsOfKind t → count_by t (replies P H) ≡ count_by t (replies P G)
-  unfolding replies
+  unfolding histories.replies
   same_count t kind =
       count_total P t H (opening P) h_none
       ∙ same-total P (one_if P t) (λ S q r ne. ap (λ b. cond b 1 0) (answer-kept P t kind S q r ne))

@@ -103,7 +103,7 @@ fn hold(alloc: Global, plan: &Plan) -> Result<Held, Memory>
 /// Prints the summary of a history: how many processors and lines there are, how many requests were answered
 /// in which way, the state of each container at the end, and where each performance domain stands. Memory is
 /// taken before the sink sees a byte.
-#[tactic(auto, unfolding(pw_model::specs::History::replay, pw_model::specs::History::replies))]
+#[tactic(auto, unfolding(pw_kind::specs::History::replay, pw_kind::specs::History::replies))]
 pub fn print_summary<K: Sink>(
     alloc: Global,
     plan: &Plan,

@@ -10,6 +10,7 @@ use Rattle.pw_plan.specs.declared.request.Request.{Request}
 use Rattle.pw_plan.specs.declared.request.Request.TheVariants.{Idle, Wake, Perf, Throttle, PerfLimit, ThrottleLimit}
 use Rattle.pw_plan.specs.Places.{container_at, cpu_at, group_of}
 use Rattle.pw_plan.specs.Requests.{Has}
+use Rattle.pw_kind.specs.History as histories
 use Rattle.pw_model.specs.declared.entry.HistoryEntry.{HistoryEntry}
 use Rattle.pw_model.specs.declared.reply.Reply.{Reply}
 use Rattle.pw_model.specs.declared.state.State.{State}
@@ -50,7 +51,7 @@ pub follows_has : (P : Plan) (es : List HistoryEntry) (e : HistoryEntry) → May
 follows_has P es e h = request_has P e h.entry.states
 
 pub ops_nil : (P : Plan) → history_ops P [] ≡ []
-unfolding history_ops
+unfolding histories.history_ops
 ops_nil P = refl
 
 pub replay_snoc : (P : Plan) (es : List HistoryEntry) (e : HistoryEntry) → replay P (es ++ e ∷ []) ≡ after_entry P (replay P es) e

@@ -18,6 +18,7 @@ use Rattle.pw_plan.specs.Parts.{scale_of}
 use Rattle.pw_plan.specs.Places.{cpu_at}
 use Rattle.pw_plan.specs.Requests.{Has}
 use Rattle.pw_plan.proofs.Lists.{each_append}
+use Rattle.pw_kind.specs.History as histories
 use Rattle.pw_model.specs.declared.entry.HistoryEntry.{HistoryEntry}
 use Rattle.pw_model.specs.declared.reply.Reply.{Reply}
 use Rattle.pw_model.specs.declared.state.Change.{Change}
@@ -101,5 +102,5 @@ module _ (P : Plan) (Stands : State → List Op → Type 0) (keeps : Keeps P Sta
       (entries_stand es (after_entry P S e) (ops ++ entry_ops P S e) is.1 faults.1 (entry_stands S e ops is.0 faults.0 last))
 
   pub history_stands : (es : List HistoryEntry) → AllByRecursion (IsEntry P) es → AllByRecursion (λ e. e.fault ≡ 0) es → Stands (replay P es) (opening_ops P ++ history_ops P es)
-  unfolding replay history_ops
+  unfolding histories.replay histories.history_ops
   history_stands es is faults = entries_stand es (opening P) (opening_ops P) is faults keeps.opening

@@ -5,6 +5,7 @@ use Rattle.pw_plan.specs.declared.plan.Plan.{Plan}
 use Rattle.pw_plan.specs.declared.request.Request.TheVariants.{Idle, Wake, Perf, Throttle, PerfLimit, ThrottleLimit}
 use Rattle.pw_plan.specs.declared.request.Request.{Request}
 use Rattle.pw_plan.specs.Requests.{Has, cpu_of}
+use Rattle.pw_kind.specs.History as histories
 use Rattle.pw_model.specs.declared.entry.HistoryEntry.{HistoryEntry}
 use Rattle.pw_model.specs.declared.reply.Reply.{Reply}
 use Rattle.pw_model.specs.declared.state.State.{State}
@@ -51,5 +52,5 @@ replay_from_fits P S [] s a = s
 replay_from_fits P S (e ∷ es) s a = replay_from_fits P (after_entry P S e) es (after_entry_fits P S e s a.0) a.1
 
 pub replay_fits : (P : Plan) (es : List HistoryEntry) → AllByRecursion (StatesRequest P) es → IsState P (replay P es)
-unfolding replay
+unfolding histories.replay
 replay_fits P es a = replay_from_fits P (opening P) es (opening_fits P) a

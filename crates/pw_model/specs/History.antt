@@ -1,7 +1,8 @@
 -- Histories: what was asked, one request after the other.
-use Rattle.std.specs.Prelude.{◌≡◌, ◌≢◌, ◌==◌, ◌+◌, ◌-◌, ◌<◌, ◌≤◌, ◌⊎◌, ℕ, Option, Some, None, List, [], ◌∷◌, ◌++◌, length, take, if◌then◌else◌}
-use Rattle.std.specs.List.{AllByRecursion}
+use Rattle.std.specs.Prelude.{◌≡◌, ◌≢◌, ◌==◌, ◌<◌, ◌≤◌, ℕ, Option, List, length, if◌then◌else◌}
 use Rattle.acpi_values.specs.declared.operation.Op.{Op}
+use Rattle.pw_kind.specs.Coordination.{Coordination}
+use Rattle.pw_kind.specs.History as histories
 use Rattle.pw_plan.specs.declared.plan.Plan.{Plan}
 use Rattle.pw_plan.specs.declared.request.Request.{Request}
 use Rattle.pw_plan.specs.declared.request.Request.TheVariants.{Idle, Wake, Perf, Throttle, PerfLimit, ThrottleLimit}
@@ -31,44 +32,6 @@ entry_of seat (Throttle p i) = record { seat = seat; cpu = p; code = 4; argument
 entry_of seat (PerfLimit p n) = record { seat = seat; cpu = p; code = 5; argument = n; tolerance = any_latency; fault = 0 }
 entry_of seat (ThrottleLimit p n) = record { seat = seat; cpu = p; code = 6; argument = n; tolerance = any_latency; fault = 0 }
 
--- the state that an entry leaves: a fault changes nothing
-abbrev pub after_entry : Plan → State → HistoryEntry → State
-after_entry P S e = if e.fault == 0 then after P S (request_of e) else S
-
-abbrev pub replay_from : Plan → State → List HistoryEntry → State
-replay_from P S [] = S
-replay_from P S (e ∷ es) = replay_from P (after_entry P S e) es
-
--- The state that a history leaves.
-unfoldable pub replay : Plan → List HistoryEntry → State
-replay P es = replay_from P (opening P) es
-
--- the reply to an entry, unless it is a fault
-abbrev pub entry_reply : Plan → State → HistoryEntry → List Reply
-entry_reply P S e = if e.fault == 0 then answer P S (request_of e) ∷ [] else []
-
-abbrev pub replies_from : Plan → State → List HistoryEntry → List Reply
-replies_from P S [] = []
-replies_from P S (e ∷ es) = entry_reply P S e ++ replies_from P (after_entry P S e) es
-
--- The replies of a history.
-unfoldable pub replies : Plan → List HistoryEntry → List Reply
-replies P es = replies_from P (opening P) es
-
--- the operations of an entry: of a fault those that were done before it
-abbrev pub entry_ops : Plan → State → HistoryEntry → List Op
-entry_ops P S e = if e.fault == 0 then ops_of P S (request_of e) else take (e.fault - 1) (ops_of P S (request_of e))
-
-abbrev pub ops_from : Plan → State → List HistoryEntry → List Op
-ops_from P S [] = []
-ops_from P S (e ∷ es) = entry_ops P S e ++ ops_from P (after_entry P S e) es
-
--- The operations of a history, without those at the start.
-unfoldable pub history_ops : Plan → List HistoryEntry → List Op
-history_ops P es = ops_from P (opening P) es
-
--- # Which histories there are
-
 -- an entry that states a request, of a processor of the plan
 pub record StatesRequest (P : Plan) (e : HistoryEntry) : Type 0 where
   pub cpu : e.cpu < length P.cpus
@@ -81,49 +44,65 @@ pub record IsEntry (P : Plan) (e : HistoryEntry) : Type 0 where
   pub wake : e.code ≡ 2 → e.argument ≡ 0
   pub others : e.code ≢ 1 → e.tolerance ≡ any_latency
 
--- no entry is a fault
+-- Coordination of processor power: `pw_kind/specs/History.antt` says what histories leave, answer and operate, and which there are.
+abbrev pub power : Coordination Plan Request Reply HistoryEntry State
+power = record {
+  request = request_of;
+  fault = λ e. e.fault;
+  IsEntry = IsEntry;
+  opening = opening;
+  answer = answer;
+  ops = ops_of;
+  after = after;
+}
+
+abbrev pub after_entry : Plan → State → HistoryEntry → State
+after_entry = histories.after_entry power
+
+abbrev pub replay_from : Plan → State → List HistoryEntry → State
+replay_from = histories.replay_from power
+
+abbrev pub replay : Plan → List HistoryEntry → State
+replay = histories.replay power
+
+abbrev pub replies_from : Plan → State → List HistoryEntry → List Reply
+replies_from = histories.replies_from power
+
+abbrev pub replies : Plan → List HistoryEntry → List Reply
+replies = histories.replies power
+
+abbrev pub entry_ops : Plan → State → HistoryEntry → List Op
+entry_ops = histories.entry_ops power
+
+abbrev pub ops_from : Plan → State → List HistoryEntry → List Op
+ops_from = histories.ops_from power
+
+abbrev pub history_ops : Plan → List HistoryEntry → List Op
+history_ops = histories.history_ops power
+
 abbrev pub Faultless : List HistoryEntry → Type 0
-Faultless es = AllByRecursion (λ e. e.fault ≡ 0) es
+Faultless = histories.Faultless power
 
--- the operation at which a register failed, counted from 0 among those of the entry's request
 abbrev pub fault_at : List HistoryEntry → Option ℕ
-fault_at [] = None
-fault_at (e ∷ es) = if e.fault == 0 then fault_at es else Some (e.fault - 1)
+fault_at = histories.fault_at power
 
--- only the last entry may be a fault
 abbrev pub FaultIsLast : List HistoryEntry → Type 0
-FaultIsLast [] = Unit {0}
-FaultIsLast (e ∷ []) = Unit {0}
-FaultIsLast (e ∷ f ∷ es) = (e.fault ≡ 0) × FaultIsLast (f ∷ es)
+FaultIsLast = histories.FaultIsLast power
 
-pub record WellFormed (P : Plan) (es : List HistoryEntry) : Type 0 where
-  pub entries : AllByRecursion (IsEntry P) es
-  pub fault : FaultIsLast es
+abbrev pub WellFormed : Plan → List HistoryEntry → Type 0
+WellFormed = histories.WellFormed power
 
--- a fault comes at one of the operations of its request
 abbrev pub FaultFits : Plan → State → HistoryEntry → Type 0
-FaultFits P S e = (e.fault ≡ 0) ⊎ (e.fault ≤ length (ops_of P S (request_of e)))
+FaultFits = histories.FaultFits power
 
 abbrev pub FaultsFit : Plan → State → List HistoryEntry → Type 0
-FaultsFit P S [] = Unit {0}
-FaultsFit P S (e ∷ es) = FaultFits P S e × FaultsFit P (after_entry P S e) es
+FaultsFit = histories.FaultsFit power
 
--- A history that can come about.
-pub record Legal (P : Plan) (es : List HistoryEntry) : Type 0 where
-  pub well_formed : WellFormed P es
-  pub faults : FaultsFit P (opening P) es
+abbrev pub Legal : Plan → List HistoryEntry → Type 0
+Legal = histories.Legal power
 
--- One more entry may follow: the history has no fault, and the entry states a request of the plan and fits.
-pub record MayFollow (P : Plan) (es : List HistoryEntry) (e : HistoryEntry) : Type 0 where
-  pub faultless : Faultless es
-  pub entry : IsEntry P e
-  pub fits : FaultFits P (replay P es) e
+abbrev pub MayFollow : Plan → List HistoryEntry → HistoryEntry → Type 0
+MayFollow = histories.MayFollow power
 
--- The history ends with an entry whose request had its operation k fail, counted from 0.
-pub record StopsAt (P : Plan) (es : List HistoryEntry) (k : ℕ) : Type 0 where
-  pub before : List HistoryEntry
-  pub last : HistoryEntry
-  pub is : es ≡ before ++ last ∷ []
-  pub faultless : Faultless before
-  pub fault : last.fault ≡ k + 1
-  pub within : k < length (ops_of P (replay P before) (request_of last))
+abbrev pub StopsAt : Plan → List HistoryEntry → ℕ → Type 0
+StopsAt = histories.StopsAt power

@@ -10,6 +10,7 @@ use Rattle.pw_plan.specs.declared.request.Request.TheVariants.{Idle, Wake, Perf,
 use Rattle.pw_plan.specs.Parts.{scale_of}
 use Rattle.pw_plan.specs.Places.{cpu_at}
 use Rattle.pw_plan.specs.Requests.{cpu_of}
+use Rattle.pw_kind.specs.History as histories
 use Rattle.pw_model.specs.declared.reply.Reply.{Reply}
 use Rattle.pw_model.specs.declared.state.State.{State}
 use Rattle.pw_model.specs.States.{capped, limit_of, limits_of, opening}
@@ -164,7 +165,7 @@ replayed_alike P kind p (e ∷ es) S T a = step (e.cpu == p) refl (λ U b. repla
     step false h later = later T (entry_apart P S T e kind p (eqb-false e.cpu p h) a)
 
 pub entries_own : (P : Plan) (kind : DomainKind) (p : ℕ) (es : List HistoryEntry) → limit_of kind (replay P es) p ≡ limit_of kind (replay P (own_entries p es)) p
-unfolding replay
+unfolding histories.replay
 entries_own P kind p es = replayed_alike P kind p es (opening P) (opening P) (record { long = refl; same = refl })
 
 -- without a fault a history leaves what its requests leave
@@ -175,7 +176,7 @@ replayed P (e ∷ es) S h =
     ap (λ (T : State). replay_from P T es) here ∙ replayed P es (after P S (request_of e)) h.1
 
 pub histories_own : (P : Plan) (kind : DomainKind) (p : ℕ) (es : List HistoryEntry) → Faultless es → limit_of kind (replay P es) p ≡ own_limit P kind p (requests es)
-unfolding replay
+unfolding histories.replay
 histories_own P kind p es h = ap (λ (S : State). limit_of kind S p) (replayed P es (opening P) h) ∙ requests_own P kind p (requests es)
 
 pub ruleset limits_own = (requests_own, entries_own, histories_own)

@@ -19,7 +19,7 @@ use Rattle.pw_runs.specs.CppcRuns.{IsSerialRun, entries_of}
 pub entries_state : (P : CppcPlan) (asked : List CppcRequest) (opening : Option ℕ) (es : List CppcEntry) → Lawful P asked opening es
     → AllByRecursion (StatesRequest P) es
 entries_state P asked (Some k) es run = rw run.1 tt
-entries_state P asked None es run = run.0.entries
+entries_state P asked None es run = run.0.well_formed.entries
 
 -- an entry that is no fault is that of its request
 of_request : (P : CppcPlan) (e : CppcEntry) → StatesRequest P e → e.seat ≡ 0 → e.fault ≡ 0 → entry_of 0 (request_of e) ≡ e
@@ -57,7 +57,7 @@ whole_entries : (P : CppcPlan) (lines : List CppcLine) (opening : Option ℕ) (e
 whole_entries P lines (Some k) es old new run none = absurd (cc)
 whole_entries P lines None es old new run none =
     let faultless = fault_none es none in
-    entries_back P es run.lawful.legal.entries run.seats faultless ∙ ap entries_of (run.lawful.whole faultless)
+    entries_back P es run.lawful.legal.well_formed.entries run.seats faultless ∙ ap entries_of (run.lawful.whole faultless)
 
 -- And so their history.
 pub whole_history : (P : CppcPlan) (lines : List CppcLine) (opening : Option ℕ) (es : List CppcEntry) (old new : RegistersSeen) → IsSerialRun P lines opening es old new

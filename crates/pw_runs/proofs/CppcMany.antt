@@ -1,5 +1,5 @@
 -- Histories that a script's lines allow, in whatever order processors come to their lines.
-use Rattle.std.proofs.Common.{◌≡◌, ◌<◌, ◌==◌, ◌∙◌, ℕ, suc, Bool, true, false, cond, List, [], ◌∷◌, length, Option, Some, None, Result, Ok, Err, inl, refl, sym, subst, append-nil}
+use Rattle.std.proofs.Common.{◌≡◌, ◌<◌, ◌==◌, ◌∙◌, ℕ, suc, Bool, true, false, cond, List, [], ◌∷◌, length, Option, Some, None, Result, Ok, Err, refl, sym, subst, append-nil}
 use Rattle.std.specs.Prelude.{IfOk, IfSome}
 use Rattle.std.specs.List.{AllByRecursion}
 use Rattle.pw_base.specs.Seen.{FilesSeen}
@@ -14,10 +14,9 @@ use Rattle.pw_cppc.specs.declared.request.CppcRequest.{CppcRequest}
 use Rattle.pw_cppc.specs.declared.request.CppcRequest.TheVariants.{Desired, Minimum, Maximum}
 use Rattle.pw_cppc.specs.Requests.{Has, cpu_of}
 use Rattle.pw_cppc.specs.declared.entry.CppcEntry.{CppcEntry}
-use Rattle.pw_cppc.specs.declared.numbers.CppcNumbers.{CppcNumbers}
-use Rattle.pw_cppc.specs.States.{opening}
-use Rattle.pw_cppc.specs.History.{FaultIsLast, Faultless, FaultsFit, IsSerialRunOf, Legal, StatesRequest, after_entry, entry_of, requests}
+use Rattle.pw_cppc.specs.History.{Faultless, IsSerialRunOf, StatesRequest, entry_of, performance, requests}
 use Rattle.pw_cppc.specs.History.{request_of as request_of_entry}
+use Rattle.pw_kind.proofs.Joining.{legal-faultless}
 use Rattle.pw_cppc.proofs.Joining.{entry_states}
 use Rattle.pw_cppc_drive.specs.Forms.{Said, cpu_named, request_by, request_in, request_in_fields, request_of, request_on, request_with, said, segs_of, some_request}
 use Rattle.pw_cppc_drive.specs.declared.script.CppcLine.{CppcLine}
@@ -107,28 +106,13 @@ all_back : (asked : List CppcRequest) → requests (entries_of asked) ≡ asked
 all_back [] = refl
 all_back (q ∷ qs) = let first = asked_back q in let rest = all_back qs in cc
 
--- entries without a fault are no fault before the last, and fit
-none_last : (es : List CppcEntry) → Faultless es → FaultIsLast es
-none_last [] none = tt
-none_last (e ∷ []) none = tt
-none_last (e ∷ f ∷ es) none = (none.0, none_last (f ∷ es) none.1)
-
-none_fit : (P : CppcPlan) (S : CppcNumbers) (es : List CppcEntry) → Faultless es → FaultsFit P S es
-none_fit P S [] none = tt
-none_fit P S (e ∷ es) none = (inl none.0, none_fit P (after_entry P S e) es none.1)
-
 -- the history of requests that the plan has, in their order, is one that they allow
 in_order_lawful : (P : CppcPlan) (asked : List CppcRequest) → AllByRecursion (Has P) asked → Lawful P asked None (entries_of asked)
 in_order_lawful P asked has =
     let none = entries_faultless asked in
     let back = all_back asked in
-    let legal : Legal P (entries_of asked) = record {
-      entries = entries_have P asked has;
-      fault = none_last (entries_of asked) none;
-      faults = none_fit P (opening P) (entries_of asked) none;
-    } in
     let serial : IsSerialRunOf P asked (entries_of asked) = record {
-      legal = legal;
+      legal = legal-faultless performance P (entries_of asked) (entries_have P asked has) none;
       rest = [];
       begins = sym (append-nil (requests (entries_of asked)) ∙ back);
       whole = λ faultless. back;

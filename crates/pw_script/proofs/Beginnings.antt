@@ -4,6 +4,7 @@ use Rattle.std.proofs.lemmas.Bool.{cases_eq}
 use Rattle.std.proofs.lemmas.List.{map-append, take-append-le, take_min}
 use Rattle.pw_plan.specs.declared.plan.Plan.{Plan}
 use Rattle.pw_plan.specs.declared.request.Request.{Request}
+use Rattle.pw_kind.specs.History as histories
 use Rattle.pw_model.specs.declared.entry.HistoryEntry.{HistoryEntry}
 use Rattle.pw_model.specs.declared.state.State.{State}
 use Rattle.pw_model.specs.States.{opening}
@@ -31,7 +32,7 @@ module _ (P : Plan) where
       ∙ sym (append_assoc (entry_lines P S n e) (lines_from P (after_entry P S e) (n + 1) es) (lines_from P (replay_from P S (e ∷ es)) (n + length (e ∷ es)) fs))
 
   pub history_lines-append : (o : Option ℕ) (es fs : List HistoryEntry) → history_lines P o (es ++ fs) ≡ history_lines P o es ++ lines_from P (replay P es) (1 + length es) fs
-  unfolding history_lines replay
+  unfolding history_lines histories.replay
   history_lines-append o es fs =
       ap (λ l. opening_lines P o ++ l) (lines_from-append es fs (opening P) 1)
       ∙ sym (append_assoc (opening_lines P o) (lines_from P (opening P) 1 es) (lines_from P (replay_from P (opening P) es) (1 + length es) fs))

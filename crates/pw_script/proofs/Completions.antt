@@ -7,10 +7,9 @@ use Rattle.pw_plan.specs.declared.request.Request.{Request}
 use Rattle.pw_plan.specs.declared.request.Request.TheVariants.{Idle, Wake, Perf, Throttle, PerfLimit, ThrottleLimit}
 use Rattle.pw_plan.specs.Requests.{Has, cpu_of}
 use Rattle.pw_plan.proofs.Lists.{each_append}
+use Rattle.pw_kind.proofs.Joining.{legal-faultless}
 use Rattle.pw_model.specs.declared.entry.HistoryEntry.{HistoryEntry}
-use Rattle.pw_model.specs.declared.state.State.{State}
-use Rattle.pw_model.specs.States.{opening}
-use Rattle.pw_model.specs.History.{FaultIsLast, Faultless, FaultsFit, IsEntry, Legal, after_entry, entry_of, request_of}
+use Rattle.pw_model.specs.History.{Faultless, IsEntry, entry_of, power, request_of}
 use Rattle.pw_model.proofs.Joining.{entry_is, legal-first, request_of-entry}
 use Rattle.pw_model.proofs.Staying.{request_cpu}
 use Rattle.pw_notice.specs.Limits.{own, requests}
@@ -39,18 +38,6 @@ entry_faultless (ThrottleLimit p n) = refl
 pub faultless : (qs : List Request) → Faultless (map (entry_of 0) qs)
 faultless [] = tt
 faultless (q ∷ qs) = (entry_faultless q, faultless qs)
-
-legal_none : (P : Plan) (es : List HistoryEntry) → AllByRecursion (IsEntry P) es → Faultless es → Legal P es
-legal_none P es is none = record { well_formed = record { entries = is; fault = last es none }; faults = fit es (opening P) none }
-  where
-    last : (es : List HistoryEntry) → Faultless es → FaultIsLast es
-    last [] none = tt
-    last (e ∷ []) none = tt
-    last (e ∷ f ∷ es) none = (none.0, last (f ∷ es) none.1)
-
-    fit : (es : List HistoryEntry) (S : State) → Faultless es → FaultsFit P S es
-    fit [] S none = tt
-    fit (e ∷ es) S none = (inl none.0, fit es (after_entry P S e) none.1)
 
 -- # The lines that are left
 
@@ -123,7 +110,7 @@ module _ (P : Plan) (L : List Request) (es : List HistoryEntry) (has : AllByRecu
 
   pub completed-run : IsRunOf P L (completed L es)
   completed-run = record {
-    legal = legal_none P (completed L es)
+    legal = legal-faultless power P (completed L es)
         (each_append (IsEntry P) es (map (entry_of 0) (lines_left L es)) start.legal.well_formed.entries (entries_are P (lines_left L es) (left_each (Has P) es L has))) completed_none;
     begins = λ p lt. record { rest = []; is = sym (whole p) ∙ sym (append-nil (own p (requests (completed L es)))) };
     whole = λ faultless p lt. whole p;

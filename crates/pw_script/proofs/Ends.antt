@@ -5,9 +5,10 @@ use Rattle.std.proofs.lemmas.List.{take_min}
 use Rattle.pw_plan.specs.declared.plan.Plan.{Plan}
 use Rattle.pw_plan.specs.declared.request.Request.{Request}
 use Rattle.pw_plan.proofs.Lists.{each_map}
+use Rattle.pw_kind.proofs.Joining.{last_before}
 use Rattle.pw_model.specs.States.{opening}
 use Rattle.pw_model.specs.declared.entry.HistoryEntry.{HistoryEntry}
-use Rattle.pw_model.specs.History.{FaultIsLast, Faultless}
+use Rattle.pw_model.specs.History.{Faultless, power}
 use Rattle.pw_notice.specs.Limits.{own}
 use Rattle.pw_script.specs.Lawful.{Begins, IsRunOf, Lawful}
 use Rattle.pw_script.specs.HistoryText.{history_lines, history_text, lines_from, opening_lines}
@@ -95,16 +96,11 @@ module _ (P : Plan) (tell : HasSegments P) (L : List Request) (are : CanBeAsked 
       nothing : {x : List ℕ} {xs : List (List ℕ)} → x ∷ xs ≡ [] → ⊥
       nothing e = cc
 
-  last_alone : (es : List HistoryEntry) (e : HistoryEntry) → FaultIsLast (es ++ e ∷ []) → Faultless es
-  last_alone [] e last = tt
-  last_alone (f ∷ []) e last = (last.0, tt)
-  last_alone (f ∷ g ∷ es) e last = (last.0, last_alone (g ∷ es) e last.1)
-
   -- nor an entry that a fault with_feed
   pub fault-ends : (es : List HistoryEntry) (l : List ℕ) → IsStart P L es → BeginsWhole P L (map with_feed (history_lines P None es) ++ with_feed l ∷ []) → Faultless es
   fault-ends es l start b =
       let on = next-line P tell L are es start l b in
-      last_alone es on.entry on.starts.legal.well_formed.fault
+      last_before power es [] on.entry on.starts.legal.well_formed.fault
 
 -- # Each line has its line feed
 

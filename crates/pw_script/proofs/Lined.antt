@@ -6,8 +6,9 @@ use Rattle.std.proofs.lemmas.List.Elements.{filter-append}
 use Rattle.pw_plan.specs.declared.plan.Plan.{Plan}
 use Rattle.pw_plan.specs.declared.request.Request.{Request}
 use Rattle.pw_plan.specs.Requests.{cpu_of}
+use Rattle.pw_kind.proofs.Joining.{last_before}
 use Rattle.pw_model.specs.declared.entry.HistoryEntry.{HistoryEntry}
-use Rattle.pw_model.specs.History.{FaultIsLast, Faultless, request_of}
+use Rattle.pw_model.specs.History.{power, request_of}
 use Rattle.pw_model.proofs.Staying.{request_cpu}
 use Rattle.pw_notice.specs.Limits.{is_of, limit_after, own, requests}
 use Rattle.pw_notice.proofs.OwnLimits.{histories_own}
@@ -51,15 +52,9 @@ own_here e es fs =
     ap (own e.cpu) (map-append request_of es (e ∷ fs)) ∙ filter-append (is_of e.cpu) (requests es) (request_of e ∷ requests fs)
     ∙ ap (λ (l : List Request). own e.cpu (requests es) ++ l) here
 
--- only the last entry may be a fault
-faultless_before : (es fs : List HistoryEntry) (e : HistoryEntry) → FaultIsLast (es ++ e ∷ fs) → Faultless es
-faultless_before [] fs e h = tt
-faultless_before (x ∷ []) fs e h = (h.0, tt)
-faultless_before (x ∷ y ∷ es) fs e h = (h.0, faultless_before (y ∷ es) fs e h.1)
-
 pub entry_line : (P : Plan) (asked : List Request) (es fs : List HistoryEntry) (e : HistoryEntry) → e.cpu < length P.cpus → Lawful P asked None (es ++ e ∷ fs) → HasLine P asked es e
 entry_line P asked es fs e lt run =
-    let none = faultless_before es fs e run.legal.well_formed.fault in
+    let none = last_before power es fs e run.legal.well_formed.fault in
     let b = run.begins e.cpu lt in
     let whole : own e.cpu asked ≡ own e.cpu (requests es) ++ request_of e ∷ (own e.cpu (requests fs) ++ b.rest) =
     b.is ∙ ap (λ (l : List Request). l ++ b.rest) (own_here e es fs) ∙ append_assoc (own e.cpu (requests es)) (request_of e ∷ own e.cpu (requests fs)) b.rest in

@@ -4,6 +4,7 @@ use Rattle.std.specs.List.{AllByRecursion}
 use Rattle.std.proofs.lemmas.List.{append_cancel_left, append_cancel_right, length-map, map-append}
 use Rattle.pw_plan.specs.declared.plan.Plan.{Plan}
 use Rattle.pw_plan.specs.declared.request.Request.{Request}
+use Rattle.pw_kind.specs.History as histories
 use Rattle.pw_model.specs.declared.entry.HistoryEntry.{HistoryEntry}
 use Rattle.pw_model.specs.declared.state.State.{State}
 use Rattle.pw_model.specs.States.{opening}
@@ -122,7 +123,7 @@ module _ (P : Plan) (tell : HasSegments P) where
     -- what a whole text with these lines says
     from_history : (fs : List HistoryEntry) (xs : List (List ℕ)) → IsRunOf P L fs → AllByRecursion IsNarrow fs → lines_from P (opening P) 1 es ++ (l ∷ xs) ≡ lines_from P (opening P) 1 fs
         → GoesOnWith P L es l
-    unfolding replay
+    unfolding histories.replay
     from_history fs xs run narrow same =
         let r = follows es fs (opening P) 1 (l ∷ xs) start.legal.well_formed.entries run.legal.well_formed.entries (start-narrow P L es are.narrow start) narrow same in
         step r.before r.later r.split r.alike r.rest
@@ -182,7 +183,7 @@ module _ (P : Plan) (tell : HasSegments P) where
     op_from_history : (fs : List HistoryEntry) (xs : List (List ℕ)) → AllByRecursion (IsEntry P) fs → AllByRecursion IsNarrow fs → j < length (entry_ops P (replay P es) e)
         → lines_from P (opening P) 1 es ++ entry_line P (replay P es) (1 + length es) e ∷ (take j (map (op_line P) (entry_ops P (replay P es) e)) ++ l ∷ xs) ≡ lines_from P (opening P) 1 fs
         → l ≡ get_or (map (op_line P) (entry_ops P (replay P es) e)) j []
-    unfolding replay
+    unfolding histories.replay
     op_from_history fs xs is_fs narrow_fs lt same =
         let r = follows es fs (opening P) 1 (entry_line P (replay P es) (1 + length es) e ∷ (take j (map (op_line P) (entry_ops P (replay P es) e)) ++ l ∷ xs)) is_es is_fs narrow_es narrow_fs same in
         step r.before r.later (subst (AllByRecursion (IsEntry P)) r.split is_fs) (subst (AllByRecursion IsNarrow) r.split narrow_fs) r.rest

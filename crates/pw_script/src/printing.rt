@@ -273,7 +273,7 @@ fn put_history<K: Sink>(
 
 /// Prints the text of a history as `print_history` does, with the replies to its entries where they are
 /// known: then they aren't worked out again.
-#[tactic(auto, unfolding(pw_model::specs::History::replies))]
+#[tactic(auto, unfolding(pw_kind::specs::History::replies))]
 pub fn print_known<K: Sink>(
     alloc: Global,
     plan: &Plan,
