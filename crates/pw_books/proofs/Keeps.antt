@@ -5,10 +5,11 @@ use mathlib.Core.Logic.{dite}
 use native.Mathlib.Decide.{ℕ_discrete}
 use lib.ListN.{get_elem?}
 use Rattle.pw_books.specs.declared.view.View.{View}
-use Rattle.pw_books.specs.Machine.{Machine, Fits, IsOpening, Invariant}
-use Rattle.pw_books.specs.Steps.{Kind, take_turn, find_held, slot_out, slot_back, release_with_entry, release_without_entry, draw_number, miss_draw, split_seat, join_seats, read_made, after}
-use Rattle.pw_books.specs.Law.{first_view, opened, Steps, StepKeeps, TurnLaw}
+use Rattle.pw_books.specs.Machine.{Fits, IsOpening, Invariant}
+use Rattle.pw_books.specs.Steps.{take_turn, find_held, slot_out, slot_back, release_with_entry, release_without_entry, draw_number, miss_draw, split_seat, join_seats, read_made}
+use Rattle.pw_books.specs.Law.{desk, first_view, opened, StepKeeps, TurnLaw}
 use Rattle.pw_books.proofs.Lists.{one, none-of, once_yes, once_no}
+use Rattle.pw_books.proofs.Running.{lasts}
 use Rattle.pw_books.proofs.Turns.{as_named}
 use Rattle.pw_books.proofs.Turning.{keeps_take, keeps_find, keeps_slot_out, keeps_slot_back, keeps_let_go, keeps_enter}
 use Rattle.pw_books.proofs.DeskSeats.{keeps_draw, keeps_miss, keeps_split, keeps_join, keeps_read}
@@ -66,10 +67,5 @@ module _ {E : Type 0} (seat_of : E → ℕ) (Good : List E → Type 0) where
     fits = λ k u there. subst (Fits seat_of [] 1) (first_alone k u there).1 first_fits;
   }
 
-  lasts : (m : Machine E) → Invariant seat_of Good m → (steps : List (ℕ × View E × Kind E)) (end : Machine E)
-      → Steps seat_of Good m steps end → Invariant seat_of Good end
-  lasts m i [] end e = subst (Invariant seat_of Good) e i
-  lasts m i (s ∷ ss) end e = lasts (after seat_of m s.0 s.1 s.2) (step_keeps m s.0 s.1 s.2 i e.0 e.1) ss end e.2
-
   pub law : TurnLaw seat_of Good
-  law steps end good e = lasts opened (opens good) steps end e
+  law steps end good e = lasts (desk seat_of Good) (Invariant seat_of Good) step_keeps opened (opens good) steps end e

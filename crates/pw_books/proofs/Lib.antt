@@ -10,6 +10,10 @@ pub mod Places
 pub mod Ended
 pub mod Runs
 pub mod Sums
+pub mod Running
+pub mod Keeping
+pub mod Ruled
+pub mod Finding
 pub mod Turns
 pub mod Facts
 pub mod Changes

@@ -1,5 +1,5 @@
 -- Lists read by index, sums, and 1 for what is so.
-use Rattle.std.proofs.Common.{◌≡◌, ◌≢◌, ◌⊎◌, inl, inr, ⊎_elim, ℕ, zero, suc, ◌+◌, ◌<◌, ◌≤◌, List, [], ◌∷◌, ◌++◌, Bool, true, false, true≢false, length, get_or, set, eqb, ltb, eq-eqb, ne_eqb, lt-ltb, le-ltb, sym, refl, ap, ◌∙◌, arith, Option, Some, None, is_none}
+use Rattle.std.proofs.Common.{◌≡◌, ◌≢◌, ◌⊎◌, inl, inr, ⊎_elim, ℕ, zero, suc, ◌+◌, ◌<◌, ◌≤◌, List, [], ◌∷◌, ◌++◌, Bool, true, false, true≢false, length, map, get_or, set, eqb, ltb, eq-eqb, ne_eqb, lt-ltb, le-ltb, sym, refl, ap, ◌∙◌, arith, Option, Some, None, is_none}
 use mathlib.Core.Option.{some, some-injective, some-ne-none}
 use mathlib.Core.Logic.{dite}
 use native.Mathlib.Decide.{ℕ_discrete, dec_le}
@@ -26,6 +26,11 @@ module _ {A : Type 0} where
   set_else (x ∷ xs) zero (suc j) a n = refl
   set_else (x ∷ xs) (suc i) zero a n = refl
   set_else (x ∷ xs) (suc i) (suc j) a n = set_else xs i j a (λ e. n (ap suc e))
+
+  pub at_map : {B : Type 0} (f : A → B) (l : List A) (i : ℕ) (a : A) → get_elem? l i ≡ some a → get_elem? (map f l) i ≡ some (f a)
+  at_map f [] i a e = absurd (some-ne-none a (sym e))
+  at_map f (x ∷ xs) zero a e = ap (λ (y : A). some (f y)) (some-injective x a e)
+  at_map f (x ∷ xs) (suc i) a e = at_map f xs i a e
 
   pub at_longer : (l m : List A) (i : ℕ) (a : A) → get_elem? l i ≡ some a → get_elem? (l ++ m) i ≡ some a
   at_longer [] m i a e = absurd (some-ne-none a (sym e))

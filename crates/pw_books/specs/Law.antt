@@ -4,6 +4,7 @@ use mathlib.Core.Option.{some}
 use lib.ListN.{get_elem?}
 use Rattle.pw_books.specs.declared.view.View.{View}
 use Rattle.pw_books.specs.Books.{calls_of}
+use Rattle.pw_books.specs.Runs.{Turning, Steps as RunSteps}
 use Rattle.pw_books.specs.Machine.{Machine, spent_view, Invariant}
 use Rattle.pw_books.specs.Steps.{Kind, May, after}
 
@@ -16,11 +17,13 @@ module _ {E : Type 0} where
   opened = record { made = 1; history = []; turn = 1; views = first_view ∷ [] }
 
 module _ {E : Type 0} (seat_of : E → ℕ) (Good : List E → Type 0) where
+  -- the machine as runs have it, of any kind
+  abbrev pub desk : Turning (Machine E) (View E) (Kind E)
+  desk = record { views = λ m. m.views; May = May seat_of Good; after = after seat_of }
+
   -- the steps lead from one machine to the other
   abbrev pub Steps : Machine E → List (ℕ × View E × Kind E) → Machine E → Type 0
-  Steps m [] end = m ≡ end
-  Steps m (s ∷ ss) end =
-      (get_elem? m.views s.0 ≡ some s.1) × May seat_of Good m s.0 s.1 s.2 × Steps (after seat_of m s.0 s.1 s.2) ss end
+  Steps = RunSteps desk
 
   -- each kind of step keeps the invariant
   abbrev pub StepKeeps : Type 0

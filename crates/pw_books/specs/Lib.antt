@@ -4,6 +4,9 @@ pub mod Asked
 pub mod Seats
 pub mod Workers
 pub mod inner
+pub mod Runs
+pub mod Tracks
+pub mod Ruled
 pub mod Machine
 pub mod Steps
 pub mod Law

@@ -5,6 +5,7 @@
 mod calls;
 mod desk_laws;
 mod interleaving;
+mod track;
 mod view;
 
 pub use calls::Calls;
@@ -15,4 +16,5 @@ pub use interleaving::{
     Tells, runs_ask_no_more, seats_make_histories, serial_runs_are_runs, workers_are_gathered,
     workers_make_histories, workers_make_their_lines,
 };
+pub use track::Track;
 pub use view::View;

@@ -4,12 +4,9 @@ use Rattle.std.specs.Prelude.{IfErr, OnErr, OnOk}
 use Rattle.std.specs.Result.{result_err}
 use Rattle.std.proofs.lemmas.Bool.{cases_lt}
 use Rattle.std.proofs.lemmas.List.{get_or_past}
-use Rattle.acpi_values.specs.declared.dependency.Coord.{Coord}
-use Rattle.acpi_values.specs.declared.dependency.Coord.TheVariants.{SwAll, SwAny, HwAll}
 use Rattle.acpi_values.specs.declared.operation.Op.{Op}
 use Rattle.pw_base.specs.Outside.{Rose}
 use Rattle.pw_base.specs.Room.{Bounded}
-use Rattle.pw_plan.specs.Requests.{set_count}
 use Rattle.pw_regs.specs.Seen.{RegistersSeen}
 use Rattle.pw_regs.specs.Doing.{Did}
 use Rattle.pw_regs.proofs.Operating.{did_by, did_within}

@@ -12,7 +12,7 @@ use Rattle.pw_cppc_desk.specs.declared.setup.Setup.{Setup}
 use Rattle.pw_cppc_desk.specs.Slots.{Given}
 use Rattle.pw_cppc_desk.specs.Rule.{Ruled, given_of}
 use Rattle.pw_cppc_desk.specs.Plays.{IsFirst, IsFound, IsGrown, Tracked, gone_step, led_step, opened_step, put_step}
-use Rattle.pw_cppc_desk.specs.declared.track.Track.{Track}
+use Rattle.pw_cppc_desk.specs.Tracks.{Track}
 use Rattle.pw_cppc_desk.proofs.Turning.{enters, lets_go, takes_turn}
 use Rattle.pw_cppc_desk.proofs.Opening.{opens_desk}
 

@@ -1,5 +1,5 @@
 -- Steps on word 0, and steps on no word: numbers are drawn and read, seats are split and joined.
-use Rattle.std.proofs.Common.{◌≡◌, ◌≢◌, inl, ⊎_elim, ℕ, ◌+◌, ◌<◌, List, [], ◌∷◌, ◌++◌, true, false, length, get_or, set, sym, refl, ap, ◌∙◌, subst, arith}
+use Rattle.std.proofs.Common.{◌≡◌, ◌≢◌, inl, ⊎_elim, ℕ, ◌+◌, ◌<◌, List, [], ◌∷◌, ◌++◌, true, false, get_or, set, sym, refl, ap, ◌∙◌, subst, arith}
 use mathlib.Core.Option.{some, none}
 use lib.ListN.{get_elem?}
 use Rattle.atomic_table.specs.Table.{keeps, step}
@@ -12,22 +12,20 @@ use Rattle.pw_books.specs.declared.view.View.{View}
 use Rattle.pw_books.specs.Books.{IsPrefix, count_in, furthest}
 use Rattle.pw_books.specs.Sums.{AtMost}
 use Rattle.pw_books.specs.Machine.{Machine, spent_view}
-use Rattle.pw_books.specs.Steps.{IsSpare, draw_number, drawn, join_seats, joined, left_of, looked, miss_draw, missed, read_made, right_of, split_seat, after}
-use Rattle.pw_books.proofs.Lists.{at_set, at_snoc, elem_below, off, term_le, last_or_before}
+use Rattle.pw_books.specs.Steps.{IsSpare, draw_number, drawn, join_seats, joined, left_of, looked, miss_draw, missed, read_made, right_of, split_seat}
+use Rattle.pw_books.proofs.Lists.{at_set, at_snoc, off, term_le}
 use Rattle.pw_books.proofs.Books.{begins_furthest, longer_both}
 use Rattle.pw_books.proofs.Told.{is_told}
 use Rattle.pw_cppc_desk.specs.declared.setup.Setup.{Setup}
 use Rattle.pw_cppc_desk.specs.Slots.{Homes, MayBe, seat_of}
-use Rattle.pw_cppc_desk.specs.Rule.{IsHome, given_of}
+use Rattle.pw_cppc_desk.specs.Rule.{IsHome, given_of, showing}
 use Rattle.pw_cppc_desk.specs.Plays.{drew_step}
 use Rattle.pw_books.specs.Law.{opened}
-use Rattle.pw_cppc_desk.specs.declared.track.Track.{Track}
-use Rattle.pw_cppc_desk.specs.Tracks.{did, joined_track, left_track, right_track, spent_track}
-use Rattle.pw_cppc_desk.proofs.Running.{map-set, map-snoc, none_past, one_more, steps_there}
-use Rattle.std.proofs.lemmas.List.{length-map, length-set}
+use Rattle.pw_cppc_desk.specs.Tracks.{did, joined_track}
+use Rattle.pw_books.proofs.Ruled.{shows_join, shows_split}
+use Rattle.pw_cppc_desk.proofs.Running.{grows}
 use Rattle.pw_cppc_desk.specs.Moves.{NumberIsDrawn, NumberIsRead, SeatIsSplit, SeatsAreJoined}
-use Rattle.pw_cppc_desk.proofs.Shown.{Goes, none_marked, shows, inv_of, view_at, own_more}
-use Rattle.pw_cppc_desk.proofs.Keeping.{kept_joined, kept_split}
+use Rattle.pw_cppc_desk.proofs.Shown.{Goes, none_marked, shows, inv_of, view_at}
 
 module _ {R : Type 0} (by : Registers R) where
   home_after : (key : Setup R) (m : Machine CppcEntry) (hs : Homes R) (vs : List (View CppcEntry)) (made : ℕ) → IsHome by (given_of by key) m hs
@@ -113,59 +111,27 @@ module _ {R : Type 0} (by : Registers R) where
 
   pub splits : SeatIsSplit by
   splits key id x n parts idle paid spare some-part few s o me =
-      let mach = o.machine in let Good = MayBe (given_of by key) in let v = x.view in
+      let mach = o.machine in let v = x.view in
       let at : get_elem? mach.views id ≡ some v = view_at by key s o id x me in
       let l = left_of n parts v in let r = right_of n parts v in
-      let here = left_track n parts x in let new = right_track n parts x in
-      let wide : length mach.views ≡ length s.views = ap (length {A = View CppcEntry}) (sym o.views) ∙ length-map s.views (λ (t : Track). t.view) in
-      record {
-        machine = after seat_of mach id v (split_seat n parts);
-        run = o.run ++ (id, v, split_seat n parts) ∷ [];
-        ran = one_more Good opened o.run mach id v (split_seat n parts) o.ran at (idle, paid, spare, some-part, few);
-        words = o.words;
-        views = map-snoc (λ (t : Track). t.view) (set s.views id here) new
-            ∙ ap (λ vs. vs ++ r ∷ []) (map-set (λ (t : Track). t.view) s.views id here ∙ ap (λ vs. set vs id l) o.views);
-        own = λ j t there lives. ⊎_elim
-            (λ (b : get_elem? (set s.views id here) j ≡ some t).
-            own_more by key s o id x (split_seat n parts) here me idle.live refl j t b lives)
-            (λ (e : (j ≡ length (set s.views id here)) × (new ≡ t)). ap (λ (t : Track). t.own) (sym e.1)
-            ∙ (sym (none_past Good opened o.run mach j o.ran (omega (arith, wide, e.0, length-set s.views id here)))
-            ∙ sym (steps_there o.run id j v (split_seat n parts)
-            (λ same. omega (arith, same, e.0, length-set s.views id here, elem_below s.views id x me)))))
-            (last_or_before (set s.views id here) new t j there);
-        kept = kept_split o.run s.views o.kept id x me (o.own id x me idle.live) v (split_seat n parts) l r
-            (steps_there o.run id (length s.views) v (split_seat n parts) (λ same. omega (arith, same, elem_below s.views id x me))
-            ∙ none_past Good opened o.run mach (length s.views) o.ran (omega (arith, wide)));
-        home = home_after key mach s.homes (set mach.views id l ++ r ∷ []) mach.made o.home (λ k u there mark. ⊎_elim
-            (λ (b : get_elem? (set mach.views id l) k ≡ some u). none_marked by key s o id v l at idle.live idle.unmarked k u b mark)
-            (λ (e : r ≡ u). off false refl (ap (λ (x : View CppcEntry). x.mark) e ∙ mark))
-            (at_snoc (set mach.views id l) r u k there));
-      }
+      shows_split (showing by key) opened s.words s.homes s.views o id x me idle.live (split_seat n parts)
+          (idle, paid, spare, some-part, few) (grows (MayBe (given_of by key))) l r s.words s.homes refl o.words
+          (home_after key mach s.homes (set mach.views id l ++ r ∷ []) mach.made o.home (λ k u there mark. ⊎_elim
+          (λ (b : get_elem? (set mach.views id l) k ≡ some u). none_marked by key s o id v l at idle.live idle.unmarked k u b mark)
+          (λ (e : r ≡ u). off false refl (ap (λ (x : View CppcEntry). x.mark) e ∙ mark))
+          (at_snoc (set mach.views id l) r u k there)))
 
   pub joins : SeatsAreJoined by
   joins key id x other y idle idle-w paid paid-w s o me apart there =
-      let mach = o.machine in let Good = MayBe (given_of by key) in let v = x.view in let w = y.view in
+      let mach = o.machine in let v = x.view in let w = y.view in
       let at : get_elem? mach.views id ≡ some v = view_at by key s o id x me in
-      let both = joined_track x y in
-      let there-y : get_elem? s.views other ≡ some y = sym (set_else s.views id other both apart) ∙ there in
+      let there-y : get_elem? s.views other ≡ some y = sym (set_else s.views id other (joined_track x y) apart) ∙ there in
       let at-w : get_elem? mach.views other ≡ some w = view_at by key s o other y there-y in
-      let b = joined v w in let k = join_seats other w in
-      record {
-        machine = after seat_of mach id v k;
-        run = o.run ++ (id, v, k) ∷ [];
-        ran = one_more Good opened o.run mach id v k o.ran at (apart, at-w, idle, idle-w, paid, paid-w);
-        words = o.words;
-        views = map-set (λ (t : Track). t.view) (set s.views id both) other spent_track
-            ∙ ap (λ vs. set vs other spent_view) (map-set (λ (t : Track). t.view) s.views id both ∙ ap (λ vs. set vs id b) o.views);
-        own = λ j t there lives. ⊎_elim
-            (λ (e : (j ≡ other) × (spent_track ≡ t)). absurd (omega (arith, lives, ap (λ (t : Track). t.view.parts) e.1)))
-            (λ (e : (j ≢ other) × (get_elem? (set s.views id both) j ≡ some t)).
-            own_more by key s o id x k both me idle.live refl j t e.1 lives)
-            (at_set (set s.views id both) other j spent_track t there);
-        kept = kept_joined o.run s.views o.kept id x me (o.own id x me idle.live) v other y there;
-        home = home_after key mach s.homes (set (set mach.views id b) other spent_view) mach.made o.home (λ k u there mark. ⊎_elim
-            (λ (t : (k ≡ other) × (spent_view ≡ u)). off false refl (ap (λ (x : View CppcEntry). x.mark) t.1 ∙ mark))
-            (λ (t : (k ≢ other) × (get_elem? (set mach.views id b) k ≡ some u)).
-            none_marked by key s o id v b at idle.live idle.unmarked k u t.1 mark)
-            (at_set (set mach.views id b) other k spent_view u there));
-      }
+      let b = joined v w in
+      shows_join (showing by key) opened s.words s.homes s.views o id x me idle.live (join_seats other w)
+          (apart, at-w, idle, idle-w, paid, paid-w) (join_seats 0 w) refl b spent_view refl other y there s.words s.homes refl o.words
+          (home_after key mach s.homes (set (set mach.views id b) other spent_view) mach.made o.home (λ k u there mark. ⊎_elim
+          (λ (t : (k ≡ other) × (spent_view ≡ u)). off false refl (ap (λ (x : View CppcEntry). x.mark) t.1 ∙ mark))
+          (λ (t : (k ≢ other) × (get_elem? (set mach.views id b) k ≡ some u)).
+          none_marked by key s o id v b at idle.live idle.unmarked k u t.1 mark)
+          (at_set (set mach.views id b) other k spent_view u there)))

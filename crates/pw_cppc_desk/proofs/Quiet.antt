@@ -1,31 +1,28 @@
--- A seat finds no turn held while no other seat took a step.
-use Rattle.std.proofs.Common.{◌≡◌, ◌≢◌, ⊎_elim, ℕ, zero, suc, ◌<◌, List, [], ◌∷◌, false, length, set, cond, eq-eqb, ne_eqb, sym, refl, ap, ◌∙◌, subst, arith}
+-- A seat finds no turn held while no other seat took a step, and each step is in a seat's keeping.
+use Rattle.std.proofs.Common.{◌≡◌, ◌≢◌, ⊎_elim, ℕ, zero, suc, ◌<◌, List, false, set, sym, refl, ap, ◌∙◌, arith}
 use mathlib.Core.Option.{some, some-injective, some-ne-none}
-use mathlib.Core.Logic.{dite}
-use native.Mathlib.Decide.{dec_le, ℕ_discrete}
 use lib.ListN.{get_elem?}
-use Rattle.std.proofs.lemmas.List.{length-map}
 use Rattle.atomic_table.proofs.Lists.{set_else}
 use Rattle.pw_regs.specs.declared.registers.Registers.{Ghosts as Registers}
 use Rattle.pw_cppc.specs.declared.entry.CppcEntry.{CppcEntry}
 use Rattle.pw_books.specs.declared.view.View.{View}
 use Rattle.pw_books.specs.Machine.{Invariant, Machine, spent_view}
-use Rattle.pw_books.specs.Law.{Steps, opened}
+use Rattle.pw_books.specs.Law.{first_view, opened}
 use Rattle.pw_books.specs.Told.{MeetsOther}
 use Rattle.pw_books.specs.Steps.{Kind, May, after, take_turn, find_held, slot_out, slot_back, release_with_entry, release_without_entry}
 use Rattle.pw_books.specs.Steps.{draw_number, miss_draw, split_seat, join_seats, read_made, joined, left_of, right_of}
 use Rattle.pw_books.specs.Books.{count_in}
-use Rattle.pw_books.proofs.Lists.{at_set, at_snoc, bit_zero, some_at}
+use Rattle.pw_books.proofs.Lists.{at_set, at_snoc, bit_zero}
 use Rattle.pw_books.proofs.Keeps.{opens, step_keeps}
 use Rattle.pw_books.proofs.Told.{is_told}
 use Rattle.pw_books.proofs.Turns.{holder}
-use Rattle.pw_cppc_desk.specs.declared.setup.Setup.{Setup}
-use Rattle.pw_cppc_desk.specs.declared.track.Track.{Track}
 use Rattle.pw_cppc_desk.specs.Slots.{MayBe, seat_of}
-use Rattle.pw_cppc_desk.specs.Rule.{given_of}
-use Rattle.pw_cppc_desk.specs.Runs.{IsFind, NoFind, QuietAreNotMet}
-use Rattle.pw_cppc_desk.specs.Tracks.{own_kind, steps_of}
-use Rattle.pw_cppc_desk.proofs.Running.{Run, none_past}
+use Rattle.pw_cppc_desk.specs.Rule.{given_of, showing}
+use Rattle.pw_cppc_desk.specs.Runs.{IsFind, QuietAreNotMet, StepsAreKept}
+use Rattle.pw_cppc_desk.specs.Tracks.{own_kind}
+use Rattle.pw_books.proofs.Finding.{none_found}
+use Rattle.pw_books.proofs.Ruled.{all_kept}
+use Rattle.pw_cppc_desk.proofs.Running.{grows}
 use Rattle.pw_cppc_desk.proofs.Shown.{good_first}
 
 -- no other seat has the turn
@@ -93,46 +90,21 @@ own_find (split_seat n parts) f = f
 own_find (join_seats k w) f = f
 own_find find_held f = f
 
--- who took no step in the run didn't take its first
-first_is : (j : ℕ) (s : ℕ × View CppcEntry × Kind CppcEntry) (ss : Run) → ((i : ℕ) → i ≢ j → steps_of i (s ∷ ss) ≡ []) → s.0 ≡ j
-first_is j s ss alone = dite (ℕ_discrete s.0 j) (λ e. e) (λ ne. absurd
-    (let here : steps_of s.0 (s ∷ ss) ≡ own_kind s.2 ∷ steps_of s.0 ss = ap (λ b. cond b (own_kind s.2 ∷ steps_of s.0 ss) (steps_of s.0 ss)) (eq-eqb s.0 s.0 refl) in
-    omega (arith, ap (length {A = Kind CppcEntry}) (sym here ∙ alone s.0 ne))))
-
-quiet : (Good : List CppcEntry → Type 0) (m : Machine CppcEntry) → Invariant seat_of Good m → (j : ℕ) → OthersHoldNone m j → (run : Run) (n : Machine CppcEntry) → Steps seat_of Good m run n
-    → ((i : ℕ) → i ≢ j → steps_of i run ≡ []) → NoFind (steps_of j run)
-quiet Good m inv j none [] n e alone = tt
-quiet Good m inv j none (s ∷ ss) n st alone =
-    let same = first_is j s ss alone in
-    let at : get_elem? m.views j ≡ some s.1 = subst (λ i. get_elem? m.views i ≡ some s.1) same st.0 in
-    let may : May seat_of Good m j s.1 s.2 = subst (λ i. May seat_of Good m i s.1 s.2) same st.1 in
-    let next = after seat_of m j s.1 s.2 in
-    let on : Steps seat_of Good next ss n = subst (λ i. Steps seat_of Good (after seat_of m i s.1 s.2) ss n) same st.2 in
-    let rest = quiet Good next (step_keeps seat_of Good m j s.1 s.2 inv at may) j (still_none Good m inv j s.1 at none s.2) ss n on
-    (λ i ne. sym (ap (λ b. cond b (own_kind s.2 ∷ steps_of i ss) (steps_of i ss)) (ne_eqb s.0 i (λ e. ne (sym e ∙ same)))) ∙ alone i ne) in
-    subst NoFind (ap (λ b. cond b (own_kind s.2 ∷ steps_of j ss) (steps_of j ss)) (sym (eq-eqb s.0 j same)))
-    ((λ f. not_find Good m inv j s.1 at none s.2 may (own_find s.2 f)), rest)
+-- the machine has its invariant, and no seat but this one has the turn
+abbrev Quiet : (List CppcEntry → Type 0) → Machine CppcEntry → ℕ → Type 0
+Quiet Good m j = Invariant seat_of Good m × OthersHoldNone m j
 
 start_holds : OthersHoldNone opened 0
 start_holds zero u ne there = absurd (ne refl)
 start_holds (suc i) u ne there = absurd (some-ne-none u (sym there))
 
-module _ {R : Type 0} (by : Registers R) (key : Setup R) where
-  from_start : (j : ℕ) (run : Run) (n : Machine CppcEntry) → Steps seat_of (MayBe (given_of by key)) opened run n → ((i : ℕ) → i ≢ j → steps_of i run ≡ [])
-      → NoFind (steps_of j run)
-  from_start zero run n st alone =
-      quiet (MayBe (given_of by key)) opened (opens seat_of (MayBe (given_of by key)) (good_first by key)) 0 start_holds run n st alone
-  from_start (suc j) [] n st alone = tt
-  from_start (suc j) (s ∷ ss) n st alone =
-      let same = first_is (suc j) s ss alone in
-      let there : get_elem? (opened {E = CppcEntry}).views (suc j) ≡ some s.1 = subst (λ i. get_elem? (opened {E = CppcEntry}).views i ≡ some s.1) same st.0 in
-      absurd (some-ne-none s.1 (sym there))
-
 module _ {R : Type 0} (by : Registers R) where
   pub quiet_are_not_met : QuietAreNotMet by
   quiet_are_not_met key s o j t at live others =
-      let alone : (i : ℕ) → i ≢ j → steps_of i o.run ≡ [] = λ i ne. dite (dec_le (length s.views) i)
-      (λ past. none_past (MayBe (given_of by key)) opened o.run o.machine i o.ran
-      (omega (arith, past, ap (length {A = View CppcEntry}) o.views, length-map s.views (λ (t : Track). t.view))))
-      (λ low. let u = some_at s.views i (omega (arith, low)) in let h = others i u.0 ne u.1 in sym (o.own i u.0 u.1 h.0) ∙ h.1) in
-      subst NoFind (sym (o.own j t at live)) (from_start by key j o.run o.machine o.ran alone)
+      let Good = MayBe (given_of by key) in
+      none_found (showing by key) IsFind own_find (Quiet Good) (λ m j v k q at may. not_find Good m q.0 j v at q.1 k may)
+      (λ m j v k q at may. (step_keeps seat_of Good m j v k q.0 at may, still_none Good m q.0 j v at q.1 k))
+      opened first_view refl (opens seat_of Good (good_first by key), start_holds) (grows Good) s.words s.homes s.views o j t at live others
+
+  pub steps_are_kept : StepsAreKept by
+  steps_are_kept key s o = all_kept (showing by key) (grows (MayBe (given_of by key))) opened s.words s.homes s.views o

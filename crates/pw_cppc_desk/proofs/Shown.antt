@@ -1,5 +1,5 @@
 -- The table after a step of the machine.
-use Rattle.std.proofs.Common.{◌≡◌, ◌≢◌, ◌≤◌, ⊎_elim, ℕ, ◌<◌, List, [], ◌∷◌, ◌++◌, true, false, length, get_or, set, sym, refl, ap, ◌∙◌, subst, arith}
+use Rattle.std.proofs.Common.{◌≡◌, ◌≢◌, ◌≤◌, ⊎_elim, ℕ, ◌<◌, List, [], true, false, length, get_or, set, ap, ◌∙◌, subst, arith}
 use mathlib.Core.Option.{some}
 use lib.ListN.{get_elem?}
 use Rattle.atomic_table.specs.Table.{Act, State, Valid, carried_after, stepped}
@@ -15,14 +15,11 @@ use Rattle.pw_books.proofs.Keeps.{law}
 use Rattle.pw_books.specs.Machine.{Invariant}
 use Rattle.pw_books.specs.Law.{opened}
 use Rattle.pw_cppc.proofs.Joining.{legal-empty}
-use Rattle.atomic_table.proofs.Lists.{at_map}
-use Rattle.pw_cppc_desk.specs.declared.track.Track.{Track}
-use Rattle.pw_cppc_desk.specs.Tracks.{did, own_kind, steps_of}
-use Rattle.pw_cppc_desk.proofs.Running.{map-set, one_more, steps_here, steps_there}
-use Rattle.pw_cppc_desk.proofs.Keeping.{kept_more}
+use Rattle.pw_books.proofs.Ruled.{shows as shown_step, view_at as shown_view}
+use Rattle.pw_cppc_desk.specs.Tracks.{Track, did}
 use Rattle.pw_cppc_desk.specs.declared.setup.Setup.{Setup}
 use Rattle.pw_cppc_desk.specs.Slots.{Given, Homes, IsHeld, MayBe, seat_of}
-use Rattle.pw_cppc_desk.specs.Rule.{IsHome, Ruled, given_of, words_of}
+use Rattle.pw_cppc_desk.specs.Rule.{IsHome, Ruled, given_of, showing, words_of}
 use Rattle.pw_cppc_desk.specs.Plays.{Tracked}
 
 abbrev pub Table : Type 0 → Type 0
@@ -46,19 +43,7 @@ module _ {R : Type 0} (by : Registers R) where
 
   pub view_at : (key : Setup R) (s : Table R) (o : Ruled by key s) (id : ℕ) (x : Track) → get_elem? s.views id ≡ some x
       → get_elem? o.machine.views id ≡ some x.view
-  view_at key s o id x at = subst (λ l. get_elem? l id ≡ some x.view) o.views (at_map (λ (t : Track). t.view) s.views id x at)
-
-  -- each live seat's steps are its own after one more step of one of them
-  pub own_more : (key : Setup R) (s : Table R) (o : Ruled by key s) (id : ℕ) (x : Track) (k : Kind CppcEntry) (y : Track)
-      → get_elem? s.views id ≡ some x → 0 < x.view.parts → y.own ≡ x.own ++ own_kind k ∷ [] → (j : ℕ) (t : Track)
-      → get_elem? (set s.views id y) j ≡ some t → 0 < t.view.parts → t.own ≡ steps_of j (o.run ++ (id, x.view, k) ∷ [])
-  own_more key s o id x k y at live grows j t there lives = ⊎_elim
-      (λ (b : (j ≡ id) × (y ≡ t)). ap (λ (t : Track). t.own) (sym b.1)
-      ∙ (grows ∙ (ap (λ l. l ++ own_kind k ∷ []) (o.own id x at live)
-      ∙ (sym (steps_here o.run id x.view k) ∙ ap (λ j. steps_of j (o.run ++ (id, x.view, k) ∷ [])) (sym b.0)))))
-      (λ (b : (j ≢ id) × (get_elem? s.views j ≡ some t)). o.own j t b.1 lives
-      ∙ sym (steps_there o.run id j x.view k (λ e. b.0 (sym e))))
-      (at_set s.views id j y t there)
+  view_at key s o = shown_view (showing by key) opened s.words s.homes s.views o
 
   -- a seat takes a step
   pub shows : (key : Setup R) (s : Table R) (o : Ruled by key s) (id : ℕ) (x : Track) (k : Kind CppcEntry) (w : View CppcEntry) (ws : List ℕ) (hs : Homes R)
@@ -67,16 +52,8 @@ module _ {R : Type 0} (by : Registers R) where
       → ws ≡ words_of (after seat_of o.machine id x.view k)
       → IsHome by (given_of by key) (after seat_of o.machine id x.view k) hs
       → Ruled by key record { words = ws; homes = hs; views = set s.views id (did k w x) }
-  shows key s o id x k w ws hs at live may same words home = record {
-    machine = after seat_of o.machine id x.view k;
-    run = o.run ++ (id, x.view, k) ∷ [];
-    ran = one_more (MayBe (given_of by key)) opened o.run o.machine id x.view k o.ran (view_at key s o id x at) may;
-    words = words;
-    views = map-set (λ (t : Track). t.view) s.views id (did k w x) ∙ (ap (λ vs. set vs id w) o.views ∙ sym same);
-    own = own_more key s o id x k (did k w x) at live refl;
-    kept = kept_more o.run s.views o.kept id x at (o.own id x at live) x.view k w;
-    home = home;
-  }
+  shows key s o id x k w ws hs at live may same words home =
+      shown_step (showing by key) opened s.words s.homes s.views o id x at live k may w ws hs same words home
 
   module _ (key : Setup R) (s : Table R) (o : Ruled by key s) where
     -- where a view without the mark steps, no view has it after the step

@@ -15,8 +15,7 @@ use Rattle.pw_cppc_desk.specs.Slots.{Given, Homes, IsHeld, seat_of}
 use Rattle.pw_cppc_desk.specs.Rule.{Ruled, first_of, given_of}
 use Rattle.pw_cppc_desk.specs.Plays.{IsFirst, IsFound, IsGrown, Tracked}
 use Rattle.pw_cppc_desk.specs.Plays.{claimed_step, drew_step, gone_step, led_step, looked_step, opened_step, put_step}
-use Rattle.pw_cppc_desk.specs.declared.track.Track.{Track}
-use Rattle.pw_cppc_desk.specs.Tracks.{joined_track, left_track, right_track, spent_track}
+use Rattle.pw_cppc_desk.specs.Tracks.{Track, joined_track, left_track, right_track, spent_track}
 
 module _ {R : Type 0} (by : Registers R) where
   -- # The start

@@ -12,8 +12,7 @@ use Rattle.pw_books.specs.Steps.{Kind, take_turn, find_held, slot_out, slot_back
 use Rattle.pw_books.specs.Steps.{miss_draw, read_made}
 use Rattle.pw_books.specs.Steps.{IsSpare, drawn, entered, in_hand, in_place, led, let_go, looked, met_with, missed}
 use Rattle.pw_books.specs.Told.{MeetsOther}
-use Rattle.pw_cppc_desk.specs.declared.track.Track.{Track}
-use Rattle.pw_cppc_desk.specs.Tracks.{keeping, more}
+use Rattle.pw_cppc_desk.specs.Tracks.{Track, keeping, more}
 use Rattle.pw_cppc_desk.specs.Slots.{Given, IsHeld, seat_of}
 
 -- a seat's view, and the slot where it has it in hand

@@ -1,5 +1,5 @@
 -- The rule of the table: it shows a desk's machine.
-use Rattle.std.specs.Prelude.{◌≡◌, ℕ, ◌<◌, List, [], ◌∷◌, true, false, Option, Some, None, map}
+use Rattle.std.specs.Prelude.{◌≡◌, ℕ, List, [], ◌∷◌, true, false, Option, Some, None}
 use mathlib.Core.Option.{some}
 use lib.ListN.{get_elem?}
 use Rattle.atomic_table.specs.Table.{State}
@@ -10,9 +10,10 @@ use Rattle.pw_cppc_desk.specs.Ledgered.{Ledgered}
 use Rattle.pw_books.specs.declared.view.View.{View}
 use Rattle.pw_books.specs.Machine.{Machine}
 use Rattle.pw_books.specs.Steps.{Kind}
-use Rattle.pw_books.specs.Law.{Steps, first_view, opened}
-use Rattle.pw_cppc_desk.specs.declared.track.Track.{Track}
-use Rattle.pw_cppc_desk.specs.Tracks.{AreKept, fresh, steps_of}
+use Rattle.pw_books.specs.Law.{desk, first_view, opened}
+use Rattle.pw_books.specs.Ruled.{Showing, Shows}
+use Rattle.pw_books.specs.Tracks.{fresh}
+use Rattle.pw_cppc_desk.specs.Tracks.{Track, own_kind}
 use Rattle.pw_cppc_desk.specs.declared.setup.Setup.{Setup}
 use Rattle.pw_cppc_desk.specs.Slots.{Given, Homes, IsHeld, MayBe, seat_of}
 
@@ -36,14 +37,16 @@ module _ {R : Type 0} (by : Registers R) where
     pub blank : (j : ℕ) (v : View CppcEntry) → get_elem? m.views j ≡ some v → v.mark ≡ true → v.out ≡ false
         → get_elem? hs 0 ≡ some (some None)
 
-  -- Allowed steps lead from the opened machine to one that the words, the views and the slot at home show. Of these steps each live
-  -- seat's own are those that it took, and those of each seat that was joined are in another's keeping.
-  pub record Ruled (key : Setup R) (s : State (Option (Ledgered R)) Track) : Type 0 where
-    pub machine : Machine CppcEntry
-    pub run : List (ℕ × View CppcEntry × Kind CppcEntry)
-    pub ran : Steps seat_of (MayBe (given_of key)) opened run machine
-    pub words : s.words ≡ words_of machine
-    pub views : map (λ (t : Track). t.view) s.views ≡ machine.views
-    pub own : (j : ℕ) (t : Track) → get_elem? s.views j ≡ some t → 0 < t.view.parts → t.own ≡ steps_of j run
-    pub kept : AreKept run s.views
-    pub home : IsHome (given_of key) machine s.homes
+  -- What the table shows of the machine.
+  abbrev pub showing : Setup R → Showing (Machine CppcEntry) (View CppcEntry) (Kind CppcEntry) (Homes R)
+  showing key = record {
+    turning = desk seat_of (MayBe (given_of key));
+    parts = λ v. v.parts;
+    own_kind = own_kind;
+    words_of = words_of;
+    IsHome = IsHome (given_of key);
+  }
+
+  -- the table shows a machine that comes about from the opened one
+  abbrev pub Ruled : Setup R → State (Option (Ledgered R)) Track → Type 0
+  Ruled key s = Shows (showing key) opened s.words s.homes s.views

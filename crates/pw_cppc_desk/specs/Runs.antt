@@ -1,5 +1,5 @@
 -- What the run tells that the table's rule speaks of.
-use Rattle.std.specs.Prelude.{◌≡◌, ◌≢◌, ◌⊎◌, ℕ, suc, ◌<◌, List, [], ◌∷◌, length, Option, Some}
+use Rattle.std.specs.Prelude.{◌≡◌, ◌≢◌, ℕ, suc, ◌<◌, List, [], length, Option, Some}
 use mathlib.Core.Option.{some}
 use lib.ListN.{get_elem?}
 use Rattle.atomic_table.specs.Table.{State}
@@ -8,13 +8,14 @@ use Rattle.pw_cppc.specs.declared.entry.CppcEntry.{CppcEntry}
 use Rattle.pw_cppc_desk.specs.Ledgered.{Ledgered}
 use Rattle.pw_books.specs.declared.view.View.{View}
 use Rattle.pw_books.specs.Sums.{total}
+use Rattle.pw_books.specs.Runs.{FoundLast as LastFound, NoFind}
+use Rattle.pw_books.specs.Tracks.{in_keeping}
 use Rattle.pw_books.specs.Machine.{Invariant, Machine}
 use Rattle.pw_books.specs.Steps.{Kind, after, find_held}
 use Rattle.pw_books.specs.Law.{opened}
 use Rattle.pw_cppc_desk.specs.declared.setup.Setup.{Setup}
-use Rattle.pw_cppc_desk.specs.declared.track.Track.{Track}
 use Rattle.pw_cppc_desk.specs.Slots.{MayBe, seat_of}
-use Rattle.pw_cppc_desk.specs.Tracks.{in_keeping}
+use Rattle.pw_cppc_desk.specs.Tracks.{Track}
 use Rattle.pw_cppc_desk.specs.Rule.{Ruled, given_of}
 
 -- a step that finds the turn held
@@ -27,21 +28,9 @@ abbrev pub FindsHeld : Machine CppcEntry → Kind CppcEntry → ℕ → Type 0
 FindsHeld m find_held holder = m.turn ≡ suc holder
 FindsHeld m k holder = ⊥
 
--- in none of these steps the seat at this place finds the turn held
-abbrev pub NoneFinds : ℕ → List (ℕ × View CppcEntry × Kind CppcEntry) → Type 0
-NoneFinds j [] = Unit {0}
-NoneFinds j (s ∷ ss) = (s.0 ≡ j → IsFind s.2 → ⊥) × NoneFinds j ss
-
--- where it last finds the turn held, it finds it held by this seat
+-- where the seat at this place last finds the turn held, it finds it held by this seat
 abbrev pub FoundLast : Machine CppcEntry → List (ℕ × View CppcEntry × Kind CppcEntry) → ℕ → ℕ → Type 0
-FoundLast m [] j holder = ⊥
-FoundLast m (s ∷ ss) j holder =
-    ((s.0 ≡ j) × FindsHeld m s.2 holder × NoneFinds j ss) ⊎ FoundLast (after seat_of m s.0 s.1 s.2) ss j holder
-
--- none of these steps finds the turn held
-abbrev pub NoFind : List (Kind CppcEntry) → Type 0
-NoFind [] = Unit {0}
-NoFind (k ∷ ks) = (IsFind k → ⊥) × NoFind ks
+FoundLast = LastFound (after seat_of) IsFind FindsHeld
 
 module _ {R : Type 0} (by : Registers R) where
   -- the machine has its invariant
@@ -63,4 +52,4 @@ module _ {R : Type 0} (by : Registers R) where
   abbrev pub QuietAreNotMet : Type 0
   QuietAreNotMet = (key : Setup R) (s : State (Option (Ledgered R)) Track) → Ruled by key s → (j : ℕ) (t : Track)
       → get_elem? s.views j ≡ some t → 0 < t.view.parts
-      → ((i : ℕ) (u : Track) → i ≢ j → get_elem? s.views i ≡ some u → (0 < u.view.parts) × (u.own ≡ [])) → NoFind t.own
+      → ((i : ℕ) (u : Track) → i ≢ j → get_elem? s.views i ≡ some u → (0 < u.view.parts) × (u.own ≡ [])) → NoFind IsFind t.own

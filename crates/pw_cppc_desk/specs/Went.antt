@@ -6,8 +6,7 @@ use Rattle.pw_cppc_desk.specs.Entries.{entry_as}
 use Rattle.pw_books.specs.declared.view.View.{View}
 use Rattle.pw_books.specs.Steps.{Kind, take_turn, find_held, slot_out, slot_back, release_with_entry, release_without_entry}
 use Rattle.pw_books.specs.Steps.{draw_number, miss_draw, split_seat, join_seats, read_made}
-use Rattle.pw_cppc_desk.specs.declared.track.Track.{Track}
-use Rattle.pw_cppc_desk.specs.Tracks.{Keeping, keeping, more}
+use Rattle.pw_cppc_desk.specs.Tracks.{Track, Keeping, keeping, more}
 use Rattle.pw_cppc_desk.specs.declared.desk.CppcSeat.{CppcSeat}
 use Rattle.pw_cppc_desk.specs.declared.requests.CppcTry.{CppcTry}
 use Rattle.pw_cppc_desk.specs.declared.requests.CppcTry.TheVariants as tried

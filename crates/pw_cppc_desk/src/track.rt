@@ -1,6 +1,5 @@
 use pw_books::View;
 use pw_cppc::CppcEntry;
-use std::collections::LinkedList;
 use std::marker::Model;
 
 /// A kind of step of the desk's machine, as a seat took it. No value of it is made.
@@ -17,10 +16,5 @@ impl Model for Taken {
     ghost view = { λ _. read_made };
 }
 
-/// A seat of the table: its view, the steps of the desk's machine that it took itself, and in a list for
-/// each what the seats took that were joined into it.
-pub struct Track {
-    pub view: View<CppcEntry>,
-    pub own: LinkedList<Taken>,
-    pub kept: LinkedList<LinkedList<Taken>>,
-}
+/// A seat of the table.
+pub type Track = pw_books::Track<View<CppcEntry>, Taken>;

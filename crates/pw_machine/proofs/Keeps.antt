@@ -11,7 +11,8 @@ use Rattle.pw_machine.specs.declared.view.View.{View}
 use Rattle.pw_machine.specs.Machine.{Given, Machine, count_held, holds, leads, Fits, IsOpening, Invariant}
 use Rattle.pw_books.specs.Sums.{names}
 use Rattle.pw_machine.specs.Steps.{Kind, take_record, find_record_held, record_out, record_back, release_record, take_journal, find_journal_held, journal_out, journal_back, release_with_entry, release_without_entry, draw_number, miss_draw, split_seat, join_seats, read_made, May, after}
-use Rattle.pw_machine.specs.Law.{all_held, all_turns, first_view, opened, Steps, TurnLaw}
+use Rattle.pw_machine.specs.Law.{all_held, all_turns, first_view, opened, power, TurnLaw}
+use Rattle.pw_books.proofs.Running.{lasts}
 use Rattle.pw_books.proofs.Lists.{one, none-of, off, once_yes, once_no}
 use Rattle.pw_machine.proofs.Turns.{as_named}
 use Rattle.pw_machine.proofs.Takes.{keeps_take, keeps_lead, keeps_find_record, keeps_find_journal, keeps_record_out, keeps_record_back, keeps_journal_out, keeps_journal_back, keeps_release, keeps_let_go}
@@ -118,9 +119,5 @@ module _ (given : Given) (values : List Part) (sized : length values ≡ record_
     fits = λ k u there. subst (Fits given.plan [] 1 given.count) (first_alone k u there).1 first_fits;
   }
 
-lasts : (m : Machine) → Invariant m → (steps : List (ℕ × View × Kind)) (end : Machine) → Steps m steps end → Invariant end
-lasts m i [] end e = subst Invariant e i
-lasts m i (s ∷ ss) end e = lasts (after m s.0 s.1 s.2) (step_keeps m s.0 s.1 s.2 i e.0 e.1) ss end e.2
-
 pub law : TurnLaw
-law given values steps end sized e = lasts (opened given values) (opens given values sized) steps end e
+law given values steps end sized e = lasts power Invariant step_keeps (opened given values) (opens given values sized) steps end e

@@ -7,6 +7,7 @@ use Rattle.pw_model.specs.Records.{record_count}
 use Rattle.pw_machine.specs.declared.view.Held.{Held}
 use Rattle.pw_machine.specs.declared.view.View.{View}
 use Rattle.pw_books.specs.Books.{calls_of}
+use Rattle.pw_books.specs.Runs.{Turning, Steps as RunSteps}
 use Rattle.pw_machine.specs.Machine.{Given, Machine, held_as, spent_view, Invariant}
 use Rattle.pw_machine.specs.Steps.{Kind, May, after}
 
@@ -44,10 +45,13 @@ opened given values = record {
   views = first_view values ∷ [];
 }
 
+-- the machine as runs have it, of any kind
+abbrev pub power : Turning Machine View Kind
+power = record { views = λ m. m.views; May = May; after = after }
+
 -- the steps lead from one machine to the other
 abbrev pub Steps : Machine → List (ℕ × View × Kind) → Machine → Type 0
-Steps m [] end = m ≡ end
-Steps m (s ∷ ss) end = (get_elem? m.views s.0 ≡ some s.1) × May m s.0 s.1 s.2 × Steps (after m s.0 s.1 s.2) ss end
+Steps = RunSteps power
 
 -- each kind of step keeps the invariant
 abbrev pub StepKeeps : Type 0

@@ -14,7 +14,7 @@ use Rattle.pw_machine.proofs.Plans.{next_journal}
 use Rattle.pw_regs.specs.declared.registers.Registers.{Ghosts as Registers}
 use Rattle.pw_rule.specs.Rule.{given_of, opening_parts, start_of}
 use Rattle.pw_rule.specs.Runs.{EachHoldsAll, HoldsAll, JournalComesLast}
-use Rattle.pw_rule.proofs.Running.{Run}
+use Rattle.pw_books.proofs.Running.{Run}
 use Rattle.pw_rule.proofs.Shown.{length_parts}
 
 one_holds : (m : Machine) → Invariant m → (j : ℕ) (v : View) (k : Kind) → get_elem? m.views j ≡ some v → May m j v k → HoldsAll m v k
@@ -36,7 +36,7 @@ one_holds m i j v (split_seat n parts) at may = tt
 one_holds m i j v (join_seats k w) at may = tt
 one_holds m i j v read_made at may = tt
 
-each_holds : (m : Machine) → Invariant m → (run : Run) (n : Machine) → Steps m run n → EachHoldsAll m run
+each_holds : (m : Machine) → Invariant m → (run : Run View Kind) (n : Machine) → Steps m run n → EachHoldsAll m run
 each_holds m i [] n e = tt
 each_holds m i (s ∷ ss) n st = (
   one_holds m i s.0 s.1 s.2 st.0 st.1,

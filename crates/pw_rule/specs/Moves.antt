@@ -28,8 +28,7 @@ use Rattle.pw_rule.specs.Contents.{AreOpening, Homes, IsRecordOf, LiesAt}
 use Rattle.pw_rule.specs.Promises.{IsPromised, Promise}
 use Rattle.pw_rule.specs.Rule.{Ruled, first_of, given_of, promise_of}
 use Rattle.pw_rule.specs.Plays.{IsFirst, IsFound, IsGrown, Tracked, claimed_step, drew_step, gave_step, gone_step, led_step, looked_step, opened_by_step, opened_step, put_step, took_step}
-use Rattle.pw_rule.specs.declared.track.Track.{Track}
-use Rattle.pw_rule.specs.Tracks.{joined_track, left_track, right_track, spent_track}
+use Rattle.pw_rule.specs.Tracks.{Track, joined_track, left_track, right_track, spent_track}
 
 -- what the seat noted tells that this turn comes next on the request's route: it does in each state that fits what it noted
 abbrev pub TellsNext : Plan → View → Request → ℕ → Type 0

@@ -1,6 +1,5 @@
 use Rattle.pw_cppc_desk.proofs.Meetings.{has_invariant, met_was_found}
-use Rattle.pw_cppc_desk.proofs.Keeping.{steps_are_kept}
-use Rattle.pw_cppc_desk.proofs.Quiet.{quiet_are_not_met}
+use Rattle.pw_cppc_desk.proofs.Quiet.{quiet_are_not_met, steps_are_kept}
 use Rattle.pw_cppc_desk.proofs.rule_laws.runs_tell.Goals as goal
 
 pub returns-clause-invariant : goal.returns-clause-invariant
