@@ -1,9 +1,10 @@
 -- Beginnings of histories, and books.
-use Rattle.std.proofs.Common.{◌≡◌, ◌≢◌, ℕ, ◌+◌, ◌<◌, List, [], ◌∷◌, ◌++◌, Bool, true, false, Option, Some, None, length, cond, eqb, eq-eqb, ne_eqb, sym, refl, ap, ◌∙◌, subst, arith, append_assoc, append-nil, length-append}
+use Rattle.std.proofs.Common.{◌≡◌, ◌≢◌, ℕ, ◌+◌, ◌<◌, List, [], ◌∷◌, ◌++◌, Bool, true, false, Option, Some, None, length, cond, eqb, eq-eqb, ne_eqb, sym, refl, ap, ◌∙◌, subst, arith, append_assoc, append-nil, length-append, max}
+use Rattle.std.proofs.Math.Nat.{max-eq_left, max-eq_right, suc-max-suc}
 use mathlib.Core.Logic.{dite}
 use native.Mathlib.Decide.{ℕ_discrete}
 use Rattle.pw_books.specs.declared.calls.Calls.{Calls}
-use Rattle.pw_books.specs.Books.{Begins, Reads, IsPrefix, longer, entries_of, count_in, list_of, furthest, Knows, grown, without}
+use Rattle.pw_books.specs.Books.{calls_of, Begins, Reads, IsPrefix, longer, entries_of, count_in, list_of, furthest, Knows, grown, without}
 use Rattle.pw_books.proofs.Lists.{one, none-of}
 
 module _ {E : Type 0} where
@@ -42,6 +43,24 @@ module _ {E : Type 0} where
   nil_of [] e = refl
   nil_of (x ∷ xs) e = absurd (omega arith)
 
+  -- nothing was added
+  pub none_added : (xs ys : List E) → xs ≡ xs ++ ys → ys ≡ []
+  none_added xs ys same = nil_of ys (omega (arith, ap (length {A = E}) same, length-append xs ys))
+
+  pub length_longer : (xs ys : List E) → length (longer xs ys) ≡ max (length xs) (length ys)
+  length_longer [] ys = sym (max-eq_right (omega arith))
+  length_longer (x ∷ xs) [] = sym (max-eq_left (omega arith))
+  length_longer (x ∷ xs) (y ∷ ys) = omega (arith, length_longer xs ys, suc-max-suc (length xs) (length ys))
+
+  -- a number that isn't there isn't taken away
+  pub without_none : (n : ℕ) (book : List (Calls E)) → count_in n book ≡ 0 → without n book ≡ book
+  without_none n [] e = refl
+  without_none n (c ∷ cs) e = go (eqb c.seat n) e (without_none n cs (omega (arith, e)))
+    where
+      go : (b : Bool) → cond b 1 0 + count_in n cs ≡ 0 → without n cs ≡ cs → cond b (without n cs) (c ∷ without n cs) ≡ c ∷ cs
+      go true e r = absurd (omega (arith, e))
+      go false e r = ap (λ l. c ∷ l) r
+
   -- a list between two equal lists
   squeezed : (a b c : List E) → Begins b a → Begins c b → a ≡ c → a ≡ b
   squeezed a b c p q e =
@@ -64,6 +83,13 @@ module _ {E : Type 0} where
         (λ e. ap (λ b. count_in k (cond b (without n cs) (c ∷ without n cs))) is ∙ omega (arith, t.0 e, none-of c.seat k (λ s. other (s ∙ sym e)))),
         (λ ne. ap (λ b. count_in k (cond b (without n cs) (c ∷ without n cs))) is ∙ omega (arith, t.1 ne)),
       ))
+
+  -- a number that stands once goes to a book of its own
+  pub count_split : (n k : ℕ) (book : List (Calls E)) → count_in n book ≡ 1
+      → count_in k (without n book) + count_in k (calls_of {E = E} n [] ∷ []) ≡ count_in k book
+  count_split n k book once = let s = count_without n k book in dite (ℕ_discrete n k)
+      (λ e. let own : count_in k book ≡ 1 = subst (λ x. count_in x book ≡ 1) e once in omega (arith, s.0 e, one n k e, own))
+      (λ ne. omega (arith, s.1 ne, none-of n k ne))
 
   -- a list that has seen all is the longer one
   pub longer_whole : (history xs : List E) → Begins history xs → longer xs history ≡ history
@@ -157,6 +183,12 @@ module _ {E : Type 0} (seat_of : E → ℕ) where
       (λ e. subst (λ x. entries_of seat_of x a ≡ entries_of seat_of x b) e (k.0 ∙ sym l.0))
       (λ ne. known_both n cs a b (omega (arith, none-of c.seat n ne)) k.1 l.1)
 
+  -- past what has all entries of the book's numbers none is of them
+  pub none_since : (history seen : List E) (b : Begins history seen) (book : List (Calls E)) → Knows seat_of book history → Knows seat_of book seen
+      → (n : ℕ) → 0 < count_in n book → entries_of seat_of n b.0 ≡ []
+  none_since history seen b book knows known n more = none_added (entries_of seat_of n seen) (entries_of seat_of n b.0)
+      (sym (known_both n book history seen more knows known) ∙ (ap (entries_of seat_of n) b.1 ∙ entries_of-append n seen b.0))
+
   -- a number's list in the book is that of the history
   pub list_is : (n : ℕ) (book : List (Calls E)) (history : List E) → 0 < count_in n book → Knows seat_of book history
       → entries_of seat_of n history ≡ list_of n book
@@ -186,3 +218,31 @@ module _ {E : Type 0} (seat_of : E → ℕ) where
     lists = knows_other book history e z r.lists;
     entries = r.entries;
   }
+
+  -- a number goes, to a new seat where it has no entry
+  pub reads_without : (n : ℕ) (history seen : List E) (told : Option (List E)) (book : List (Calls E)) → Reads seat_of history seen told book
+      → Reads seat_of history seen told (without n book)
+  reads_without n history seen told book r = record {
+    begins = r.begins;
+    begins_too = r.begins_too;
+    lists = knows_without n book history r.lists;
+    entries = knows_without n book (furthest told seen) r.entries;
+  }
+
+  pub reads_new : (n : ℕ) (history seen : List E) → Begins history seen → entries_of seat_of n history ≡ []
+      → Reads seat_of history seen None (calls_of n [] ∷ [])
+  reads_new n history seen b e = record { begins = b; begins_too = tt; lists = (e, tt); entries = (empty_front n history seen b e, tt) }
+
+  -- two views are joined that were told nothing since
+  pub reads_joined : (history seen second : List E) (told other : Option (List E)) (book more : List (Calls E)) → told ≡ None → other ≡ None
+      → Reads seat_of history seen told book → Reads seat_of history second other more → Reads seat_of history seen (Some second) (book ++ more)
+  reads_joined history seen second told other book more none none-too r q =
+      let known : Knows seat_of book seen = subst (λ o. Knows seat_of book (furthest o seen)) none r.entries in
+      let known-too : Knows seat_of more second = subst (λ o. Knows seat_of more (furthest o second)) none-too q.entries in
+      let far = longer_both history second seen q.begins r.begins in record {
+        begins = r.begins;
+        begins_too = q.begins;
+        lists = knows-append book more history r.lists q.lists;
+        entries = knows-append book more (longer second seen) (knows_between book history (longer second seen) seen far.2 far.0 r.lists known)
+            (knows_between more history (longer second seen) second far.1 far.0 q.lists known-too);
+      }

@@ -6,7 +6,7 @@ use Rattle.std.specs.List.{AllByRecursion}
 use Rattle.pw_books.specs.declared.view.View.{View}
 use Rattle.pw_books.specs.Books.{Begins, entries_of}
 use Rattle.pw_books.specs.Machine.{Machine}
-use Rattle.pw_books.specs.Steps.{Kind, take_turn, find_held, slot_out, slot_back, release_with_entry, release_without_entry, draw_number, miss_draw, split_seat, join_seats, read_made, May, after}
+use Rattle.pw_books.specs.Steps.{Kind, release_with_entry, May, after}
 use Rattle.pw_books.specs.Law.{Steps, opened}
 use Rattle.pw_books.specs.Histories.{ComesAbout, HistoriesComeAbout, MayComeAbout}
 use Rattle.pw_books.proofs.Keeps.{law}
@@ -47,16 +47,7 @@ module _ {E : Type 0} (seat_of : E → ℕ) (Good : List E → Type 0) where
   step_good : (m : Machine E) (j : ℕ) (v : View E) (k : Kind E) → May seat_of Good m j v k → AllGood m.history
       → AllGood (after seat_of m j v k).history
   step_good m j v (release_with_entry e count) may a = all_more m.history e a may.good
-  step_good m j v (take_turn count) may a = a
-  step_good m j v find_held may a = a
-  step_good m j v slot_out may a = a
-  step_good m j v slot_back may a = a
-  step_good m j v (release_without_entry count) may a = a
-  step_good m j v draw_number may a = a
-  step_good m j v miss_draw may a = a
-  step_good m j v (split_seat n parts) may a = a
-  step_good m j v (join_seats k w) may a = a
-  step_good m j v read_made may a = a
+  step_good m j v k may a = a
 
   steps_good : (m : Machine E) (steps : List (ℕ × View E × Kind E)) (end : Machine E) → Steps seat_of Good m steps end → AllGood m.history
       → AllGood end.history

@@ -1,5 +1,5 @@
 -- Lists read by index, sums, and 1 for what is so.
-use Rattle.std.proofs.Common.{◌≡◌, ◌≢◌, ◌⊎◌, inl, inr, ⊎_elim, ℕ, zero, suc, ◌+◌, ◌<◌, ◌≤◌, List, [], ◌∷◌, ◌++◌, Bool, true, false, true≢false, length, map, get_or, set, eqb, ltb, eq-eqb, ne_eqb, lt-ltb, le-ltb, sym, refl, ap, ◌∙◌, arith, Option, Some, None, is_none}
+use Rattle.std.proofs.Common.{◌≡◌, ◌≢◌, ◌⊎◌, inl, inr, ⊎_elim, ℕ, zero, suc, ◌+◌, ◌<◌, ◌≤◌, List, [], ◌∷◌, ◌++◌, Bool, true, false, true≢false, length, map, get_or, set, eqb, ltb, eq-eqb, ne_eqb, lt-ltb, le-ltb, sym, refl, ap, ◌∙◌, subst, arith, Option, Some, None, is_none}
 use mathlib.Core.Option.{some, some-injective, some-ne-none}
 use mathlib.Core.Logic.{dite}
 use native.Mathlib.Decide.{ℕ_discrete, dec_le}
@@ -69,6 +69,26 @@ module _ {A : Type 0} where
   pub total_some : (g : A → ℕ) (l : List A) → 0 < total g l → (j : ℕ) × (v : A) × (get_elem? l j ≡ some v) × (0 < g v)
   total_some g [] h = absurd (omega arith)
   total_some g (x ∷ xs) h = dite (ℕ_discrete (g x) 0) (λ z. let t = total_some g xs (omega arith) in (suc t.0, t.1, t.2, t.3)) (λ nz. (zero, x, refl, omega arith))
+
+-- what is so of each element, where one is set, and besides one more put behind or another set
+module _ {A : Type 0} (P : ℕ → A → Type 0) (l : List A) (i : ℕ) (a : A) (here : P i a) (other : (j : ℕ) (b : A) → j ≢ i → get_elem? l j ≡ some b → P j b) where
+  pub set_each : (j : ℕ) (b : A) → get_elem? (set l i a) j ≡ some b → P j b
+  set_each j b there = ⊎_elim
+      (λ (t : (j ≡ i) × (a ≡ b)). subst (λ j. P j b) (sym t.0) (subst (P i) t.1 here))
+      (λ (t : (j ≢ i) × (get_elem? l j ≡ some b)). other j b t.0 t.1)
+      (at_set l i j a b there)
+
+  pub more_each : (r : A) → ((j : ℕ) → P j r) → (j : ℕ) (b : A) → get_elem? (set l i a ++ r ∷ []) j ≡ some b → P j b
+  more_each r new j b there = ⊎_elim
+      (λ (before : get_elem? (set l i a) j ≡ some b). set_each j b before)
+      (λ (last : r ≡ b). subst (P j) last (new j))
+      (at_snoc (set l i a) r b j there)
+
+  pub both_each : (k : ℕ) (r : A) → P k r → (j : ℕ) (b : A) → get_elem? (set (set l i a) k r) j ≡ some b → P j b
+  both_each k r gone j b there = ⊎_elim
+      (λ (t : (j ≡ k) × (r ≡ b)). subst (λ j. P j b) (sym t.0) (subst (P k) t.1 gone))
+      (λ (t : (j ≢ k) × (get_elem? (set l i a) j ≡ some b)). set_each j b t.1)
+      (at_set (set l i a) k j r b there)
 
 -- what is found in a list stands below its length
 pub elem_below : {A : Type 0} (l : List A) (i : ℕ) (a : A) → get_elem? l i ≡ some a → i < length l

@@ -1,11 +1,12 @@
 -- A run with one more step, and the steps that a seat took in it.
-use Rattle.std.proofs.Common.{◌≡◌, ◌≢◌, ℕ, zero, suc, ◌≤◌, List, [], ◌∷◌, ◌++◌, Bool, true, false, length, map, set}
+use Rattle.std.proofs.Common.{◌≡◌, ◌≢◌, ◌⊎◌, ⊎_elim, ℕ, zero, suc, ◌≤◌, List, [], ◌∷◌, ◌++◌, Bool, true, false, length, map, set}
 use Rattle.std.proofs.Common.{cond, eqb, eq-eqb, ne_eqb, sym, refl, ap, ◌∙◌, subst, arith}
+use Rattle.std.proofs.lemmas.List.{length-append, length-set}
 use mathlib.Core.Option.{some}
 use lib.ListN.{get_elem?}
 use Rattle.pw_books.specs.Runs.{Steps, Turning}
 use Rattle.pw_books.specs.Tracks.{steps_of}
-use Rattle.pw_books.proofs.Lists.{elem_below}
+use Rattle.pw_books.proofs.Lists.{both_each, elem_below, more_each, set_each}
 
 abbrev pub Run : Type 0 → Type 0 → Type 0
 Run V K = List (ℕ × V × K)
@@ -13,6 +14,42 @@ Run V K = List (ℕ × V × K)
 -- no seat's place goes
 abbrev pub Grows : {M V K : Type 0} → Turning M V K → Type 0
 Grows {M = M} {V = V} {K = K} T = (m : M) (j : ℕ) (v : V) (k : K) → length (T.views m) ≤ length (T.views (T.after m j v k))
+
+-- How a step changes the views: it sets its seat's, and besides it may put one behind them or set another, which is such a one.
+abbrev pub Changes : {V : Type 0} → (V → Type 0) → List V → ℕ → List V → Type 0
+Changes {V = V} Such vs j ws =
+    ((w : V) × (ws ≡ set vs j w)) ⊎ (((w : V) × (r : V) × Such r × (ws ≡ set vs j w ++ r ∷ [])) ⊎ ((w : V) × (r : V) × (k : ℕ) × Such r × (ws ≡ set (set vs j w) k r)))
+
+module _ {V : Type 0} (Such : V → Type 0) (vs : List V) (j : ℕ) (ws : List V) (c : Changes Such vs j ws) where
+  pub never_narrow : length vs ≤ length ws
+  never_narrow = ⊎_elim
+      (λ (a : (w : V) × (ws ≡ set vs j w)). omega (arith, ap (length {A = V}) a.1, length-set vs j a.0))
+      (⊎_elim
+      (λ (a : (w : V) × (r : V) × Such r × (ws ≡ set vs j w ++ r ∷ [])).
+      omega (arith, ap (length {A = V}) a.3, length-append (set vs j a.0) (a.1 ∷ []), length-set vs j a.0))
+      (λ (a : (w : V) × (r : V) × (k : ℕ) × Such r × (ws ≡ set (set vs j w) k r)).
+      omega (arith, ap (length {A = V}) a.4, length-set (set vs j a.0) a.2 a.1, length-set vs j a.0)))
+      c
+
+  -- so all other seats' views are such ones, where they were
+  pub others_such : ((i : ℕ) (u : V) → i ≢ j → get_elem? vs i ≡ some u → Such u) → (i : ℕ) (u : V) → i ≢ j → get_elem? ws i ≡ some u → Such u
+  others_such all i u ne there = ⊎_elim
+      (λ (a : (w : V) × (ws ≡ set vs j w)). set_each P vs j a.0 here other i u (subst (λ l. get_elem? l i ≡ some u) a.1 there) ne)
+      (⊎_elim
+      (λ (a : (w : V) × (r : V) × Such r × (ws ≡ set vs j w ++ r ∷ [])).
+      more_each P vs j a.0 here other a.1 (λ i ne. a.2) i u (subst (λ l. get_elem? l i ≡ some u) a.3 there) ne)
+      (λ (a : (w : V) × (r : V) × (k : ℕ) × Such r × (ws ≡ set (set vs j w) k r)).
+      both_each P vs j a.0 here other a.2 a.1 (λ ne. a.3) i u (subst (λ l. get_elem? l i ≡ some u) a.4 there) ne))
+      c
+    where
+      P : ℕ → V → Type 0
+      P i u = i ≢ j → Such u
+
+      here : {w : V} → P j w
+      here ne = absurd (ne refl)
+
+      other : (i : ℕ) (u : V) → i ≢ j → get_elem? vs i ≡ some u → P i u
+      other i u ne there _ = all i u ne there
 
 module _ {M V K : Type 0} (T : Turning M V K) where
   -- what each step keeps stands at the end

@@ -1,5 +1,5 @@
 -- The seat that a seat met is the one that it last found with the turn.
-use Rattle.std.proofs.Common.{◌≡◌, ℕ, ◌-◌, List, set, refl, arith}
+use Rattle.std.proofs.Common.{◌≡◌, ℕ, ◌-◌, List, refl, arith}
 use Rattle.std.specs.Prelude.{Option, Some}
 use mathlib.Core.Option.{some}
 use lib.ListN.{get_elem?}
@@ -8,8 +8,8 @@ use Rattle.pw_cppc.specs.declared.entry.CppcEntry.{CppcEntry}
 use Rattle.pw_books.specs.declared.view.View.{View}
 use Rattle.pw_books.specs.Machine.{Machine, spent_view}
 use Rattle.pw_books.specs.Law.{desk, first_view, opened}
-use Rattle.pw_books.specs.Steps.{Kind, May, after, take_turn, find_held, slot_out, slot_back, release_with_entry, release_without_entry}
-use Rattle.pw_books.specs.Steps.{draw_number, miss_draw, split_seat, join_seats, read_made, joined, left_of, met_with, right_of}
+use Rattle.pw_books.specs.Steps.{Kind, May, after, find_held}
+use Rattle.pw_books.specs.Steps.{split_seat, join_seats, joined, left_of, met_with, right_of}
 use Rattle.pw_books.proofs.Finding.{Finds, comes, finds, found_last, goes, stays}
 use Rattle.pw_cppc_desk.specs.Slots.{MayBe, seat_of}
 use Rattle.pw_cppc_desk.specs.Rule.{given_of}
@@ -20,20 +20,8 @@ abbrev met_of : View CppcEntry → Option ℕ
 met_of v = v.met
 
 module _ (Good : List CppcEntry → Type 0) (m : Machine CppcEntry) (i j : ℕ) (p : ℕ) where
-  stay : (v w : View CppcEntry) (k : Kind CppcEntry) → get_elem? m.views i ≡ some v → w.met ≡ v.met → (IsFind k → ⊥) → (u : View CppcEntry)
-      → get_elem? (set m.views i w) j ≡ some u → u.met ≡ Some p → Finds (desk seat_of Good) IsFind FindsHeld met_of m i k j p
-  stay = stays (desk seat_of Good) IsFind FindsHeld met_of m i j p
-
   one_step : (v : View CppcEntry) (k : Kind CppcEntry) → get_elem? m.views i ≡ some v → May seat_of Good m i v k → (u : View CppcEntry)
       → get_elem? (after seat_of m i v k).views j ≡ some u → u.met ≡ Some p → Finds (desk seat_of Good) IsFind FindsHeld met_of m i k j p
-  one_step v (take_turn count) at may u there met = stay v _ (take_turn count) at refl (λ f. f) u there met
-  one_step v slot_out at may u there met = stay v _ slot_out at refl (λ f. f) u there met
-  one_step v slot_back at may u there met = stay v _ slot_back at refl (λ f. f) u there met
-  one_step v (release_with_entry e count) at may u there met = stay v _ (release_with_entry e count) at refl (λ f. f) u there met
-  one_step v (release_without_entry count) at may u there met = stay v _ (release_without_entry count) at refl (λ f. f) u there met
-  one_step v draw_number at may u there met = stay v _ draw_number at refl (λ f. f) u there met
-  one_step v miss_draw at may u there met = stay v _ miss_draw at refl (λ f. f) u there met
-  one_step v read_made at may u there met = stay v _ read_made at refl (λ f. f) u there met
   one_step v find_held at may u there met =
       finds (desk seat_of Good) IsFind FindsHeld met_of m i j p (met_with (m.turn - 1) v) find_held (m.turn - 1) refl
       (λ h e. (let ne = may.1 in omega (arith, ne, e))) u there met
@@ -41,6 +29,7 @@ module _ (Good : List CppcEntry → Type 0) (m : Machine CppcEntry) (i j : ℕ) 
       comes (desk seat_of Good) IsFind FindsHeld met_of m i j p v (left_of n parts v) (right_of n parts v) (split_seat n parts) at refl (λ f. f) refl u there met
   one_step v (join_seats k w) at may u there met =
       goes (desk seat_of Good) IsFind FindsHeld met_of m i j p v (joined v w) spent_view (join_seats k w) k at refl (λ f. f) refl u there met
+  one_step v k at may u there met = stays (desk seat_of Good) IsFind FindsHeld met_of m i j p v _ k at refl (λ f. f) u there met
 
 module _ {R : Type 0} (by : Registers R) where
   pub has_invariant : RuleHasInvariant by

@@ -1,5 +1,5 @@
 -- Steps on word 0, and steps on no word: numbers are drawn and read, seats are split and joined.
-use Rattle.std.proofs.Common.{◌≡◌, ◌≢◌, inl, ⊎_elim, ℕ, ◌+◌, ◌<◌, List, [], ◌∷◌, ◌++◌, true, false, get_or, set, sym, refl, ap, ◌∙◌, subst, arith}
+use Rattle.std.proofs.Common.{◌≡◌, ◌≢◌, inl, ℕ, ◌+◌, ◌<◌, List, [], ◌∷◌, ◌++◌, true, false, get_or, set, sym, refl, ap, ◌∙◌, subst, arith}
 use mathlib.Core.Option.{some, none}
 use lib.ListN.{get_elem?}
 use Rattle.atomic_table.specs.Table.{keeps, step}
@@ -13,7 +13,7 @@ use Rattle.pw_books.specs.Books.{IsPrefix, count_in, furthest}
 use Rattle.pw_books.specs.Sums.{AtMost}
 use Rattle.pw_books.specs.Machine.{Machine, spent_view}
 use Rattle.pw_books.specs.Steps.{IsSpare, draw_number, drawn, join_seats, joined, left_of, looked, miss_draw, missed, read_made, right_of, split_seat}
-use Rattle.pw_books.proofs.Lists.{at_set, at_snoc, off, term_le}
+use Rattle.pw_books.proofs.Lists.{both_each, more_each, off, term_le}
 use Rattle.pw_books.proofs.Books.{begins_furthest, longer_both}
 use Rattle.pw_books.proofs.Told.{is_told}
 use Rattle.pw_cppc_desk.specs.declared.setup.Setup.{Setup}
@@ -25,7 +25,7 @@ use Rattle.pw_cppc_desk.specs.Tracks.{did, joined_track}
 use Rattle.pw_books.proofs.Ruled.{shows_join, shows_split}
 use Rattle.pw_cppc_desk.proofs.Running.{grows}
 use Rattle.pw_cppc_desk.specs.Moves.{NumberIsDrawn, NumberIsRead, SeatIsSplit, SeatsAreJoined}
-use Rattle.pw_cppc_desk.proofs.Shown.{Goes, none_marked, shows, inv_of, view_at}
+use Rattle.pw_cppc_desk.proofs.Shown.{Goes, none_marked, other_marked, shows, inv_of, view_at}
 
 module _ {R : Type 0} (by : Registers R) where
   home_after : (key : Setup R) (m : Machine CppcEntry) (hs : Homes R) (vs : List (View CppcEntry)) (made : ℕ) → IsHome by (given_of by key) m hs
@@ -115,11 +115,9 @@ module _ {R : Type 0} (by : Registers R) where
       let at : get_elem? mach.views id ≡ some v = view_at by key s o id x me in
       let l = left_of n parts v in let r = right_of n parts v in
       shows_split (showing by key) opened s.words s.homes s.views o id x me idle.live (split_seat n parts)
-          (idle, paid, spare, some-part, few) (grows (MayBe (given_of by key))) l r s.words s.homes refl o.words
-          (home_after key mach s.homes (set mach.views id l ++ r ∷ []) mach.made o.home (λ k u there mark. ⊎_elim
-          (λ (b : get_elem? (set mach.views id l) k ≡ some u). none_marked by key s o id v l at idle.live idle.unmarked k u b mark)
-          (λ (e : r ≡ u). off false refl (ap (λ (x : View CppcEntry). x.mark) e ∙ mark))
-          (at_snoc (set mach.views id l) r u k there)))
+      (idle, paid, spare, some-part, few) (grows (MayBe (given_of by key))) l r s.words s.homes refl o.words
+      (home_after key mach s.homes (set mach.views id l ++ r ∷ []) mach.made o.home (more_each (λ k u. u.mark ≡ true → ⊥) mach.views id l
+      (off v.mark idle.unmarked) (λ k u ne there. other_marked by key s o id v at idle.live k u ne there) r (λ k. off false refl)))
 
   pub joins : SeatsAreJoined by
   joins key id x other y idle idle-w paid paid-w s o me apart there =
@@ -129,9 +127,6 @@ module _ {R : Type 0} (by : Registers R) where
       let at-w : get_elem? mach.views other ≡ some w = view_at by key s o other y there-y in
       let b = joined v w in
       shows_join (showing by key) opened s.words s.homes s.views o id x me idle.live (join_seats other w)
-          (apart, at-w, idle, idle-w, paid, paid-w) (join_seats 0 w) refl b spent_view refl other y there s.words s.homes refl o.words
-          (home_after key mach s.homes (set (set mach.views id b) other spent_view) mach.made o.home (λ k u there mark. ⊎_elim
-          (λ (t : (k ≡ other) × (spent_view ≡ u)). off false refl (ap (λ (x : View CppcEntry). x.mark) t.1 ∙ mark))
-          (λ (t : (k ≢ other) × (get_elem? (set mach.views id b) k ≡ some u)).
-          none_marked by key s o id v b at idle.live idle.unmarked k u t.1 mark)
-          (at_set (set mach.views id b) other k spent_view u there)))
+      (apart, at-w, idle, idle-w, paid, paid-w) (join_seats 0 w) refl b spent_view refl other y there s.words s.homes refl o.words
+      (home_after key mach s.homes (set (set mach.views id b) other spent_view) mach.made o.home (both_each (λ k u. u.mark ≡ true → ⊥) mach.views id b
+      (off v.mark idle.unmarked) (λ k u ne there. other_marked by key s o id v at idle.live k u ne there) other spent_view (off false refl)))

@@ -1,28 +1,22 @@
--- No step of the desk's machine takes a seat's place.
-use Rattle.std.proofs.Common.{ℕ, ◌≤◌, List, [], ◌∷◌, length, set, arith}
-use Rattle.std.proofs.lemmas.List.{length-append, length-set}
+-- How each step of the desk's machine changes the views.
+use Rattle.std.proofs.Common.{◌≡◌, ℕ, List, false, inl, inr, refl}
 use Rattle.pw_cppc.specs.declared.entry.CppcEntry.{CppcEntry}
 use Rattle.pw_books.specs.declared.view.View.{View}
-use Rattle.pw_books.specs.Machine.{spent_view}
-use Rattle.pw_books.specs.Steps.{take_turn, find_held, slot_out, slot_back, release_with_entry, release_without_entry}
-use Rattle.pw_books.specs.Steps.{draw_number, miss_draw, split_seat, join_seats, read_made, left_of, right_of, joined}
+use Rattle.pw_books.specs.Machine.{Machine, spent_view}
+use Rattle.pw_books.specs.Steps.{Kind, after}
+use Rattle.pw_books.specs.Steps.{split_seat, join_seats, left_of, right_of, joined}
 use Rattle.pw_books.specs.Law.{desk}
-use Rattle.pw_books.proofs.Running.{Grows}
+use Rattle.pw_books.proofs.Running.{Changes, Grows, never_narrow}
 use Rattle.pw_cppc_desk.specs.Slots.{seat_of}
 
-set_wide : (l : List (View CppcEntry)) (j : ℕ) (w : View CppcEntry) → length l ≤ length (set l j w)
-set_wide l j w = omega (arith, length-set l j w)
+-- it hasn't the turn
+abbrev pub HasNone : View CppcEntry → Type 0
+HasNone v = v.holds ≡ false
+
+pub changes : (m : Machine CppcEntry) (j : ℕ) (v : View CppcEntry) (k : Kind CppcEntry) → Changes HasNone m.views j (after seat_of m j v k).views
+changes m j v (split_seat n parts) = inr (inl (left_of n parts v, right_of n parts v, refl, refl))
+changes m j v (join_seats k w) = inr (inr (joined v w, spent_view, k, refl, refl))
+changes m j v k = inl (_, refl)
 
 pub grows : (Good : List CppcEntry → Type 0) → Grows (desk seat_of Good)
-grows Good m j v (take_turn count) = set_wide m.views j _
-grows Good m j v find_held = set_wide m.views j _
-grows Good m j v slot_out = set_wide m.views j _
-grows Good m j v slot_back = set_wide m.views j _
-grows Good m j v (release_with_entry e count) = set_wide m.views j _
-grows Good m j v (release_without_entry count) = set_wide m.views j _
-grows Good m j v draw_number = set_wide m.views j _
-grows Good m j v miss_draw = set_wide m.views j _
-grows Good m j v (split_seat n parts) =
-    omega (arith, length-set m.views j (left_of n parts v), length-append (set m.views j (left_of n parts v)) (right_of n parts v ∷ []))
-grows Good m j v (join_seats k w) = omega (arith, length-set m.views j (joined v w), length-set (set m.views j (joined v w)) k spent_view)
-grows Good m j v read_made = set_wide m.views j _
+grows Good m j v k = never_narrow HasNone m.views j (after seat_of m j v k).views (changes m j v k)

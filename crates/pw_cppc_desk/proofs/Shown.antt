@@ -1,5 +1,5 @@
 -- The table after a step of the machine.
-use Rattle.std.proofs.Common.{◌≡◌, ◌≢◌, ◌≤◌, ⊎_elim, ℕ, ◌<◌, List, [], true, false, length, get_or, set, ap, ◌∙◌, subst, arith}
+use Rattle.std.proofs.Common.{◌≡◌, ◌≢◌, ◌≤◌, ℕ, ◌<◌, List, [], true, false, length, get_or, set, subst, arith}
 use mathlib.Core.Option.{some}
 use lib.ListN.{get_elem?}
 use Rattle.atomic_table.specs.Table.{Act, State, Valid, carried_after, stepped}
@@ -9,7 +9,7 @@ use Rattle.pw_cppc.specs.declared.entry.CppcEntry.{CppcEntry}
 use Rattle.pw_cppc_desk.specs.Ledgered.{Ledgered}
 use Rattle.pw_books.specs.declared.view.View.{View}
 use Rattle.pw_books.specs.Steps.{Kind, May, after}
-use Rattle.pw_books.proofs.Lists.{at_set, off}
+use Rattle.pw_books.proofs.Lists.{off, set_each}
 use Rattle.pw_books.proofs.Facts.{other_unmarked}
 use Rattle.pw_books.proofs.Keeps.{law}
 use Rattle.pw_books.specs.Machine.{Invariant}
@@ -56,10 +56,13 @@ module _ {R : Type 0} (by : Registers R) where
       shown_step (showing by key) opened s.words s.homes s.views o id x at live k may w ws hs same words home
 
   module _ (key : Setup R) (s : Table R) (o : Ruled by key s) where
+    -- beside a live view no view has the mark
+    pub other_marked : (id : ℕ) (v : View CppcEntry) → get_elem? o.machine.views id ≡ some v → 0 < v.parts → (k : ℕ) (u : View CppcEntry) → k ≢ id
+        → get_elem? o.machine.views k ≡ some u → u.mark ≡ true → ⊥
+    other_marked id v at live k u ne there mark = other_unmarked seat_of (MayBe (given_of by key)) o.machine (inv_of key s o) id k v u ne at there live mark
+
     -- where a view without the mark steps, no view has it after the step
     pub none_marked : (id : ℕ) (v w : View CppcEntry) → get_elem? o.machine.views id ≡ some v → 0 < v.parts → w.mark ≡ false
         → (k : ℕ) (u : View CppcEntry) → get_elem? (set o.machine.views id w) k ≡ some u → u.mark ≡ true → ⊥
-    none_marked id v w at live unmarked k u there mark = ⊎_elim
-        (λ (t : (k ≡ id) × (w ≡ u)). off w.mark unmarked (ap (λ (x : View CppcEntry). x.mark) t.1 ∙ mark))
-        (λ (t : (k ≢ id) × (get_elem? o.machine.views k ≡ some u)). other_unmarked seat_of (MayBe (given_of by key)) o.machine (inv_of key s o) id k v u t.0 at t.1 live mark)
-        (at_set o.machine.views id k w u there)
+    none_marked id v w at live unmarked =
+        set_each (λ k u. u.mark ≡ true → ⊥) o.machine.views id w (off w.mark unmarked) (λ k u. other_marked id v at live k u)

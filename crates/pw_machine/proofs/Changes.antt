@@ -1,5 +1,5 @@
 -- A step that leaves the history and the number of views: what is to be shown of it.
-use Rattle.std.proofs.Common.{◌≡◌, ◌≢◌, ⊎_elim, ℕ, ◌+◌, ◌<◌, ◌≤◌, List, true, Option, Some, None, get_or, set, sym, ap, ◌∙◌, subst, arith}
+use Rattle.std.proofs.Common.{◌≡◌, ◌≢◌, ⊎_elim, ℕ, ◌+◌, ◌<◌, ◌≤◌, List, true, Option, Some, get_or, set, sym, ap, ◌∙◌, subst, arith}
 use mathlib.Core.Option.{some}
 use lib.ListN.{get_elem?}
 use Rattle.acpi_values.specs.declared.operation.Op.{Op}
@@ -8,7 +8,7 @@ use Rattle.pw_plan.specs.declared.plan.Plan.{Plan}
 use Rattle.pw_machine.specs.declared.view.View.{View}
 use Rattle.pw_books.specs.Books.{count_in}
 use Rattle.pw_machine.specs.Machine.{Machine, now, count_held, holds, leads, marks, NotesWithin, Fits, HasTurns, IsOpening, HasValues, HasRegisters, Invariant}
-use Rattle.pw_books.specs.Sums.{total, bit, once_below, AtMost}
+use Rattle.pw_books.specs.Sums.{total, bit, once_below}
 use Rattle.pw_books.proofs.Lists.{at_set, total-set}
 use Rattle.pw_machine.proofs.Turns.{stays}
 use Rattle.pw_machine.proofs.Facts.{other_unmarked}

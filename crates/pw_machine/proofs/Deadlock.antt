@@ -14,7 +14,7 @@ use Rattle.pw_machine.proofs.Plans.{ends_route, height_below, on_route, way_rise
 use Rattle.pw_machine.specs.declared.view.Held.{Held}
 use Rattle.pw_machine.specs.declared.view.View.{View}
 use Rattle.pw_machine.specs.Machine.{Machine, now, held_as, turns_of, count_held, holds, leads, Invariant}
-use Rattle.pw_machine.specs.Steps.{Kind, take_record, find_record_held, record_out, record_back, release_record, take_journal, find_journal_held, journal_out, journal_back, release_with_entry, release_without_entry, draw_number, miss_draw, split_seat, join_seats, read_made, Asks, IsNext, HoldsAs, May}
+use Rattle.pw_machine.specs.Steps.{Kind, take_record, find_record_held, record_back, release_record, take_journal, find_journal_held, journal_back, release_without_entry, Asks, IsNext, HoldsAs, May}
 use Rattle.pw_machine.specs.Waits.{Waits, CanGoOn, NoDeadlock}
 use Rattle.pw_books.proofs.Lists.{one, none-of, is_true, turn_below, either_is}
 use Rattle.pw_machine.proofs.Turns.{holder, count-turns}
@@ -134,20 +134,7 @@ module _ (m : Machine) (i : Invariant m) where
   goes_on_else j v (find_record_held t q gives_up) at may w =
       record_goes (tallest m.given.plan) t (omega (arith, turn_below m.turns t may.2, i.turns.wide)) (omega arith) may.2
   goes_on_else j v (find_journal_held q gives_up) at may w = journal_goes may.2
-  goes_on_else j v (take_record t q x) at may w = absurd w
-  goes_on_else j v (record_out t) at may w = absurd w
-  goes_on_else j v (record_back t) at may w = absurd w
-  goes_on_else j v (release_record t x) at may w = absurd w
-  goes_on_else j v (take_journal q) at may w = absurd w
-  goes_on_else j v journal_out at may w = absurd w
-  goes_on_else j v journal_back at may w = absurd w
-  goes_on_else j v (release_with_entry e count) at may w = absurd w
-  goes_on_else j v (release_without_entry count) at may w = absurd w
-  goes_on_else j v draw_number at may w = absurd w
-  goes_on_else j v miss_draw at may w = absurd w
-  goes_on_else j v (split_seat n parts) at may w = absurd w
-  goes_on_else j v (join_seats k x) at may w = absurd w
-  goes_on_else j v read_made at may w = absurd w
+  goes_on_else j v k at may w = absurd w
 
 pub no_deadlock : NoDeadlock
 no_deadlock given values steps end sized e = goes_on_else end (law given values steps end sized e)

@@ -5,7 +5,7 @@ use mathlib.Core.Logic.{dite}
 use native.Mathlib.Decide.{ℕ_discrete}
 use lib.ListN.{get_elem?}
 use Rattle.pw_plan.specs.declared.request.Request.{Request}
-use Rattle.pw_plan.specs.declared.request.Request.TheVariants.{Idle, Wake, Perf, Throttle, PerfLimit, ThrottleLimit}
+use Rattle.pw_plan.specs.declared.request.Request.TheVariants.{Idle}
 use Rattle.pw_plan.specs.Requests.{Has}
 use Rattle.pw_model.specs.declared.entry.HistoryEntry.{HistoryEntry}
 use Rattle.pw_model.specs.History.{Faultless, MayFollow, entry_of, request_of}
@@ -36,19 +36,11 @@ use Rattle.pw_model.proofs.Opening.{opening_fits}
 
 pub entry_seat : (n : ℕ) (q : Request) → (entry_of n q).seat ≡ n
 entry_seat n (Idle p s t) = refl
-entry_seat n (Wake p) = refl
-entry_seat n (Perf p i) = refl
-entry_seat n (Throttle p i) = refl
-entry_seat n (PerfLimit p i) = refl
-entry_seat n (ThrottleLimit p i) = refl
+entry_seat n q = refl
 
 pub entry_fault : (n : ℕ) (q : Request) → (entry_of n q).fault ≡ 0
 entry_fault n (Idle p s t) = refl
-entry_fault n (Wake p) = refl
-entry_fault n (Perf p i) = refl
-entry_fault n (Throttle p i) = refl
-entry_fault n (PerfLimit p i) = refl
-entry_fault n (ThrottleLimit p i) = refl
+entry_fault n q = refl
 
 module _ (given : Given) (m : Machine) (same : m.given ≡ given) where
   pub has_in : (q : Request) → Has given.plan q → Has m.given.plan q

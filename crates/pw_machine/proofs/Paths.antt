@@ -10,7 +10,7 @@ use Rattle.pw_model.specs.Records.{record_count}
 use Rattle.pw_machine.specs.declared.view.View.{View}
 use Rattle.pw_machine.specs.Machine.{Machine, Invariant, count_held, holds, leads}
 use Rattle.pw_books.specs.Sums.{bit}
-use Rattle.pw_machine.specs.Steps.{Kind, May, after, take_record, find_record_held, record_out, record_back, release_record, take_journal, find_journal_held, journal_out, journal_back, release_with_entry, release_without_entry, draw_number, miss_draw, split_seat, join_seats, read_made}
+use Rattle.pw_machine.specs.Steps.{Kind, May, after, take_record}
 use Rattle.pw_machine.specs.Law.{Steps}
 use Rattle.pw_books.proofs.Lists.{elem_below, set_else, set_here}
 use Rattle.pw_machine.proofs.Turns.{holder}
@@ -41,21 +41,7 @@ path_keeps m (s ∷ ss) end i e = path_keeps (after m s.0 s.1 s.2) ss end (step_
 -- what was given to open stays
 pub step_given : (m : Machine) (j : ℕ) (v : View) (k : Kind) → (after m j v k).given ≡ m.given
 step_given m j v (take_record t q x) = refl
-step_given m j v (find_record_held t q gives_up) = refl
-step_given m j v (record_out t) = refl
-step_given m j v (record_back t) = refl
-step_given m j v (release_record t x) = refl
-step_given m j v (take_journal q) = refl
-step_given m j v (find_journal_held q gives_up) = refl
-step_given m j v journal_out = refl
-step_given m j v journal_back = refl
-step_given m j v (release_with_entry e count) = refl
-step_given m j v (release_without_entry count) = refl
-step_given m j v draw_number = refl
-step_given m j v miss_draw = refl
-step_given m j v (split_seat n parts) = refl
-step_given m j v (join_seats k w) = refl
-step_given m j v read_made = refl
+step_given m j v k = refl
 
 pub kept : (m : Machine) (steps : List (ℕ × View × Kind)) (end : Machine) → Steps m steps end → end.given ≡ m.given
 kept m [] end e = ap (λ (x : Machine). x.given) (sym e)

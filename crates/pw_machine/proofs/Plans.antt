@@ -14,13 +14,12 @@ use Rattle.pw_kind.specs.History as histories
 use Rattle.pw_model.specs.declared.entry.HistoryEntry.{HistoryEntry}
 use Rattle.pw_model.specs.declared.reply.Reply.{Reply}
 use Rattle.pw_model.specs.declared.state.State.{State}
-use Rattle.pw_model.specs.States.{IsState, opening}
+use Rattle.pw_model.specs.States.{IsState}
 use Rattle.pw_model.specs.Answers.{after, if_accepted}
 use Rattle.pw_model.specs.Containers.{ancestors}
 use Rattle.pw_model.specs.Refusals.{fixed_refusal}
 use Rattle.pw_model.specs.History.{IsEntry, Legal, MayFollow, StatesRequest, after_entry, entry_ops, history_ops, replay, request_of}
 use Rattle.pw_model.proofs.Joining.{history_ops-append, legal-empty, legal-more, replay-append}
-use Rattle.pw_model.proofs.Opening.{opening_fits}
 use Rattle.pw_model.proofs.Staying.{replay_fits, request_has}
 use Rattle.pw_model.specs.Locality.{SameParts}
 use Rattle.pw_model.specs.Records.{IsRecord, Record, container, group, footprint, group_records, number_of, part_of, reach, record_at, record_count, records_among, records_by}

@@ -1,19 +1,17 @@
 -- The steps on word 0: numbers, split, join and read.
-use Rattle.std.proofs.Common.{◌≡◌, ◌≢◌, ⊎_elim, ℕ, ◌+◌, List, [], ◌∷◌, false, get_or, set, refl, ap, ◌∙◌, subst, arith}
+use Rattle.std.proofs.Common.{◌≡◌, ℕ, ◌+◌, List, [], ◌∷◌, true, false, get_or, set, refl, ap, ◌∙◌, arith}
 use mathlib.Core.Option.{some}
-use mathlib.Core.Logic.{dite}
-use native.Mathlib.Decide.{ℕ_discrete}
 use lib.ListN.{get_elem?}
 use Rattle.pw_plan.specs.declared.plan.Plan.{Plan}
 use Rattle.pw_model.specs.declared.entry.HistoryEntry.{HistoryEntry}
 use Rattle.pw_model.specs.History.{replay}
 use Rattle.pw_machine.specs.declared.view.View.{View}
-use Rattle.pw_books.specs.Books.{longer, entries_of, count_in, Knows, furthest}
-use Rattle.pw_machine.specs.Machine.{Machine, now, count_held, spent_view, as_number, holds, leads, marks, ServesRequest, Fits, Invariant, seat_of}
+use Rattle.pw_books.specs.Books.{entries_of, count_in, furthest}
+use Rattle.pw_machine.specs.Machine.{Machine, now, count_held, spent_view, as_number, holds, leads, marks, ServesRequest, Fits, Invariant, IsOpening, seat_of}
 use Rattle.pw_books.specs.Sums.{total, bit}
 use Rattle.pw_machine.specs.Steps.{draw_number, miss_draw, split_seat, join_seats, read_made, drawn, missed, left_of, right_of, joined, looked, IsIdle, May, after}
-use Rattle.pw_books.proofs.Lists.{at_set, at_snoc, set_else, total-append, total-set, one, none-of, off, once_more}
-use Rattle.pw_books.proofs.Books.{begins_furthest, empty_front, knows_without, count_without, longer_both, knows-append, count-append, knows_between, list_is}
+use Rattle.pw_books.proofs.Lists.{both_each, more_each, set_else, total-append, total-set, one, none-of, off, once_more}
+use Rattle.pw_books.proofs.Books.{begins_furthest, count_split, count_without, count-append, empty_front, list_is, reads_joined, reads_new, reads_without}
 use Rattle.pw_machine.proofs.Turns.{as_none, one_more}
 use Rattle.pw_machine.proofs.Facts.{other_unmarked, number_below, other_count}
 use Rattle.pw_machine.proofs.Changes.{turns_stay}
@@ -39,6 +37,10 @@ idle_serves : (P : Plan) (history : List HistoryEntry) (made count : ℕ) (v : V
 idle_serves P history made count v f idle = f.serves idle.unmarked
 
 module _ (m : Machine) (i : Invariant m) (j : ℕ) (v : View) (at : get_elem? m.views j ≡ some v) where
+  -- with the mark it opens the coordinator
+  abbrev Opens : ℕ → View → Type 0
+  Opens k u = u.mark ≡ true → IsOpening m.given m.history m.count k u
+
   pub keeps_draw : May m j v draw_number → Invariant (after m j v draw_number)
   keeps_draw may =
       let a = may.0 in let f = i.fits j v at in
@@ -97,13 +99,7 @@ module _ (m : Machine) (i : Invariant m) (j : ℕ) (v : View) (at : get_elem? m.
     fits_left =
         let a = may.0 in let spare = may.2 in let f = i.fits j v at in
         record {
-          reads = record {
-            begins = f.reads.begins;
-            begins_too = f.reads.begins_too;
-            lists = knows_without seat_of n v.book m.history f.reads.lists;
-            entries =
-                knows_without seat_of n v.book (furthest v.told v.seen) f.reads.entries;
-          };
+          reads = reads_without seat_of n m.history v.seen v.told v.book f.reads;
           own = λ h. (count_without n v.number v.book).1 spare.other ∙ f.own (omega (arith, may.4));
           serves = f.serves;
           holds_records = f.holds_records;
@@ -122,7 +118,7 @@ module _ (m : Machine) (i : Invariant m) (j : ℕ) (v : View) (at : get_elem? m.
     fits_right =
         let f = i.fits j v at in
         record {
-          reads = record { begins = f.reads.begins; begins_too = tt; lists = (no_entry, tt); entries = (empty_front seat_of n m.history v.seen f.reads.begins no_entry, tt) };
+          reads = reads_new seat_of n m.history v.seen f.reads.begins no_entry;
           own = λ h. omega (arith, one n n refl);
           serves = λ _. serves_nothing m.given.plan (now m);
           holds_records = λ t more. absurd (omega (arith, more));
@@ -133,18 +129,19 @@ module _ (m : Machine) (i : Invariant m) (j : ℕ) (v : View) (at : get_elem? m.
           spent = λ z. absurd (omega (arith, z, may.3));
         }
 
-    counts : (k : ℕ) → count_in k (left_of n parts v).book + count_in k (right_of n parts v).book ≡ count_in k v.book
-    counts k = let s = count_without n k v.book in let spare = may.2 in dite (ℕ_discrete n k)
-        (λ e. let own : count_in k v.book ≡ 1 = subst (λ x. count_in x v.book ≡ 1) e spare.in_book in omega (arith, s.0 e, one n k e, own))
-        (λ ne. omega (arith, s.1 ne, none-of n k ne))
-
     pub keeps_split : Invariant (after m j v (split_seat n parts))
     keeps_split =
         let a = may.0 in let l = left_of n parts v in let r = right_of n parts v in let vs = set m.views j l in
         record {
           history = i.history;
           numbers = record {
-            books = λ k. omega (arith, total-append (λ u. count_in k u.book) vs (r ∷ []), total-set (λ u. count_in k u.book) m.views j v l at, i.numbers.books k, counts k);
+            books = λ k. let spare = may.2 in omega (
+              arith,
+              total-append (λ u. count_in k u.book) vs (r ∷ []),
+              total-set (λ u. count_in k u.book) m.views j v l at,
+              i.numbers.books k,
+              count_split n k v.book spare.in_book,
+            );
             strangers = i.numbers.strangers;
             most = i.numbers.most;
           };
@@ -153,23 +150,12 @@ module _ (m : Machine) (i : Invariant m) (j : ℕ) (v : View) (at : get_elem? m.
             holders = λ x low. one_more (get_or m.turns x 0) (holds x) vs (t.holders x low) r refl;
             leader = one_more m.journal leads vs t.leader r refl;
           };
-          opens = λ k u there mark. ⊎_elim
-              (λ (b : get_elem? vs k ≡ some u). ⊎_elim
-              (λ (t : (k ≡ j) × (l ≡ u)). off v.mark a.unmarked (ap (λ (x : View). x.mark) t.1 ∙ mark))
-              (λ (t : (k ≢ j) × (get_elem? m.views k ≡ some u)). absurd (other_unmarked m i j k v u t.0 at t.1 a.live mark))
-              (at_set m.views j k l u b))
-              (λ (s : r ≡ u). off false refl (ap (λ (x : View). x.mark) s ∙ mark))
-              (at_snoc vs r u k there);
+          opens = more_each Opens m.views j l (λ mark. off v.mark a.unmarked mark)
+              (λ k u ne there mark. absurd (other_unmarked m i j k v u ne at there a.live mark)) r (λ k mark. off false refl mark);
           values = i.values;
           registers = λ none. i.registers (omega (arith, total-append marks vs (r ∷ []), total-set marks m.views j v l at, none));
           parts = omega (arith, total-append (λ u. u.parts) vs (r ∷ []), total-set (λ u. u.parts) m.views j v l at, i.parts, may.4);
-          fits = λ k u there. ⊎_elim
-              (λ (b : get_elem? vs k ≡ some u). ⊎_elim
-              (λ (t : (k ≡ j) × (l ≡ u)). subst (Fits m.given.plan m.history m.made m.count) t.1 fits_left)
-              (λ (t : (k ≢ j) × (get_elem? m.views k ≡ some u)). i.fits k u t.1)
-              (at_set m.views j k l u b))
-              (λ (s : r ≡ u). subst (Fits m.given.plan m.history m.made m.count) s fits_right)
-              (at_snoc vs r u k there);
+          fits = more_each (λ k u. Fits m.given.plan m.history m.made m.count u) m.views j l fits_left (λ k u ne there. i.fits k u there) r (λ k. fits_right);
         }
 
   -- # Join
@@ -178,19 +164,10 @@ module _ (m : Machine) (i : Invariant m) (j : ℕ) (v : View) (at : get_elem? m.
     fits_joined : Fits m.given.plan m.history m.made m.count (joined v w)
     fits_joined =
         let a = may.2 in let f = i.fits j v at in let g = i.fits k w may.1 in
-        let known-v : Knows seat_of v.book v.seen = subst (λ o. Knows seat_of v.book (furthest o v.seen)) may.4 f.reads.entries in
-        let known-w : Knows seat_of w.book w.seen = subst (λ o. Knows seat_of w.book (furthest o w.seen)) may.5 g.reads.entries in
-        let far = longer_both m.history w.seen v.seen g.reads.begins f.reads.begins in
         let mine = f.own a.live in
         let apart = other_count m i j k v w may.0 at may.1 v.number (omega (arith, mine)) in
         record {
-          reads = record {
-            begins = f.reads.begins;
-            begins_too = g.reads.begins;
-            lists = knows-append seat_of v.book w.book m.history f.reads.lists g.reads.lists;
-            entries = knows-append seat_of v.book w.book (longer w.seen v.seen) (knows_between seat_of v.book m.history (longer w.seen v.seen) v.seen far.2 far.0 f.reads.lists known-v)
-                (knows_between seat_of w.book m.history (longer w.seen v.seen) w.seen far.1 far.0 g.reads.lists known-w);
-          };
+          reads = reads_joined seat_of m.history v.seen w.seen v.told w.told v.book w.book may.4 may.5 f.reads g.reads;
           own = λ h. omega (arith, count-append v.number v.book w.book, mine, apart);
           serves = f.serves;
           holds_records = f.holds_records;
@@ -223,21 +200,11 @@ module _ (m : Machine) (i : Invariant m) (j : ℕ) (v : View) (at : get_elem? m.
             holders = λ t low n. omega (arith, both (as_number n (holds t)), i.turns.holders t low n, as_none (holds t) n w (no-turn t), as_none (holds t) n spent_view refl);
             leader = λ n. omega (arith, both (as_number n leads), i.turns.leader n, as_none leads n w (ap bit c.no_journal), as_none leads n spent_view refl);
           };
-          opens = λ q u there mark. ⊎_elim
-              (λ (t : (q ≡ k) × (spent_view ≡ u)). off false refl (ap (λ (x : View). x.mark) t.1 ∙ mark))
-              (λ (t : (q ≢ k) × (get_elem? vs q ≡ some u)). ⊎_elim
-              (λ (s : (q ≡ j) × (b ≡ u)). off v.mark a.unmarked (ap (λ (x : View). x.mark) s.1 ∙ mark))
-              (λ (s : (q ≢ j) × (get_elem? m.views q ≡ some u)). absurd (other_unmarked m i j q v u s.0 at s.1 a.live mark))
-              (at_set m.views j q b u t.1))
-              (at_set vs k q spent_view u there);
+          opens = both_each Opens m.views j b (λ mark. off v.mark a.unmarked mark)
+              (λ q u ne there mark. absurd (other_unmarked m i j q v u ne at there a.live mark)) k spent_view (λ mark. off false refl mark);
           values = i.values;
           registers = λ none. i.registers (omega (arith, both marks, none, ap bit c.unmarked));
           parts = omega (arith, both (λ u. u.parts), i.parts);
-          fits = λ q u there. ⊎_elim
-              (λ (t : (q ≡ k) × (spent_view ≡ u)). subst (Fits m.given.plan m.history m.made m.count) t.1 (fits_spent m.given.plan m.history m.made m.count))
-              (λ (t : (q ≢ k) × (get_elem? vs q ≡ some u)). ⊎_elim
-              (λ (s : (q ≡ j) × (b ≡ u)). subst (Fits m.given.plan m.history m.made m.count) s.1 fits_joined)
-              (λ (s : (q ≢ j) × (get_elem? m.views q ≡ some u)). i.fits q u s.1)
-              (at_set m.views j q b u t.1))
-              (at_set vs k q spent_view u there);
+          fits = both_each (λ q u. Fits m.given.plan m.history m.made m.count u) m.views j b fits_joined (λ q u ne there. i.fits q u there)
+              k spent_view (fits_spent m.given.plan m.history m.made m.count);
         }

@@ -1,6 +1,6 @@
 -- What a step tells its seat: who was met, what a seat that is alone knows, what a new number is.
-use Rattle.std.proofs.Common.{⊎_elim, true, ◌≡◌, ◌≢◌, ℕ, zero, suc, ◌-◌, ◌<◌, ◌≤◌, List, [], ◌∷◌, ◌++◌, Bool, false, Option, Some, length, get_or, cond, eq-eqb, sym, refl, ap, ◌∙◌, subst, arith, append-nil, length-append}
-use mathlib.Core.Option.{some, some-injective, some-ne-none}
+use Rattle.std.proofs.Common.{⊎_elim, true, ◌≡◌, ◌≢◌, ℕ, ◌-◌, ◌<◌, ◌≤◌, List, [], ◌∷◌, ◌++◌, Bool, false, Option, Some, length, get_or, cond, eq-eqb, sym, refl, ap, ◌∙◌, subst, arith, append-nil, length-append}
+use mathlib.Core.Option.{some, some-injective}
 use mathlib.Core.Logic.{dite}
 use native.Mathlib.Decide.{ℕ_discrete, dec_le}
 use lib.ListN.{get_elem?}
@@ -12,7 +12,7 @@ use Rattle.pw_machine.proofs.Plans.{next_record, way_rises, way_reached}
 use Rattle.pw_machine.specs.declared.view.View.{View}
 use Rattle.pw_books.specs.Books.{entries_of, count_in, list_of, furthest}
 use Rattle.pw_machine.specs.Machine.{Machine, now, turns_of, count_held, Named, holds, leads, marks, HasRegisters, Invariant, seat_of}
-use Rattle.pw_books.specs.Sums.{total, bit, AtMost}
+use Rattle.pw_books.specs.Sums.{bit, AtMost}
 use Rattle.pw_machine.specs.Told.{MeetsOther, KnowsAlone, IsTold, SeatsAreTold}
 use Rattle.pw_machine.specs.Steps.{find_record_held, find_journal_held, IsIdle, IsSpare, drawn, May}
 use Rattle.pw_books.proofs.Lists.{turn_below, term_le, terms_le, one, is_true, once_yes, once_no, either_is}

@@ -7,7 +7,7 @@ use Rattle.pw_model.specs.Records.{record_count}
 use Rattle.pw_machine.specs.declared.view.View.{View}
 use Rattle.pw_machine.specs.Law.{Steps}
 use Rattle.pw_machine.specs.Machine.{Invariant, Machine, now, turns_of}
-use Rattle.pw_machine.specs.Steps.{Kind, May, after, take_record, find_record_held, record_out, record_back, release_record, take_journal, find_journal_held, journal_out, journal_back, release_with_entry, release_without_entry, draw_number, miss_draw, split_seat, join_seats, read_made}
+use Rattle.pw_machine.specs.Steps.{Kind, May, after, take_journal, release_with_entry}
 use Rattle.pw_machine.proofs.Entries.{entry_unmarked}
 use Rattle.pw_machine.proofs.Keeps.{opens, step_keeps}
 use Rattle.pw_machine.proofs.Plans.{next_journal}
@@ -21,20 +21,7 @@ one_holds : (m : Machine) → Invariant m → (j : ℕ) (v : View) (k : Kind) �
 one_holds m i j v (take_journal q) at may = next_journal m.given.plan (now m) q (turns_of v.held) may.0.of_plan may.1
 one_holds m i j v (release_with_entry e count) at may =
     (may.leads, ((i.fits j v at).serves (entry_unmarked m i j v at e count may)).whole (request_of e) may.request may.leads)
-one_holds m i j v (take_record t q part) at may = tt
-one_holds m i j v (find_record_held t q g) at may = tt
-one_holds m i j v (record_out t) at may = tt
-one_holds m i j v (record_back t) at may = tt
-one_holds m i j v (release_record t part) at may = tt
-one_holds m i j v (find_journal_held q g) at may = tt
-one_holds m i j v journal_out at may = tt
-one_holds m i j v journal_back at may = tt
-one_holds m i j v (release_without_entry count) at may = tt
-one_holds m i j v draw_number at may = tt
-one_holds m i j v miss_draw at may = tt
-one_holds m i j v (split_seat n parts) at may = tt
-one_holds m i j v (join_seats k w) at may = tt
-one_holds m i j v read_made at may = tt
+one_holds m i j v k at may = tt
 
 each_holds : (m : Machine) → Invariant m → (run : Run View Kind) (n : Machine) → Steps m run n → EachHoldsAll m run
 each_holds m i [] n e = tt

@@ -10,7 +10,7 @@ use Rattle.pw_turns.specs.Steps.{met_on}
 use Rattle.pw_turns.proofs.Going.{began_after, turned_after}
 use Rattle.pw_turns.proofs.Holding.{held_met, held_number, held_seen, on_after}
 use Rattle.pw_turns.proofs.Nexts.{next_is}
-use Rattle.pw_turns.proofs.Parting.{nil_of}
+use Rattle.pw_books.proofs.Books.{nil_of}
 use Rattle.pw_turns.proofs.coordinator.Coordinator.reach.Goals as goal
 
 pub lead-requires-clause-number : goal.lead-requires-clause-number
