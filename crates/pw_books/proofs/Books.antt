@@ -189,6 +189,24 @@ module _ {E : Type 0} (seat_of : E → ℕ) where
   none_since history seen b book knows known n more = none_added (entries_of seat_of n seen) (entries_of seat_of n b.0)
       (sym (known_both n book history seen more knows known) ∙ (ap (entries_of seat_of n) b.1 ∙ entries_of-append n seen b.0))
 
+  -- a beginning that has all entries of each number is the whole
+  pub whole_seen : (history seen : List E) → Begins history seen → ((n : ℕ) → entries_of seat_of n history ≡ entries_of seat_of n seen) → seen ≡ history
+  whole_seen history seen b same = ended b.0 b.1
+    where
+      ended : (rest : List E) → history ≡ seen ++ rest → seen ≡ history
+      ended [] e = sym (e ∙ append-nil seen)
+      ended (x ∷ xs) e =
+          let n = seat_of x in
+          let c : entries_of seat_of n (x ∷ xs) ≡ x ∷ entries_of seat_of n xs = ap (λ b. cond b (x ∷ entries_of seat_of n xs) (entries_of seat_of n xs)) (eq-eqb n n refl) in
+          let l : entries_of seat_of n history ≡ entries_of seat_of n seen ++ entries_of seat_of n (x ∷ xs) = ap (entries_of seat_of n) e ∙ entries_of-append n seen (x ∷ xs) in
+          absurd (omega (
+            arith,
+            ap (length {A = E}) l,
+            ap (length {A = E}) (same n),
+            ap (length {A = E}) c,
+            length-append (entries_of seat_of n seen) (entries_of seat_of n (x ∷ xs)),
+          ))
+
   -- a number's list in the book is that of the history
   pub list_is : (n : ℕ) (book : List (Calls E)) (history : List E) → 0 < count_in n book → Knows seat_of book history
       → entries_of seat_of n history ≡ list_of n book

@@ -1,12 +1,12 @@
 -- A step that leaves the history and the number of views: what is to be shown of it.
-use Rattle.std.proofs.Common.{◌≡◌, ◌≢◌, ⊎_elim, ℕ, ◌+◌, ◌<◌, ◌≤◌, List, true, Option, Some, None, set, sym, ap, ◌∙◌, subst, arith}
+use Rattle.std.proofs.Common.{◌≡◌, ℕ, ◌+◌, ◌<◌, ◌≤◌, List, true, Option, Some, None, set, arith}
 use mathlib.Core.Option.{some}
 use lib.ListN.{get_elem?}
 use Rattle.pw_books.specs.declared.view.View.{View}
 use Rattle.pw_books.specs.Books.{count_in}
 use Rattle.pw_books.specs.Machine.{Machine, NamesHolder, Fits, IsOpening, Invariant}
 use Rattle.pw_books.specs.Sums.{once_below, AtMost}
-use Rattle.pw_books.proofs.Lists.{at_set, total-set}
+use Rattle.pw_books.proofs.Lists.{set_each, total-set}
 use Rattle.pw_books.proofs.Facts.{other_unmarked}
 
 pub at_most_more : (o : Option ℕ) (a b : ℕ) → a ≤ b → AtMost o a → AtMost o b
@@ -39,22 +39,17 @@ module _ {E : Type 0} (seat_of : E → ℕ) (Good : List E → Type 0) where
       most = c.most;
     };
     holder = c.holder;
-    opens = λ k u e mark. ⊎_elim
-        (λ (t : (k ≡ j) × (w ≡ u)). subst (λ k. IsOpening m.history k u) (sym t.0) (subst (IsOpening m.history j) t.1 (c.opens (ap (λ (x : View E). x.mark) t.1 ∙ mark))))
-        (λ (t : (k ≢ j) × (get_elem? m.views k ≡ some u)). absurd (other_unmarked seat_of Good m i j k v u t.0 at t.1 c.live mark))
-        (at_set m.views j k w u e);
+    opens = set_each (λ k u. u.mark ≡ true → IsOpening m.history k u) m.views j w c.opens
+        (λ k u ne there mark. absurd (other_unmarked seat_of Good m i j k v u ne at there c.live mark));
     parts = omega (arith, total-set (λ u. u.parts) m.views j v w at, i.parts, c.parts);
-    fits = λ k u e. ⊎_elim
-        (λ (t : (k ≡ j) × (w ≡ u)). subst (Fits seat_of m.history made) t.1 c.fits)
-        (λ (t : (k ≢ j) × (get_elem? m.views k ≡ some u)). let g = i.fits k u t.1 in record {
-          reads = g.reads;
-          own = g.own;
-          slot = g.slot;
-          leader = g.leader;
-          at_read = at_most_more u.read m.made made c.more g.at_read;
-          spent = g.spent;
-        })
-        (at_set m.views j k w u e);
+    fits = set_each (λ k u. Fits seat_of m.history made u) m.views j w c.fits (λ k u ne there. let g = i.fits k u there in record {
+      reads = g.reads;
+      own = g.own;
+      slot = g.slot;
+      leader = g.leader;
+      at_read = at_most_more u.read m.made made c.more g.at_read;
+      spent = g.spent;
+    });
   }
 
 pub at_most_le : (o : Option ℕ) (k n : ℕ) → AtMost o k → k ≤ n → AtMost o n

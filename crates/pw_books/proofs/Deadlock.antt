@@ -2,12 +2,13 @@
 use Rattle.std.proofs.Common.{◌≡◌, inl, inr, ⊎_elim, ℕ, List, true, false}
 use Rattle.pw_books.specs.Waits.{NoDeadlock}
 use Rattle.pw_books.proofs.Lists.{is_true, either_is}
+use Rattle.pw_books.specs.Machine.{holds, seat_number}
 use Rattle.pw_books.proofs.Turns.{holder}
 use Rattle.pw_books.proofs.Keeps.{law}
 
 pub no_deadlock : {E : Type 0} (seat_of : E → ℕ) (Good : List E → Type 0) → NoDeadlock seat_of Good
 no_deadlock seat_of Good steps end good e j v at may =
-    let r = holder end.turn end.views (law seat_of Good steps end good e).holder may.1 in
+    let r = holder seat_number end.turn holds end.views (law seat_of Good steps end good e).holder may.1 in
     let h = is_true r.1.holds r.3 in
     record {
       place = r.0;

@@ -4,8 +4,8 @@ use mathlib.Core.Option.{some}
 use lib.ListN.{get_elem?}
 use Rattle.pw_books.specs.declared.view.View.{View}
 use Rattle.pw_books.specs.Books.{entries_of, count_in, furthest}
-use Rattle.pw_books.specs.Machine.{Machine, spent_view, holds_as, Fits, Invariant, IsOpening}
-use Rattle.pw_books.specs.Sums.{total, bit}
+use Rattle.pw_books.specs.Machine.{Machine, spent_view, Fits, Invariant, IsOpening, holds, seat_number}
+use Rattle.pw_books.specs.Sums.{as_number, total, bit}
 use Rattle.pw_books.specs.Steps.{draw_number, miss_draw, split_seat, join_seats, read_made, drawn, missed, left_of, right_of, joined, looked, May, after}
 use Rattle.pw_books.proofs.Lists.{both_each, more_each, set_else, total-append, total-set, one, none-of, off, once_more}
 use Rattle.pw_books.proofs.Books.{begins_furthest, count_split, count_without, count-append, empty_front, list_is, reads_joined, reads_new, reads_without}
@@ -118,7 +118,7 @@ module _ {E : Type 0} (seat_of : E → ℕ) (Good : List E → Type 0) (m : Mach
             strangers = i.numbers.strangers;
             most = i.numbers.most;
           };
-          holder = one_more m.turn vs (stays m.turn m.views i.holder j v l at refl refl) r refl;
+          holder = one_more seat_number m.turn holds vs (stays seat_number m.turn holds m.views i.holder j v l at refl refl) r refl;
           opens = more_each Opens m.views j l (λ mark. off v.mark a.unmarked mark)
               (λ k u ne there mark. absurd (other_unmarked seat_of Good m i j k v u ne at there a.live mark)) r (λ k mark. off false refl mark);
           parts = omega (arith, total-append (λ u. u.parts) vs (r ∷ []), total-set (λ u. u.parts) m.views j v l at, i.parts, may.4);
@@ -158,7 +158,7 @@ module _ {E : Type 0} (seat_of : E → ℕ) (Good : List E → Type 0) (m : Mach
             strangers = i.numbers.strangers;
             most = i.numbers.most;
           };
-          holder = λ n. omega (arith, both (holds_as n), i.holder n, as_none n w (ap bit c.no_turn), as_none {E = E} n spent_view refl);
+          holder = λ n. omega (arith, both (as_number seat_number n holds), i.holder n, as_none seat_number holds n w (ap bit c.no_turn), as_none (seat_number {E = E}) holds n spent_view refl);
           opens = both_each Opens m.views j b (λ mark. off v.mark a.unmarked mark)
               (λ q u ne there mark. absurd (other_unmarked seat_of Good m i j q v u ne at there a.live mark)) k spent_view (λ mark. off false refl mark);
           parts = omega (arith, both (λ u. u.parts), i.parts);

@@ -5,7 +5,7 @@ use mathlib.Core.Logic.{dite}
 use native.Mathlib.Decide.{ℕ_discrete}
 use lib.ListN.{get_elem?}
 use Rattle.pw_books.specs.declared.view.View.{View}
-use Rattle.pw_books.specs.Machine.{Fits, IsOpening, Invariant}
+use Rattle.pw_books.specs.Machine.{Fits, IsOpening, Invariant, holds, seat_number}
 use Rattle.pw_books.specs.Steps.{take_turn, find_held, slot_out, slot_back, release_with_entry, release_without_entry, draw_number, miss_draw, split_seat, join_seats, read_made}
 use Rattle.pw_books.specs.Law.{desk, first_view, opened, StepKeeps, TurnLaw}
 use Rattle.pw_books.proofs.Lists.{one, none-of, once_yes, once_no}
@@ -55,7 +55,7 @@ module _ {E : Type 0} (seat_of : E → ℕ) (Good : List E → Type 0) where
       strangers = λ n h. refl;
       most = omega arith;
     };
-    holder = λ n. omega (arith, as_named {E = E} n first_view refl);
+    holder = λ n. omega (arith, as_named (seat_number {E = E}) holds n first_view refl);
     opens = λ k u there mark. let s = first_alone k u there in subst (λ k. IsOpening [] k u) (sym s.0) (subst (IsOpening [] 0) s.1 record {
       place = refl;
       number = refl;

@@ -1,17 +1,17 @@
 -- What a step tells its seat: who was met, what a seat that is alone knows, what a new number is.
-use Rattle.std.proofs.Common.{⊎_elim, true, ◌≡◌, ◌≢◌, ℕ, zero, suc, ◌-◌, ◌<◌, ◌≤◌, List, [], ◌∷◌, ◌++◌, false, Option, Some, length, cond, eq-eqb, sym, refl, ap, ◌∙◌, subst, arith, append-nil, length-append}
+use Rattle.std.proofs.Common.{⊎_elim, true, ◌≡◌, ◌≢◌, ℕ, zero, suc, ◌-◌, ◌<◌, ◌≤◌, List, [], ◌∷◌, false, Option, Some, cond, eq-eqb, sym, refl, ap, ◌∙◌, subst, arith}
 use mathlib.Core.Option.{some, some-injective, some-ne-none}
 use mathlib.Core.Logic.{dite}
 use native.Mathlib.Decide.{ℕ_discrete, dec_le}
 use lib.ListN.{get_elem?}
 use Rattle.pw_books.specs.declared.view.View.{View}
 use Rattle.pw_books.specs.Books.{entries_of, count_in, furthest, list_of}
-use Rattle.pw_books.specs.Machine.{Machine, holds, Invariant}
+use Rattle.pw_books.specs.Machine.{Machine, holds, Invariant, holds, seat_number}
 use Rattle.pw_books.specs.Sums.{total, bit, AtMost}
 use Rattle.pw_books.specs.Steps.{IsSpare, drawn}
 use Rattle.pw_books.specs.Told.{MeetsOther, KnowsAlone, IsTold, SeatsAreTold}
 use Rattle.pw_books.proofs.Lists.{term_le, terms_le, one, is_true, either_is, once_yes, once_no}
-use Rattle.pw_books.proofs.Books.{begins_furthest, empty_front, known_both, entries_of-append}
+use Rattle.pw_books.proofs.Books.{begins_furthest, empty_front, known_both, whole_seen}
 use Rattle.pw_books.proofs.Turns.{holder}
 use Rattle.pw_books.proofs.Facts.{other_unmarked, live_holds, number_below, other_count}
 
@@ -34,7 +34,7 @@ module _ {E : Type 0} (seat_of : E → ℕ) (Good : List E → Type 0) (m : Mach
   -- the holder of a turn that this seat hasn't: its number isn't in this seat's book, and this seat isn't alone
   met_other : m.turn ≢ 0 → v.holds ≡ false → MeetsOther v (m.turn - 1)
   met_other ne none =
-      let r = holder m.turn m.views i.holder ne in let u = r.1 in
+      let r = holder seat_number m.turn holds m.views i.holder ne in let u = r.1 in
       let apart : j ≢ r.0 = λ same. absurd (omega (arith, r.3, ap bit none, ap holds (some-injective u v (sym r.2 ∙ (ap (λ k. get_elem? m.views k) (sym same) ∙ at))))) in
       let live = live_holds seat_of Good m i r.0 u r.2 (is_true u.holds r.3) in let own = (i.fits r.0 u r.2).own live in
       let number : u.number ≡ m.turn - 1 = omega (arith, r.4) in record {
@@ -70,26 +70,9 @@ module _ {E : Type 0} (seat_of : E → ℕ) (Good : List E → Type 0) (m : Mach
     alone_seen : furthest v.told v.seen ≡ m.history
     alone_seen =
         let r = (i.fits j v at).reads in let far = begins_furthest m.history v.seen v.told r.begins r.begins_too in
-        ended far.0 far.1 (λ n. dite (dec_le m.made n)
+        whole_seen seat_of m.history (furthest v.told v.seen) far (λ n. dite (dec_le m.made n)
         (λ le. let none = i.numbers.strangers n le in none ∙ sym (empty_front seat_of n m.history (furthest v.told v.seen) far none))
         (λ nle. no_entry_since n (omega (arith, alone_book n (omega arith)))))
-      where
-        ended : (rest : List E) → m.history ≡ furthest v.told v.seen ++ rest
-            → ((n : ℕ) → entries_of seat_of n m.history ≡ entries_of seat_of n (furthest v.told v.seen)) → furthest v.told v.seen ≡ m.history
-        ended [] e same = sym (e ∙ append-nil (furthest v.told v.seen))
-        ended (x ∷ xs) e same =
-            let n = seat_of x in
-            let c : entries_of seat_of n (x ∷ xs) ≡ x ∷ entries_of seat_of n xs = ap (λ b. cond b (x ∷ entries_of seat_of n xs) (entries_of seat_of n xs)) (eq-eqb n n refl) in
-            let l : entries_of seat_of n m.history ≡ entries_of seat_of n (furthest v.told v.seen) ++ entries_of seat_of n (x ∷ xs) = ap (entries_of seat_of n) e
-            ∙ entries_of-append seat_of n (furthest v.told v.seen) (x ∷ xs) in
-            absurd (omega (
-              arith,
-              ap (length {A = E}) l,
-              ap (length {A = E}) (same n),
-              ap (length {A = E}) c,
-              length-append (entries_of seat_of n (furthest v.told v.seen))
-                  (entries_of seat_of n (x ∷ xs)),
-            ))
 
     -- the turn is free where it hasn't it
     alone_turn : v.holds ≡ false → m.turn ≡ 0

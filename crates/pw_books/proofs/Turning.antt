@@ -4,7 +4,7 @@ use mathlib.Core.Option.{some}
 use lib.ListN.{get_elem?}
 use Rattle.pw_books.specs.declared.view.View.{View}
 use Rattle.pw_books.specs.Books.{count_in, grown, Reads}
-use Rattle.pw_books.specs.Machine.{Machine, Fits, Invariant}
+use Rattle.pw_books.specs.Machine.{Machine, Fits, Invariant, holds, seat_number}
 use Rattle.pw_books.specs.Sums.{bit, once_below}
 use Rattle.pw_books.specs.Steps.{take_turn, find_held, slot_out, slot_back, release_with_entry, release_without_entry, led, met_with, let_go, entered, May, after}
 use Rattle.pw_books.proofs.Lists.{at_set, total-set, off, bit_one, is_false}
@@ -27,7 +27,7 @@ module _ {E : Type 0} (seat_of : E → ℕ) (Good : List E → Type 0) (m : Mach
     books = books;
     more = more;
     most = most;
-    holder = stays m.turn m.views i.holder j v w at number (ap bit same);
+    holder = stays seat_number m.turn holds m.views i.holder j v w at number (ap bit same);
     opens = λ e. off w.mark mark e;
     fits = fits;
   }
@@ -41,7 +41,7 @@ module _ {E : Type 0} (seat_of : E → ℕ) (Good : List E → Type 0) (m : Mach
         books = λ n. refl;
         more = omega arith;
         most = i.numbers.most;
-        holder = gains m.turn m.views i.holder j v w at refl may.1 refl;
+        holder = gains seat_number m.turn holds m.views i.holder j v w at refl may.1 refl;
         opens = λ e. off v.mark a.unmarked e;
         fits = record {
           reads = reads_all seat_of m.history v.told v.book f.reads.begins_too f.reads.lists;
@@ -75,7 +75,7 @@ module _ {E : Type 0} (seat_of : E → ℕ) (Good : List E → Type 0) (m : Mach
         books = λ n. refl;
         more = omega arith;
         most = i.numbers.most;
-        holder = stays m.turn m.views i.holder j v w at refl refl;
+        holder = stays seat_number m.turn holds m.views i.holder j v w at refl refl;
         opens = λ e. let o = i.opens j v at e in record { place = o.place; number = o.number; all = o.all; turn = o.turn; empty = o.empty };
         fits = record { reads = f.reads; own = f.own; slot = λ _. h; leader = f.leader; at_read = f.at_read; spent = λ z. absurd (omega (arith, z, live)) };
       }
@@ -96,7 +96,7 @@ module _ {E : Type 0} (seat_of : E → ℕ) (Good : List E → Type 0) (m : Mach
         books = λ n. refl;
         more = omega arith;
         most = i.numbers.most;
-        holder = loses m.turn m.views i.holder j v w at (omega (arith, bit_one v.holds may.0)) refl;
+        holder = loses seat_number m.turn holds m.views i.holder j v w at (omega (arith, bit_one v.holds may.0)) refl;
         opens = λ e. off false refl e;
         fits = record {
           reads = f.reads;
@@ -136,7 +136,7 @@ module _ {E : Type 0} (seat_of : E → ℕ) (Good : List E → Type 0) (m : Mach
     fits_beside : (k : ℕ) (u : View E) → k ≢ j → get_elem? m.views k ≡ some u → Fits seat_of (m.history ++ e ∷ []) m.made u
     fits_beside k u ne there =
         let g = i.fits k u there in
-        let none : u.holds ≡ false = is_false u.holds (one_has m.turn m.views i.holder j k v u ne at there (omega (arith, bit_one v.holds may.turn))) in
+        let none : u.holds ≡ false = is_false u.holds (one_has seat_number m.turn holds m.views i.holder j k v u ne at there (omega (arith, bit_one v.holds may.turn))) in
         record {
           reads = reads_other seat_of m.history u.seen u.told u.book e (other_count seat_of Good m i j k v u ne at there (seat_of e) own_count) g.reads;
           own = g.own;
@@ -156,7 +156,7 @@ module _ {E : Type 0} (seat_of : E → ℕ) (Good : List E → Type 0) (m : Mach
             strangers = λ n h. let low = number_below seat_of Good m i j v at (seat_of e) own_count in entries_of-other seat_of n m.history e (λ s. omega (arith, s, low, h)) ∙ i.numbers.strangers n h;
             most = i.numbers.most;
           };
-          holder = loses m.turn m.views i.holder j v w at (omega (arith, bit_one v.holds may.turn)) refl;
+          holder = loses seat_number m.turn holds m.views i.holder j v w at (omega (arith, bit_one v.holds may.turn)) refl;
           opens = λ k u there mark. ⊎_elim
               (λ (t : (k ≡ j) × (w ≡ u)). off v.mark may.unmarked (ap (λ (x : View E). x.mark) t.1 ∙ mark))
               (λ (t : (k ≢ j) × (get_elem? m.views k ≡ some u)). absurd (other_unmarked seat_of Good m i j k v u t.0 at t.1 live mark))

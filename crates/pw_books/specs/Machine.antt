@@ -1,9 +1,9 @@
 -- The desk's machine: its state and its invariant.
-use Rattle.std.specs.Prelude.{◌≡◌, ℕ, ◌<◌, ◌≤◌, true, false, List, [], None, ◌==◌, cond}
+use Rattle.std.specs.Prelude.{◌≡◌, ℕ, ◌<◌, ◌≤◌, true, false, List, [], None}
 use mathlib.Core.Option.{some}
 use lib.ListN.{get_elem?}
 use Rattle.pw_books.specs.Books.{Reads, count_in, entries_of}
-use Rattle.pw_books.specs.Sums.{AtMost, bit, names, once_below, total}
+use Rattle.pw_books.specs.Sums.{AtMost, Named, bit, once_below, total}
 use Rattle.pw_books.specs.declared.view.View.{View}
 
 -- # State
@@ -35,16 +35,14 @@ spent_view = record {
 }
 
 module _ {E : Type 0} where
+  abbrev pub seat_number : View E → ℕ
+  seat_number v = v.number
+
   abbrev pub holds : View E → ℕ
   holds v = bit v.holds
 
-  -- 1 where the view has this number and the turn
-  abbrev pub holds_as : ℕ → View E → ℕ
-  holds_as n v = cond (v.number == n) (holds v) 0
-
-  -- the turn names n exactly where the view numbered n has it, and it has it once
   abbrev pub NamesHolder : ℕ → List (View E) → Type 0
-  NamesHolder turn views = (n : ℕ) → total (holds_as n) views ≡ names turn n
+  NamesHolder turn views = Named seat_number turn holds views
 
   -- A view with the mark is the first one's, and no other is live. It has the turn to the last.
   pub record IsOpening (history : List E) (j : ℕ) (v : View E) : Type 0 where

@@ -1,5 +1,5 @@
--- Sums over the elements of a list, 1 for what is so, and bounds of what may not be there.
-use Rattle.std.specs.Prelude.{ℕ, suc, ◌+◌, ◌≤◌, Bool, List, [], ◌∷◌, Option, Some, None, ◌==◌, nat_lt, cond}
+-- Sums over the elements of a list, 1 for what is so, bounds of what may not be there, and turns that name who has them.
+use Rattle.std.specs.Prelude.{◌≡◌, ℕ, suc, ◌+◌, ◌≤◌, Bool, List, [], ◌∷◌, Option, Some, None, ◌==◌, nat_lt, cond}
 
 -- what is counted of each element, summed up
 abbrev pub total : {A : Type 0} → (A → ℕ) → List A → ℕ
@@ -22,3 +22,15 @@ names turn n = bit (turn == suc n)
 abbrev pub AtMost : Option ℕ → ℕ → Type 0
 AtMost None n = Unit {0}
 AtMost (Some k) n = k ≤ n
+
+-- # A turn that names who has it
+
+-- by the number of a seat's view, and how often it has the turn
+module _ {V : Type 0} (number : V → ℕ) where
+  -- what the view has, where it has this number
+  abbrev pub as_number : ℕ → (V → ℕ) → V → ℕ
+  as_number n has v = cond (number v == n) (has v) 0
+
+  -- the turn names n exactly where the view numbered n has it, and it has it once
+  abbrev pub Named : ℕ → (V → ℕ) → List V → Type 0
+  Named turn has views = (n : ℕ) → total (as_number n has) views ≡ names turn n

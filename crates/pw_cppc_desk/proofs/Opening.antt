@@ -12,6 +12,7 @@ use Rattle.pw_books.specs.Steps.{after, in_hand, in_place, let_go, release_witho
 use Rattle.pw_books.specs.Law.{first_view, opened}
 use Rattle.pw_books.proofs.Lists.{at_set, bit_one, off}
 use Rattle.pw_books.proofs.Facts.{live_holds, other_unmarked}
+use Rattle.pw_books.specs.Machine.{holds, seat_number}
 use Rattle.pw_books.proofs.Turns.{turn_is}
 use Rattle.pw_cppc_desk.specs.Slots.{MayBe, seat_of}
 use Rattle.pw_cppc_desk.specs.Rule.{Ruled, given_of, showing}
@@ -38,7 +39,7 @@ module _ {R : Type 0} (by : Registers R) where
         shows by key s o id m.0 slot_out w (set s.words 1 (get_or s.words 1 0)) (set s.homes 0 none) me live
             (turn, none-out) refl (ap (λ ws. set ws 1 (get_or ws 1 0)) o.words)
             record {
-              free = λ z. absurd (omega (arith, z, turn_is mach.turn mach.views i.holder id m.0.view at (omega (arith, bit_one m.0.view.holds turn))));
+              free = λ z. absurd (omega (arith, z, turn_is seat_number mach.turn holds mach.views i.holder id m.0.view at (omega (arith, bit_one m.0.view.holds turn))));
               blank = λ y u there mark home. ⊎_elim
                   (λ (b : (y ≡ id) × (w ≡ u)). off u.out home (sym (ap (λ (x : View CppcEntry). x.out) b.1)))
                   (λ (b : (y ≢ id) × (get_elem? mach.views y ≡ some u)). absurd (other_unmarked seat_of Good mach i id y m.0.view u b.0 at b.1

@@ -5,7 +5,7 @@ use lib.ListN.{get_elem?}
 use Rattle.pw_regs.specs.declared.registers.Registers.{Ghosts as Registers}
 use Rattle.pw_cppc.specs.declared.entry.CppcEntry.{CppcEntry}
 use Rattle.pw_books.specs.declared.view.View.{View}
-use Rattle.pw_books.specs.Machine.{Invariant, Machine}
+use Rattle.pw_books.specs.Machine.{Invariant, Machine, holds, seat_number}
 use Rattle.pw_books.specs.Law.{first_view, opened}
 use Rattle.pw_books.specs.Told.{MeetsOther}
 use Rattle.pw_books.specs.Steps.{Kind, May, after, take_turn, find_held}
@@ -39,7 +39,7 @@ module _ (Good : List CppcEntry → Type 0) (m : Machine CppcEntry) (inv : Invar
 
   not_find : (k : Kind CppcEntry) → May seat_of Good m j v k → IsFind k → ⊥
   not_find find_held may f =
-      let h = holder m.turn m.views inv.holder may.1 in
+      let h = holder seat_number m.turn holds m.views inv.holder may.1 in
       let other = (is_told seat_of Good m inv j v at).met may in
       let far = other_holds _ other h.0 h.1 h.2 (omega (arith, h.4)) may.0.live in
       omega (arith, h.3, bit_zero h.1.holds (none h.0 h.1 far h.2))

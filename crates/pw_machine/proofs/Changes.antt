@@ -1,5 +1,5 @@
 -- A step that leaves the history and the number of views: what is to be shown of it.
-use Rattle.std.proofs.Common.{◌≡◌, ◌≢◌, ⊎_elim, ℕ, ◌+◌, ◌<◌, ◌≤◌, List, true, Option, Some, get_or, set, sym, ap, ◌∙◌, subst, arith}
+use Rattle.std.proofs.Common.{◌≡◌, ◌≢◌, ℕ, ◌+◌, ◌<◌, ◌≤◌, List, true, Option, Some, get_or, set, ap, ◌∙◌, arith}
 use mathlib.Core.Option.{some}
 use lib.ListN.{get_elem?}
 use Rattle.acpi_values.specs.declared.operation.Op.{Op}
@@ -7,10 +7,10 @@ use Rattle.pw_model.specs.Records.{Part}
 use Rattle.pw_plan.specs.declared.plan.Plan.{Plan}
 use Rattle.pw_machine.specs.declared.view.View.{View}
 use Rattle.pw_books.specs.Books.{count_in}
-use Rattle.pw_machine.specs.Machine.{Machine, now, count_held, holds, leads, marks, NotesWithin, Fits, HasTurns, IsOpening, HasValues, HasRegisters, Invariant}
+use Rattle.pw_machine.specs.Machine.{Machine, now, count_held, holds, leads, marks, NotesWithin, Fits, HasTurns, IsOpening, HasValues, HasRegisters, Invariant, seat_number}
 use Rattle.pw_books.specs.Sums.{total, bit, once_below}
-use Rattle.pw_books.proofs.Lists.{at_set, total-set}
-use Rattle.pw_machine.proofs.Turns.{stays}
+use Rattle.pw_books.proofs.Lists.{set_each, total-set}
+use Rattle.pw_books.proofs.Turns.{stays}
 use Rattle.pw_machine.proofs.Facts.{other_unmarked}
 use Rattle.pw_books.proofs.Changes.{at_most_more}
 
@@ -29,8 +29,8 @@ pub turns_stay : (P : Plan) (turns : List ℕ) (journal : ℕ) (views : List Vie
     → HasTurns P turns journal (set views j w)
 turns_stay P turns journal views h j v w at number held leads-w = record {
   wide = h.wide;
-  holders = λ t low. stays (get_or turns t 0) (holds t) views (h.holders t low) j v w at number (ap (count_held t) held);
-  leader = stays journal leads views h.leader j v w at number (ap bit leads-w);
+  holders = λ t low. stays seat_number (get_or turns t 0) (holds t) views (h.holders t low) j v w at number (ap (count_held t) held);
+  leader = stays seat_number journal leads views h.leader j v w at number (ap bit leads-w);
 }
 
 -- the machine with these parts, and the view w at j
@@ -63,25 +63,20 @@ changed m i j v w at made turns journal values ops count c = record {
     most = c.most;
   };
   turns = c.has_turns;
-  opens = λ k u e mark. ⊎_elim
-      (λ (t : (k ≡ j) × (w ≡ u)). subst (λ k. IsOpening m.given m.history count k u) (sym t.0) (subst (IsOpening m.given m.history count j) t.1 (c.opens (ap (λ (x : View). x.mark) t.1 ∙ mark))))
-      (λ (t : (k ≢ j) × (get_elem? m.views k ≡ some u)). absurd (other_unmarked m i j k v u t.0 at t.1 c.live mark))
-      (at_set m.views j k w u e);
+  opens = set_each (λ k u. u.mark ≡ true → IsOpening m.given m.history count k u) m.views j w c.opens
+      (λ k u ne there mark. absurd (other_unmarked m i j k v u ne at there c.live mark));
   values = c.has_values;
   registers = c.registers;
   parts = omega (arith, total-set (λ u. u.parts) m.views j v w at, i.parts, c.parts);
-  fits = λ k u e. ⊎_elim
-      (λ (t : (k ≡ j) × (w ≡ u)). subst (Fits m.given.plan m.history made count) t.1 c.fits)
-      (λ (t : (k ≢ j) × (get_elem? m.views k ≡ some u)). let g = i.fits k u t.1 in record {
-        reads = g.reads;
-        own = g.own;
-        serves = g.serves;
-        holds_records = g.holds_records;
-        slots = g.slots;
-        leader = g.leader;
-        found = λ h mark. g.found h mark ∙ ap Some (c.others u h k t.0 t.1);
-        notes = notes_more m.made made m.count count u.at_lock u.at_unlock u.read c.more c.risen g.notes;
-        spent = g.spent;
-      })
-      (at_set m.views j k w u e);
+  fits = set_each (λ k u. Fits m.given.plan m.history made count u) m.views j w c.fits (λ k u ne there. let g = i.fits k u there in record {
+    reads = g.reads;
+    own = g.own;
+    serves = g.serves;
+    holds_records = g.holds_records;
+    slots = g.slots;
+    leader = g.leader;
+    found = λ h mark. g.found h mark ∙ ap Some (c.others u h k ne there);
+    notes = notes_more m.made made m.count count u.at_lock u.at_unlock u.read c.more c.risen g.notes;
+    spent = g.spent;
+  });
 }

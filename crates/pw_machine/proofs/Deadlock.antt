@@ -13,11 +13,12 @@ use Rattle.pw_machine.proofs.Plans.{height, tallest}
 use Rattle.pw_machine.proofs.Plans.{ends_route, height_below, on_route, way_rises, way_within}
 use Rattle.pw_machine.specs.declared.view.Held.{Held}
 use Rattle.pw_machine.specs.declared.view.View.{View}
-use Rattle.pw_machine.specs.Machine.{Machine, now, held_as, turns_of, count_held, holds, leads, Invariant}
+use Rattle.pw_machine.specs.Machine.{Machine, now, held_as, turns_of, count_held, holds, leads, Invariant, seat_number}
 use Rattle.pw_machine.specs.Steps.{Kind, take_record, find_record_held, record_back, release_record, take_journal, find_journal_held, journal_back, release_without_entry, Asks, IsNext, HoldsAs, May}
 use Rattle.pw_machine.specs.Waits.{Waits, CanGoOn, NoDeadlock}
 use Rattle.pw_books.proofs.Lists.{one, none-of, is_true, turn_below, either_is}
-use Rattle.pw_machine.proofs.Turns.{holder, count-turns}
+use Rattle.pw_books.proofs.Turns.{holder}
+use Rattle.pw_machine.proofs.Turns.{count-turns}
 use Rattle.pw_machine.proofs.Facts.{live_held}
 use Rattle.pw_machine.proofs.Requests.{next_in}
 use Rattle.pw_machine.proofs.Keeps.{law}
@@ -78,13 +79,13 @@ module _ (m : Machine) (i : Invariant m) where
       opening (x ∷ xs) e mark home = marked_frees k u there mark x.turn (omega (arith, ap (count_held x.turn) e, one x.turn x.turn refl))
 
   journal_goes : m.journal ≢ 0 → CanGoOn m
-  journal_goes ne = let r = holder m.journal leads m.views i.turns.leader ne in leader_goes r.0 r.1 r.2 (is_true r.1.leads r.3)
+  journal_goes ne = let r = holder seat_number m.journal leads m.views i.turns.leader ne in leader_goes r.0 r.1 r.2 (is_true r.1.leads r.3)
 
   -- the holder of the record t can go on, or who holds a turn that comes after it
   record_goes : (fuel t : ℕ) → t < record_count m.given.plan → tallest m.given.plan ≤ height m.given.plan t + fuel → get_or m.turns t 0 ≢ 0
       → CanGoOn m
   record_goes zero t low near ne = absurd (omega (arith, near, height_below m.given.plan t))
-  record_goes (suc fuel) t low near ne = let r = holder (get_or m.turns t 0) (holds t) m.views (i.turns.holders t low) ne in holds_it r.0 r.1 r.2 r.3
+  record_goes (suc fuel) t low near ne = let r = holder seat_number (get_or m.turns t 0) (holds t) m.views (i.turns.holders t low) ne in holds_it r.0 r.1 r.2 r.3
       (λ t2 low2 up ne2. record_goes fuel t2 low2 (omega (arith, near, up)) ne2)
     where
       holds_it : (k : ℕ) (u : View) → get_elem? m.views k ≡ some u → 0 < count_held t u.held

@@ -13,12 +13,13 @@ use Rattle.pw_machine.specs.Turns.{part_at}
 use Rattle.pw_machine.proofs.Plans.{legal_next, legal_state, ops_snoc}
 use Rattle.pw_machine.specs.declared.view.View.{View}
 use Rattle.pw_books.specs.Books.{count_in, grown, Reads}
-use Rattle.pw_machine.specs.Machine.{Machine, now, count_held, holds, leads, Fits, HasRegisters, Invariant, seat_of}
+use Rattle.pw_machine.specs.Machine.{Machine, now, count_held, holds, leads, Fits, HasRegisters, Invariant, seat_of, seat_number}
 use Rattle.pw_books.specs.Sums.{bit}
 use Rattle.pw_machine.specs.Steps.{release_with_entry, renoted, entered, Enters, after}
 use Rattle.pw_books.proofs.Lists.{at_set, total-set, bit_one, off, either_is}
 use Rattle.pw_books.proofs.Books.{reads_all, reads_other, prefix_more, knows_grown, count_grown, entries_of-other}
-use Rattle.pw_machine.proofs.Turns.{none_has, one_has, stays, loses, count-turns, count_renoted, noted_renoted}
+use Rattle.pw_books.proofs.Turns.{none_has, one_has, stays, loses}
+use Rattle.pw_machine.proofs.Turns.{count-turns, count_renoted, noted_renoted}
 use Rattle.pw_machine.proofs.Facts.{is_state, live_leads, other_unmarked, number_below, other_count}
 use Rattle.pw_machine.proofs.Changes.{notes_more}
 use Rattle.pw_machine.proofs.Requests.{no_some, serves_releasing, serves_still, entry_stays}
@@ -77,10 +78,10 @@ module _ (m : Machine) (i : Invariant m) (j : ℕ) (v : View) (at : get_elem? m.
   fits_beside k u ne there =
       let g = i.fits k u there in let P = m.given.plan in let H = m.history ++ e ∷ [] in
       let has-it : 0 < bit v.leads = omega (arith, bit_one v.leads may.leads) in
-      let none-leads : bit u.leads ≡ 0 = one_has m.journal leads m.views i.turns.leader j k v u ne at there has-it in
+      let none-leads : bit u.leads ≡ 0 = one_has seat_number m.journal leads m.views i.turns.leader j k v u ne at there has-it in
       let no-journal : u.leads ≡ false = ⊎_elim (λ (h : u.leads ≡ true). absurd (omega (arith, none-leads, bit_one u.leads h))) (λ (h : u.leads ≡ false). h) (either_is u.leads) in
       let same : (t : ℕ) → 0 < count_held t u.held → part_at P t (replay P H) ≡ part_at P t (now m) = λ t more.
-      let low = g.holds_records t more in off_entry t low (one_has (get_or m.turns t 0) (holds t) m.views (i.turns.holders t low) k j u v (λ s. ne (sym s)) there at more) in
+      let low = g.holds_records t more in off_entry t low (one_has seat_number (get_or m.turns t 0) (holds t) m.views (i.turns.holders t low) k j u v (λ s. ne (sym s)) there at more) in
       record {
         reads = reads_other seat_of m.history u.seen u.told u.book e (other_count m i j k v u ne at there e.seat own_count) g.reads;
         own = g.own;
@@ -119,8 +120,8 @@ module _ (m : Machine) (i : Invariant m) (j : ℕ) (v : View) (at : get_elem? m.
         };
         turns = record {
           wide = i.turns.wide;
-          holders = λ t low. stays (get_or m.turns t 0) (holds t) m.views (i.turns.holders t low) j v w at refl (count_renoted t P (replay P H) v.held);
-          leader = loses m.journal leads m.views i.turns.leader j v w at (omega (arith, bit_one v.leads may.leads)) refl;
+          holders = λ t low. stays seat_number (get_or m.turns t 0) (holds t) m.views (i.turns.holders t low) j v w at refl (count_renoted t P (replay P H) v.held);
+          leader = loses seat_number m.journal leads m.views i.turns.leader j v w at (omega (arith, bit_one v.leads may.leads)) refl;
         };
         opens = λ k u there mark. ⊎_elim
             (λ (t : (k ≡ j) × (w ≡ u)). off v.mark entry_unmarked (ap (λ (x : View). x.mark) t.1 ∙ mark))
@@ -128,7 +129,7 @@ module _ (m : Machine) (i : Invariant m) (j : ℕ) (v : View) (at : get_elem? m.
             (at_set m.views j k w u there);
         values = record {
           sized = i.values.sized;
-          free = λ t low free. i.values.free t low free ∙ ap some (sym (off_entry t low (none_has (get_or m.turns t 0) (holds t) m.views (i.turns.holders t low) free j v at)));
+          free = λ t low free. i.values.free t low free ∙ ap some (sym (off_entry t low (none_has seat_number (get_or m.turns t 0) (holds t) m.views (i.turns.holders t low) free j v at)));
         };
         registers = λ none. registers_entered (registers_stay m i j v w at refl none);
         parts = omega (arith, total-set (λ u. u.parts) m.views j v w at, i.parts);

@@ -8,13 +8,13 @@ use Rattle.pw_model.specs.Records.{Part}
 use Rattle.pw_model.specs.Records.{record_count}
 use Rattle.pw_machine.proofs.Plans.{legal_nil}
 use Rattle.pw_machine.specs.declared.view.View.{View}
-use Rattle.pw_machine.specs.Machine.{Given, Machine, count_held, holds, leads, Fits, IsOpening, Invariant}
+use Rattle.pw_machine.specs.Machine.{Given, Machine, count_held, holds, leads, Fits, IsOpening, Invariant, seat_number}
 use Rattle.pw_books.specs.Sums.{names}
 use Rattle.pw_machine.specs.Steps.{Kind, take_record, find_record_held, record_out, record_back, release_record, take_journal, find_journal_held, journal_out, journal_back, release_with_entry, release_without_entry, draw_number, miss_draw, split_seat, join_seats, read_made, May, after}
 use Rattle.pw_machine.specs.Law.{all_held, all_turns, first_view, opened, power, TurnLaw}
 use Rattle.pw_books.proofs.Running.{lasts}
 use Rattle.pw_books.proofs.Lists.{one, none-of, off, once_yes, once_no}
-use Rattle.pw_machine.proofs.Turns.{as_named}
+use Rattle.pw_books.proofs.Turns.{as_named}
 use Rattle.pw_machine.proofs.Takes.{keeps_take, keeps_lead, keeps_find_record, keeps_find_journal, keeps_record_out, keeps_record_back, keeps_journal_out, keeps_journal_back, keeps_release, keeps_let_go}
 use Rattle.pw_machine.proofs.Entries.{keeps_enter}
 use Rattle.pw_machine.proofs.Seats.{keeps_draw, keeps_miss, keeps_split, keeps_join, keeps_read}
@@ -96,11 +96,11 @@ module _ (given : Given) (values : List Part) (sized : length values ≡ record_
       wide = length_all values ∙ sized;
       holders = λ t low n. omega (
         arith,
-        as_named (holds t) n (first_view values) (held_all 0 t values (omega arith) (omega (arith, low, sized))),
+        as_named seat_number (holds t) n (first_view values) (held_all 0 t values (omega arith) (omega (arith, low, sized))),
         ap
             (λ x. names x n) (turn_all values t (omega (arith, low, sized))),
       );
-      leader = λ n. omega (arith, as_named leads n (first_view values) refl);
+      leader = λ n. omega (arith, as_named seat_number leads n (first_view values) refl);
     };
     opens = λ k u there mark. let s = first_alone k u there in subst (λ k. IsOpening given [] given.count k u) (sym s.0) (subst (IsOpening given [] given.count 0) s.1 record {
       place = refl;

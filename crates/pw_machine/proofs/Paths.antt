@@ -8,12 +8,12 @@ use Rattle.std.specs.List.{AllByRecursion}
 use Rattle.pw_plan.proofs.Lists.{each_append}
 use Rattle.pw_model.specs.Records.{record_count}
 use Rattle.pw_machine.specs.declared.view.View.{View}
-use Rattle.pw_machine.specs.Machine.{Machine, Invariant, count_held, holds, leads}
+use Rattle.pw_machine.specs.Machine.{Machine, Invariant, count_held, holds, leads, seat_number}
 use Rattle.pw_books.specs.Sums.{bit}
 use Rattle.pw_machine.specs.Steps.{Kind, May, after, take_record}
 use Rattle.pw_machine.specs.Law.{Steps}
 use Rattle.pw_books.proofs.Lists.{elem_below, set_else, set_here}
-use Rattle.pw_machine.proofs.Turns.{holder}
+use Rattle.pw_books.proofs.Turns.{holder}
 use Rattle.pw_machine.proofs.Keeps.{step_keeps}
 
 -- # Paths
@@ -63,7 +63,7 @@ module _ (m : Machine) (i : Invariant m) (j : ℕ) (v : View) (at : get_elem? m.
   -- what this seat doesn't hold is free
   pub record_free : (t : ℕ) → t < record_count m.given.plan → count_held t v.held ≡ 0 → get_or m.turns t 0 ≡ 0
   record_free t low none = dite (ℕ_discrete (get_or m.turns t 0) 0) (λ z. z) (λ ne.
-      let r = holder (get_or m.turns t 0) (holds t) m.views (i.turns.holders t low) ne in
+      let r = holder seat_number (get_or m.turns t 0) (holds t) m.views (i.turns.holders t low) ne in
       dite (ℕ_discrete r.0 j)
       (λ e. absurd (let same : r.1 ≡ v = some-injective r.1 v (sym r.2 ∙ (ap (λ k. get_elem? m.views k) e ∙ at)) in let none2 : count_held t r.1.held ≡ 0 = ap (λ (u : View). count_held t u.held) same
       ∙ none in omega (arith, r.3, none2)))
@@ -71,7 +71,7 @@ module _ (m : Machine) (i : Invariant m) (j : ℕ) (v : View) (at : get_elem? m.
 
   pub journal_free : v.leads ≡ false → m.journal ≡ 0
   journal_free none = dite (ℕ_discrete m.journal 0) (λ z. z) (λ ne.
-      let r = holder m.journal leads m.views i.turns.leader ne in
+      let r = holder seat_number m.journal leads m.views i.turns.leader ne in
       dite (ℕ_discrete r.0 j)
       (λ e. absurd (let same : r.1 ≡ v = some-injective r.1 v (sym r.2 ∙ (ap (λ k. get_elem? m.views k) e ∙ at)) in let z : bit r.1.leads ≡ 0 = ap (λ (u : View). bit u.leads) same ∙ ap bit none
       in omega (arith, r.3, z)))

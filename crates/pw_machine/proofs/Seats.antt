@@ -7,12 +7,12 @@ use Rattle.pw_model.specs.declared.entry.HistoryEntry.{HistoryEntry}
 use Rattle.pw_model.specs.History.{replay}
 use Rattle.pw_machine.specs.declared.view.View.{View}
 use Rattle.pw_books.specs.Books.{entries_of, count_in, furthest}
-use Rattle.pw_machine.specs.Machine.{Machine, now, count_held, spent_view, as_number, holds, leads, marks, ServesRequest, Fits, Invariant, IsOpening, seat_of}
-use Rattle.pw_books.specs.Sums.{total, bit}
+use Rattle.pw_machine.specs.Machine.{Machine, now, count_held, spent_view, holds, leads, marks, ServesRequest, Fits, Invariant, IsOpening, seat_of, seat_number}
+use Rattle.pw_books.specs.Sums.{as_number, total, bit}
 use Rattle.pw_machine.specs.Steps.{draw_number, miss_draw, split_seat, join_seats, read_made, drawn, missed, left_of, right_of, joined, looked, IsIdle, May, after}
 use Rattle.pw_books.proofs.Lists.{both_each, more_each, set_else, total-append, total-set, one, none-of, off, once_more}
 use Rattle.pw_books.proofs.Books.{begins_furthest, count_split, count_without, count-append, empty_front, list_is, reads_joined, reads_new, reads_without}
-use Rattle.pw_machine.proofs.Turns.{as_none, one_more}
+use Rattle.pw_books.proofs.Turns.{as_none, one_more}
 use Rattle.pw_machine.proofs.Facts.{other_unmarked, number_below, other_count}
 use Rattle.pw_machine.proofs.Changes.{turns_stay}
 use Rattle.pw_machine.proofs.Requests.{serves_nothing}
@@ -147,8 +147,8 @@ module _ (m : Machine) (i : Invariant m) (j : ℕ) (v : View) (at : get_elem? m.
           };
           turns = let t = turns_stay m.given.plan m.turns m.journal m.views i.turns j v l at refl refl refl in record {
             wide = t.wide;
-            holders = λ x low. one_more (get_or m.turns x 0) (holds x) vs (t.holders x low) r refl;
-            leader = one_more m.journal leads vs t.leader r refl;
+            holders = λ x low. one_more seat_number (get_or m.turns x 0) (holds x) vs (t.holders x low) r refl;
+            leader = one_more seat_number m.journal leads vs t.leader r refl;
           };
           opens = more_each Opens m.views j l (λ mark. off v.mark a.unmarked mark)
               (λ k u ne there mark. absurd (other_unmarked m i j k v u ne at there a.live mark)) r (λ k mark. off false refl mark);
@@ -197,8 +197,14 @@ module _ (m : Machine) (i : Invariant m) (j : ℕ) (v : View) (at : get_elem? m.
           };
           turns = record {
             wide = i.turns.wide;
-            holders = λ t low n. omega (arith, both (as_number n (holds t)), i.turns.holders t low n, as_none (holds t) n w (no-turn t), as_none (holds t) n spent_view refl);
-            leader = λ n. omega (arith, both (as_number n leads), i.turns.leader n, as_none leads n w (ap bit c.no_journal), as_none leads n spent_view refl);
+            holders = λ t low n. omega (
+              arith,
+              both (as_number seat_number n (holds t)),
+              i.turns.holders t low n,
+              as_none seat_number (holds t) n w (no-turn t),
+              as_none seat_number (holds t) n spent_view refl,
+            );
+            leader = λ n. omega (arith, both (as_number seat_number n leads), i.turns.leader n, as_none seat_number leads n w (ap bit c.no_journal), as_none seat_number leads n spent_view refl);
           };
           opens = both_each Opens m.views j b (λ mark. off v.mark a.unmarked mark)
               (λ q u ne there mark. absurd (other_unmarked m i j q v u ne at there a.live mark)) k spent_view (λ mark. off false refl mark);

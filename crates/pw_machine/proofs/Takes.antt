@@ -18,12 +18,13 @@ use Rattle.pw_machine.proofs.Plans.{ops_nil, next_record, next_journal}
 use Rattle.pw_machine.specs.declared.view.Held.{Held}
 use Rattle.pw_machine.specs.declared.view.View.{View}
 use Rattle.pw_books.specs.Books.{count_in}
-use Rattle.pw_machine.specs.Machine.{Machine, now, HasTurn, turns_of, count_held, holds, leads, marks, IsNoted, ServesRequest, Fits, HasRegisters, Invariant, seat_of}
+use Rattle.pw_machine.specs.Machine.{Machine, now, HasTurn, turns_of, count_held, holds, leads, marks, IsNoted, ServesRequest, Fits, HasRegisters, Invariant, seat_of, seat_number}
 use Rattle.pw_books.specs.Sums.{total, bit, once_below}
 use Rattle.pw_machine.specs.Steps.{take_record, find_record_held, record_out, record_back, release_record, take_journal, find_journal_held, journal_out, journal_back, release_without_entry, request_left, sign_left, without_record, in_hand, in_place, without_turn, taken, met_with, goes_on, freed, led, let_go, Asks, Leaves, HoldsAs, May, after}
 use Rattle.pw_books.proofs.Lists.{elem_below, turn_below, set_here, set_else, total-set, one, none-of, bit_one, off, either_is}
 use Rattle.pw_books.proofs.Books.{reads_all}
-use Rattle.pw_machine.proofs.Turns.{none_has, one_has, stays, gains, loses, turned, turns-snoc, count-snoc, noted-snoc, noted_without, count_without, holds_count, noted_is}
+use Rattle.pw_books.proofs.Turns.{none_has, one_has, stays, gains, loses}
+use Rattle.pw_machine.proofs.Turns.{turned, turns-snoc, count-snoc, noted-snoc, noted_without, count_without, holds_count, noted_is}
 use Rattle.pw_machine.proofs.Facts.{live_held, live_leads}
 use Rattle.pw_machine.proofs.Changes.{changed, moved, turns_stay}
 use Rattle.pw_machine.proofs.Requests.{no_some, front_of, all_of, serves_asking, serves_leading, serves_releasing}
@@ -82,7 +83,7 @@ module _ (m : Machine) (i : Invariant m) (j : ℕ) (v : View) (at : get_elem? m.
       let a = may.0 in let f = i.fits j v at in let w = taken t q x v in let g = f.serves a.unmarked in
       let low : t < record_count m.given.plan = omega (arith, elem_below m.values t x may.3, i.values.sized) in
       let next = next_record m.given.plan (now m) q (turns_of v.held) t low may.1 in
-      let none-yet : count_held t v.held ≡ 0 = none_has (get_or m.turns t 0) (holds t) m.views (i.turns.holders t low) may.2 j v at in
+      let none-yet : count_held t v.held ≡ 0 = none_has seat_number (get_or m.turns t 0) (holds t) m.views (i.turns.holders t low) may.2 j v at in
       let is : x ≡ part_at m.given.plan t (now m) = some-injective x (part_at m.given.plan t (now m)) (sym may.3 ∙ i.values.free t low may.2) in
       changed m i j v w at m.made (set m.turns t (suc v.number)) m.journal m.values m.ops m.count record {
         live = a.live;
@@ -94,9 +95,9 @@ module _ (m : Machine) (i : Invariant m) (j : ℕ) (v : View) (at : get_elem? m.
           wide = length-set m.turns t (suc v.number) ∙ i.turns.wide;
           holders = λ r below. turned m.turns m.views j v w t (suc v.number) (omega (arith, low, i.turns.wide)) at refl (λ r h. i.turns.holders r (omega (arith, h, i.turns.wide)))
               (λ r ne. omega (arith, count-snoc r v.held t x, none-of t r (λ e. ne (sym e))))
-              (gains (get_or m.turns t 0) (holds t) m.views (i.turns.holders t low) j v w at refl may.2 (omega (arith, count-snoc t v.held t x, one t t refl)))
+              (gains seat_number (get_or m.turns t 0) (holds t) m.views (i.turns.holders t low) j v w at refl may.2 (omega (arith, count-snoc t v.held t x, one t t refl)))
               r (omega (arith, below, i.turns.wide));
-          leader = stays m.journal leads m.views i.turns.leader j v w at refl refl;
+          leader = stays seat_number m.journal leads m.views i.turns.leader j v w at refl refl;
         };
         opens = λ e. off v.mark a.unmarked e;
         has_values = record {
@@ -136,8 +137,8 @@ module _ (m : Machine) (i : Invariant m) (j : ℕ) (v : View) (at : get_elem? m.
         most = i.numbers.most;
         has_turns = record {
           wide = i.turns.wide;
-          holders = λ t low. stays (get_or m.turns t 0) (holds t) m.views (i.turns.holders t low) j v w at refl refl;
-          leader = gains m.journal leads m.views i.turns.leader j v w at refl may.2 refl;
+          holders = λ t low. stays seat_number (get_or m.turns t 0) (holds t) m.views (i.turns.holders t low) j v w at refl refl;
+          leader = gains seat_number m.journal leads m.views i.turns.leader j v w at refl may.2 refl;
         };
         opens = λ e. off v.mark a.unmarked e;
         has_values = i.values;
@@ -286,9 +287,9 @@ module _ (m : Machine) (i : Invariant m) (j : ℕ) (v : View) (at : get_elem? m.
           wide = length-set m.turns t 0 ∙ i.turns.wide;
           holders = λ r below. turned m.turns m.views j v w t 0 (omega (arith, low, i.turns.wide)) at refl (λ r h. i.turns.holders r (omega (arith, h, i.turns.wide)))
               (λ r ne. (count_without t r v.held).1 (λ e. ne (sym e)))
-              (loses (get_or m.turns t 0) (holds t) m.views (i.turns.holders t low) j v w at l.0 ((count_without t t v.held).0 refl))
+              (loses seat_number (get_or m.turns t 0) (holds t) m.views (i.turns.holders t low) j v w at l.0 ((count_without t t v.held).0 refl))
               r (omega (arith, below, i.turns.wide));
-          leader = stays m.journal leads m.views i.turns.leader j v w at refl refl;
+          leader = stays seat_number m.journal leads m.views i.turns.leader j v w at refl refl;
         };
         opens = λ e. let o = i.opens j v at e in record {
           place = o.place;
@@ -344,14 +345,14 @@ module _ (m : Machine) (i : Invariant m) (j : ℕ) (v : View) (at : get_elem? m.
         most = i.numbers.most;
         has_turns = record {
           wide = i.turns.wide;
-          holders = λ t low. stays (get_or m.turns t 0) (holds t) m.views (i.turns.holders t low) j v w at refl refl;
-          leader = loses m.journal leads m.views i.turns.leader j v w at has-it refl;
+          holders = λ t low. stays seat_number (get_or m.turns t 0) (holds t) m.views (i.turns.holders t low) j v w at refl refl;
+          leader = loses seat_number m.journal leads m.views i.turns.leader j v w at has-it refl;
         };
         opens = λ e. off false refl e;
         has_values = i.values;
         registers = registers;
         risen = risen;
-        others = λ u e k ne there. absurd (omega (arith, bit_one u.leads e, one_has m.journal leads m.views i.turns.leader j k v u ne at there has-it));
+        others = λ u e k ne there. absurd (omega (arith, bit_one u.leads e, one_has seat_number m.journal leads m.views i.turns.leader j k v u ne at there has-it));
         fits = record {
           reads = f.reads;
           own = f.own;

@@ -1,23 +1,23 @@
 -- What a step tells its seat: who was met, what a seat that is alone knows, what a new number is.
-use Rattle.std.proofs.Common.{⊎_elim, true, ◌≡◌, ◌≢◌, ℕ, ◌-◌, ◌<◌, ◌≤◌, List, [], ◌∷◌, ◌++◌, Bool, false, Option, Some, length, get_or, cond, eq-eqb, sym, refl, ap, ◌∙◌, subst, arith, append-nil, length-append}
+use Rattle.std.proofs.Common.{⊎_elim, true, ◌≡◌, ◌≢◌, ℕ, ◌-◌, ◌<◌, ◌≤◌, [], Bool, false, Option, Some, get_or, cond, eq-eqb, sym, refl, ap, ◌∙◌, subst, arith}
 use mathlib.Core.Option.{some, some-injective}
 use mathlib.Core.Logic.{dite}
 use native.Mathlib.Decide.{ℕ_discrete, dec_le}
 use lib.ListN.{get_elem?}
 use Rattle.pw_plan.specs.declared.request.Request.{Request}
-use Rattle.pw_model.specs.declared.entry.HistoryEntry.{HistoryEntry}
 use Rattle.pw_model.specs.Records.{record_count}
 use Rattle.pw_machine.specs.Turns.{part_at, way}
 use Rattle.pw_machine.proofs.Plans.{next_record, way_rises, way_reached}
 use Rattle.pw_machine.specs.declared.view.View.{View}
 use Rattle.pw_books.specs.Books.{entries_of, count_in, list_of, furthest}
-use Rattle.pw_machine.specs.Machine.{Machine, now, turns_of, count_held, Named, holds, leads, marks, HasRegisters, Invariant, seat_of}
+use Rattle.pw_machine.specs.Machine.{Machine, now, turns_of, count_held, Named, holds, leads, marks, HasRegisters, Invariant, seat_of, seat_number}
 use Rattle.pw_books.specs.Sums.{bit, AtMost}
 use Rattle.pw_machine.specs.Told.{MeetsOther, KnowsAlone, IsTold, SeatsAreTold}
 use Rattle.pw_machine.specs.Steps.{find_record_held, find_journal_held, IsIdle, IsSpare, drawn, May}
 use Rattle.pw_books.proofs.Lists.{turn_below, term_le, terms_le, one, is_true, once_yes, once_no, either_is}
-use Rattle.pw_books.proofs.Books.{begins_furthest, empty_front, known_both, entries_of-append}
-use Rattle.pw_machine.proofs.Turns.{holder, count-turns}
+use Rattle.pw_books.proofs.Books.{begins_furthest, empty_front, known_both, whole_seen}
+use Rattle.pw_books.proofs.Turns.{holder}
+use Rattle.pw_machine.proofs.Turns.{count-turns}
 use Rattle.pw_machine.proofs.Facts.{other_unmarked, live_held, live_leads, number_below, other_count}
 use Rattle.pw_machine.proofs.Requests.{next_in}
 use Rattle.pw_books.proofs.Told.{total_zero, total_only}
@@ -31,7 +31,7 @@ module _ (m : Machine) (i : Invariant m) (j : ℕ) (v : View) (at : get_elem? m.
   met_other : (turn : ℕ) (has : View → ℕ) → Named turn has m.views → turn ≢ 0 → has v ≡ 0
       → ((k : ℕ) (u : View) → get_elem? m.views k ≡ some u → 0 < has u → 0 < u.parts) → MeetsOther v (turn - 1)
   met_other turn has named ne none alive =
-      let r = holder turn has m.views named ne in let u = r.1 in
+      let r = holder seat_number turn has m.views named ne in let u = r.1 in
       let apart : j ≢ r.0 = λ same. absurd (omega (arith, r.3, none, ap has (some-injective u v (sym r.2 ∙ (ap (λ k. get_elem? m.views k) (sym same) ∙ at))))) in
       let live = alive r.0 u r.2 r.3 in let own = (i.fits r.0 u r.2).own live in
       let number : u.number ≡ turn - 1 = omega (arith, r.4) in record {
@@ -81,25 +81,9 @@ module _ (m : Machine) (i : Invariant m) (j : ℕ) (v : View) (at : get_elem? m.
     pub alone_seen : furthest v.told v.seen ≡ m.history
     alone_seen =
         let r = (i.fits j v at).reads in let far = begins_furthest m.history v.seen v.told r.begins r.begins_too in
-        ended far.0 far.1 (λ n. dite (dec_le m.made n)
+        whole_seen seat_of m.history (furthest v.told v.seen) far (λ n. dite (dec_le m.made n)
         (λ le. let none = i.numbers.strangers n le in none ∙ sym (empty_front seat_of n m.history (furthest v.told v.seen) far none))
         (λ nle. no_entry_since n (omega (arith, alone_book n (omega arith)))))
-      where
-        ended : (rest : List HistoryEntry) → m.history ≡ furthest v.told v.seen ++ rest
-            → ((n : ℕ) → entries_of seat_of n m.history ≡ entries_of seat_of n (furthest v.told v.seen)) → furthest v.told v.seen ≡ m.history
-        ended [] e same = sym (e ∙ append-nil (furthest v.told v.seen))
-        ended (x ∷ xs) e same =
-            let c : entries_of seat_of x.seat (x ∷ xs) ≡ x ∷ entries_of seat_of x.seat xs = ap (λ b. cond b (x ∷ entries_of seat_of x.seat xs) (entries_of seat_of x.seat xs))
-            (eq-eqb x.seat x.seat refl) in
-            let l : entries_of seat_of x.seat m.history ≡ entries_of seat_of x.seat (furthest v.told v.seen) ++ entries_of seat_of x.seat (x ∷ xs) = ap (entries_of seat_of x.seat) e
-            ∙ entries_of-append seat_of x.seat (furthest v.told v.seen) (x ∷ xs) in
-            absurd (omega (
-              arith,
-              ap (length {A = HistoryEntry}) l,
-              ap (length {A = HistoryEntry}) (same x.seat),
-              ap (length {A = HistoryEntry}) c,
-              length-append (entries_of seat_of x.seat (furthest v.told v.seen)) (entries_of seat_of x.seat (x ∷ xs)),
-            ))
 
     -- a turn that it hasn't is free
     alone_free : (turn : ℕ) (has : View → ℕ) → Named turn has m.views → has v ≡ 0

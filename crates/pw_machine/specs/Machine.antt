@@ -18,7 +18,7 @@ use Rattle.pw_machine.specs.Turns.{part_at, way}
 use Rattle.pw_machine.specs.declared.view.Held.{Held}
 use Rattle.pw_machine.specs.declared.view.View.{View}
 use Rattle.pw_books.specs.Books.{Reads, count_in, entries_of}
-use Rattle.pw_books.specs.Sums.{AtMost, bit, names, once_below, total}
+use Rattle.pw_books.specs.Sums.{AtMost, Named as NamedBy, bit, once_below, total}
 
 -- # State
 
@@ -83,13 +83,12 @@ spent_view = record {
 
 -- # Turns and their holders
 
--- what the view has, where it has this number
-abbrev pub as_number : ℕ → (View → ℕ) → View → ℕ
-as_number n has v = cond (v.number == n) (has v) 0
+abbrev pub seat_number : View → ℕ
+seat_number v = v.number
 
--- the turn names n exactly where the view numbered n has it, and it has it once
+-- the turn names each seat that has it, which has it once
 abbrev pub Named : ℕ → (View → ℕ) → List View → Type 0
-Named turn has views = (n : ℕ) → total (as_number n has) views ≡ names turn n
+Named = NamedBy seat_number
 
 -- how often the view holds the record t, and the journal
 abbrev pub holds : ℕ → View → ℕ
