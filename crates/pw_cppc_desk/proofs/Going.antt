@@ -7,7 +7,7 @@ use Rattle.pw_cppc_desk.specs.Trying.{try_of}
 use Rattle.pw_cppc_desk.specs.Tracks.{Keeping, more}
 use Rattle.pw_cppc_desk.specs.Went.{InTurn, OneMore, WentOnce}
 use Rattle.pw_cppc_desk.specs.declared.serving.CppcDone.{CppcDone}
-use Rattle.pw_cppc_desk.specs.declared.serving.CppcDone.TheVariants.{Answer, Full, RegisterFault, Stopped}
+use Rattle.pw_cppc_desk.specs.declared.serving.CppcDone.TheVariants.{Answer}
 
 again : (x : Kind CppcEntry) (k : ℕ) → replicate k x ++ x ∷ [] ≡ replicate (k + 1) x
 again x zero = refl
@@ -25,9 +25,7 @@ none_more x o = ap (λ l. (l, o.1)) (sym (append-nil o.0))
 -- whether it would have waited or not
 pub once_of : (number : ℕ) (q : CppcRequest) (r : CppcDone) (o w : Keeping) → InTurn number q r o w → WentOnce number q (try_of r) o w
 once_of number q (Answer reply) o w t = t
-once_of number q (Full capacity) o w t = t
-once_of number q (RegisterFault done) o w t = t
-once_of number q (Stopped at) o w t = t
+once_of number q r o w t = t
 
 -- where the call was made of these
 pub turn_by : (q : CppcRequest) (r : CppcDone) (n number : ℕ) (o0 o o1 o2 : Keeping) → n ≡ number → o ≡ o0 → o2 ≡ o1
