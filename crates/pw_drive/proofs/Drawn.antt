@@ -1,5 +1,5 @@
 -- What a run by workers is to its caller.
-use Rattle.std.proofs.Common.{◌≡◌, ◌≤◌, ◌++◌, ◌∙◌, ℕ, suc, true, List, Vec, [], ◌∷◌, length, Option, Some, None, refl, ap, sym, subst, arith, append-nil, append_assoc}
+use Rattle.std.proofs.Common.{◌≡◌, ◌≤◌, ◌<◌, ◌++◌, ◌∙◌, ℕ, suc, true, List, Vec, [], ◌∷◌, length, Option, Some, None, refl, ap, sym, subst, arith, append-nil, append_assoc}
 use Rattle.std.specs.Prelude.{is_some}
 use Rattle.std.specs.List.{AllByRecursion}
 use Rattle.std.specs.declared.alloc.Global.{Global}
@@ -9,7 +9,8 @@ use Rattle.pw_plan.specs.declared.plan.Plan.{Plan}
 use Rattle.pw_plan.specs.declared.request.Request.{Request}
 use Rattle.pw_plan.specs.Requests.{Has}
 use Rattle.pw_model.specs.declared.entry.HistoryEntry.{HistoryEntry}
-use Rattle.pw_model.specs.History.{Legal, fault_at, history_ops}
+use Rattle.pw_model.specs.declared.reply.Reply.{Reply}
+use Rattle.pw_model.specs.History.{IsEntry, Legal, fault_at, history_ops}
 use Rattle.pw_model.specs.Operations.{opening_ops}
 use Rattle.pw_model.proofs.Joining.{faultless_none}
 use Rattle.pw_model.proofs.Staying.{request_cpu}
@@ -29,6 +30,7 @@ use Rattle.pw_books.proofs.Seats.{asked-run, seats-tell}
 use Rattle.pw_books.proofs.Workers.{workers-asked}
 use Rattle.pw_drive.specs.Drives.{Opens, Runs, TellSeats}
 use Rattle.pw_drive.specs.inner.Lists.{AreLists, AreListsFor}
+use Rattle.pw_drive.specs.inner.Replying.{AreReplies}
 use Rattle.pw_drive.specs.inner.Runs.{LeavesNone, Makes}
 use Rattle.pw_drive.proofs.Bounds.{run-bound}
 use Rattle.pw_drive.specs.inner.Telling.{telling}
@@ -71,12 +73,12 @@ module _ {R : Type 0} (by : Registers R) (P : Plan) (lines : List Line) (n : ℕ
   abbrev pub given : Given
   given = record { plan = P; capacity = n; ops = by.log regs; count = by.faults regs }
 
-  pub runs : (promise : Promise) (g : Given) (lists : List (Vec Request Global)) (entries : List HistoryEntry) (left : R)
+  pub runs : (promise : Promise) (g : Given) (lists : List (Vec Request Global)) (each : List (Vec Reply Global)) (entries : List HistoryEntry) (left : R)
       → promise.told ≡ by.told regs → promise.room ≡ by.room regs → g ≡ given
-      → AllByRecursion (λ (l : Line). Has P l.request) lines → AreLists (requests_of lines) (length P.cpus) lists → Makes by promise g lists entries left
+      → AllByRecursion (λ (l : Line). Has P l.request) lines → AreLists (requests_of lines) (length P.cpus) lists → Makes by promise g lists each entries left
       → Runs P lines None entries (registers_seen by regs) (registers_seen by left)
-  runs promise g lists entries left is room same has are m =
-      let m : Makes by promise given lists entries left = subst (λ x. Makes by promise x lists entries left) same m in
+  runs promise g lists each entries left is room same has are m =
+      let m : Makes by promise given lists each entries left = subst (λ x. Makes by promise x lists each entries left) same m in
       let asked = requests_of lines in
       let made : MadeByWorkers telling asked m.workers m.last.book entries = m.made asked (lines_have P lines has) are (size ∙ sym (lines_size lines)) in
       let by_seats = workers-asked telling asked entries m.workers m.last.book made in
@@ -95,6 +97,28 @@ module _ {R : Type 0} (by : Registers R) (P : Plan) (lines : List Line) (n : ℕ
               (faultless_none entries kept.1, kept.0);
         };
       }
+
+  -- the replies lie in their processors' lists
+  pub told : (promise : Promise) (g : Given) (lists : List (Vec Request Global)) (each : List (Vec Reply Global)) (entries : List HistoryEntry) (left : R)
+      → g ≡ given → AllByRecursion (λ (l : Line). Has P l.request) lines → AreLists (requests_of lines) (length P.cpus) lists → Makes by promise g lists each entries left
+      → AreReplies P entries each
+  told promise g lists each entries left same has are m =
+      (subst (λ x. Makes by promise x lists each entries left) same m).told (requests_of lines) (lines_have P lines has) are (size ∙ sym (lines_size lines))
+
+  -- each entry is of a processor that has a list, and there are no more entries than lines
+  pub inside : (promise : Promise) (g : Given) (lists : List (Vec Request Global)) (each : List (Vec Reply Global)) (entries : List HistoryEntry) (left : R)
+      → g ≡ given → AllByRecursion (λ (l : Line). Has P l.request) lines → AreLists (requests_of lines) (length P.cpus) lists → Makes by promise g lists each entries left
+      → AllByRecursion (λ (e : HistoryEntry). e.cpu < length each) entries
+  inside promise g lists each entries left same has are m =
+      let sized = (told promise g lists each entries left same has are m).size in
+      each_map (IsEntry P) (λ (e : HistoryEntry). e.cpu < length each) (λ e is. let lt = is.states.cpu in omega (arith, lt, sized)) entries
+      (subst (λ x. Makes by promise x lists each entries left) same m).ends.legal.well_formed.entries
+
+  pub few : (promise : Promise) (g : Given) (lists : List (Vec Request Global)) (each : List (Vec Reply Global)) (entries : List HistoryEntry) (left : R)
+      → g ≡ given → Makes by promise g lists each entries left → length entries ≤ length lines
+  few promise g lists each entries left same m =
+      let within = (subst (λ x. Makes by promise x lists each entries left) same m).ends.within in
+      omega (arith, within, size)
 
   pub opens : (promise : Promise) (g : Given) (left : R) → promise.told ≡ by.told regs → promise.room ≡ by.room regs → g ≡ given
       → LeavesNone by promise g left → Opens P (registers_seen by regs) (registers_seen by left)

@@ -5,6 +5,11 @@ pub mod Setting
 pub mod Requesting
 pub mod Lining
 pub mod Making
+pub mod Picking
+pub mod Kept
+pub mod Handing
+pub mod InOrder
+pub mod ByProcessor
 pub mod Joining
 pub mod Ending
 pub mod Bounds

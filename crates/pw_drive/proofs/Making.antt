@@ -1,11 +1,11 @@
 -- A worker's requests, one by one.
-use Rattle.std.proofs.Common.{◌≡◌, ◌≢◌, ◌≤◌, ◌<◌, ◌+◌, ℕ, true, false, List, [], ◌∷◌, ◌++◌, take, length, get_or, Some}
+use Rattle.std.proofs.Common.{◌≡◌, ◌≢◌, ◌≤◌, ◌<◌, ◌+◌, ℕ, List, [], ◌∷◌, ◌++◌, take, length, get_or, Some, None}
 use Rattle.std.proofs.Common.{sym, ◌∙◌, subst, arith, inl, inr}
-use Rattle.std.proofs.lemmas.Bool.{false≢true, true≢false}
 use Rattle.std.proofs.lemmas.Option.{none-some}
 use Rattle.pw_plan.specs.declared.request.Request.{Request}
 use Rattle.pw_plan.specs.declared.request.Request.TheVariants.{Idle, Wake, Perf, Throttle, PerfLimit, ThrottleLimit}
 use Rattle.pw_model.specs.declared.entry.HistoryEntry.{HistoryEntry}
+use Rattle.pw_model.specs.declared.reply.Reply.{Reply}
 use Rattle.pw_model.specs.History.{Faultless}
 use Rattle.pw_journal.specs.Entries.{fault_place}
 use Rattle.pw_journal.proofs.Places.{faultless_none}
@@ -19,7 +19,8 @@ use Rattle.pw_turns.specs.declared.waited.Done.TheVariants.{Answer, Full, Regist
 use Rattle.pw_turns.proofs.Entries.{asks_for, entry_seat}
 use Rattle.pw_books.specs.Workers.{HasAsked}
 use Rattle.pw_books.proofs.Lines.{asked_next, faults, filled_part, worked_part}
-use Rattle.pw_drive.specs.inner.Workers.{MadeLines, is_answer}
+use Rattle.pw_drive.specs.inner.Replying.{reply_in}
+use Rattle.pw_drive.specs.inner.Workers.{MadeLines}
 use Rattle.pw_drive.specs.inner.Telling.{telling}
 
 -- one more request is made
@@ -35,11 +36,11 @@ module _ (lines : List Request) (k : ℕ) (q : Request) (lt : k < length lines) 
 module _ (given : Given) (lines : List Request) (k : ℕ) (q : Request) (lt : k < length lines) (z : Request) (is : q ≡ get_or lines k z) (v w : View)
     (asked : HasAsked telling (take k lines) v.number v.book) where
   -- it was answered
-  pub goes_on : (d : Done) → Finished given v q d w → is_answer d ≡ true → HasAsked telling (take (k + 1) lines) w.number w.book
-  goes_on (Answer reply) told e = one_more lines k q lt z is v w told.0.0 asked 0 told.1.book
-  goes_on (Full capacity) told e = absurd (false≢true e)
-  goes_on (RegisterFault done) told e = absurd (false≢true e)
-  goes_on (Stopped at) told e = absurd (false≢true e)
+  pub goes_on : (d : Done) (r : Reply) → Finished given v q d w → reply_in d ≡ Some r → HasAsked telling (take (k + 1) lines) w.number w.book
+  goes_on (Answer reply) r told e = one_more lines k q lt z is v w told.0.0 asked 0 told.1.book
+  goes_on (Full capacity) r told e = absurd (none-some r e)
+  goes_on (RegisterFault done) r told e = absurd (none-some r e)
+  goes_on (Stopped at) r told e = absurd (none-some r e)
 
   pub same_parts : (d : Done) → Finished given v q d w → w.parts ≡ v.parts
   same_parts (Answer reply) told = told.0.1
@@ -68,8 +69,8 @@ module _ (given : Given) (lines : List Request) (k : ℕ) (q : Request) (lt : k 
       as_fault n (ThrottleLimit p i) f e = omega (arith, e)
 
   -- it was not answered
-  pub ends_here : (d : Done) → Finished given v q d w → is_answer d ≡ false → MadeLines lines given.capacity w
-  ends_here (Answer reply) told e = absurd (true≢false e)
+  pub ends_here : (d : Done) → Finished given v q d w → reply_in d ≡ None → MadeLines lines given.capacity w
+  ends_here (Answer reply) told e = absurd (none-some reply (sym e))
   ends_here (Full capacity) told e =
       inr (filled_part telling lines given.capacity k w.number w.book w.seen (same_lines lines k q lt z is v w told.0.0 asked told.1.book) (room (told.3 ∙ told.2)))
   ends_here (RegisterFault done) told e = let x = told.1 in stopped done told.0.0 (v.seen ++ x.between) x.seen x.book

@@ -3,6 +3,7 @@ use Rattle.std.specs.Prelude.{◌≡◌, ◌≤◌, ◌⊎◌, ℕ, List, [], Op
 use Rattle.pw_plan.specs.declared.plan.Plan.{Plan}
 use Rattle.pw_plan.specs.Requests.{opening_bound}
 use Rattle.pw_model.specs.declared.entry.HistoryEntry.{HistoryEntry}
+use Rattle.pw_model.specs.History.{replies}
 use Rattle.pw_model.specs.Operations.{opening_ops}
 use Rattle.pw_regs.specs.declared.registers.Registers.{Ghosts as Registers}
 use Rattle.pw_regs.specs.Seen.{Operated, RegistersSeen, registers_seen}
@@ -33,10 +34,15 @@ pub record Opens (P : Plan) (old new : RegistersSeen) : Type 0 where
   -- none failed where they promise room for it
   pub promised : opening_bound P ≤ old.room → new.faults ≡ old.faults
 
+-- the replies of a closed coordinator's history are known, in the order of its entries
+abbrev pub Replies : {R : Type 0} → Plan → Drove R → Type 0
+Replies P (Closed c told) = told ≡ replies P c.sealed.entries
+Replies P (Opening done same left) = Unit {0}
+
 module _ {R : Type 0} (by : Registers R) where
   -- The plan is that which was given; what the closed coordinator has is such a run, or the opening was ended by a fault.
   abbrev pub Drives : Plan → List Line → R → Drove R → Type 0
-  Drives P lines regs (Closed c) =
+  Drives P lines regs (Closed c told) =
       (c.sealed.plan ≡ P) × Runs P lines None c.sealed.entries (registers_seen by regs) (registers_seen by c.regs)
   Drives P lines regs (Opening done same left) =
       (same ≡ P) × Runs P lines (Some done) [] (registers_seen by regs) (registers_seen by left)

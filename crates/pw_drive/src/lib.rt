@@ -5,6 +5,7 @@ mod driving;
 mod gathering;
 mod lists;
 mod records;
+mod replying;
 mod running;
 mod seating;
 mod walking;

@@ -8,15 +8,18 @@ ghost use Rattle.pw_script.specs.declared.script.Line.{Line as asked};
 ghost use Rattle.pw_script.specs.Reading.{requests_of};
 ghost use Rattle.pw_turns.specs.Owning.{Owns};
 ghost use Rattle.pw_turns.specs.Views.{view_in};
-ghost use Rattle.pw_drive.specs.Drives.{Drives, GivesBack};
+ghost use Rattle.pw_drive.specs.Drives.{Drives, GivesBack, Replies};
 ghost use Rattle.pw_drive.specs.inner.Lists.{AreLists, AreListsFor};
+ghost use Rattle.pw_drive.specs.inner.Replying.{AreEmpty, HaveRoom};
 ghost use Rattle.pw_drive.specs.inner.Runs.{LeavesNone, Makes};
 
 use crate::gathering::end;
 use crate::lists::lists_of;
+use crate::replying::{in_order, rooms};
 use crate::seating::seat_all;
 use crate::working::{Worker, work_all};
-use pw_base::{Gate, Memory};
+use pw_base::{Gate, List, Memory};
+use pw_model::Reply;
 use pw_plan::{Plan, Request};
 use pw_regs::Registers;
 use pw_script::{Line, Script};
@@ -25,33 +28,58 @@ use std::alloc::Global;
 use std::sync::Wait;
 use std::thread::Threads;
 
-/// What a run by workers gives: the closed coordinator; or where an operation at the start failed, how
-/// many were done before.
+/// What a run by workers gives: the closed coordinator, and the replies to its history's entries in their
+/// order, of which a fault has none; or where an operation at the start failed, how many were done before.
 #[derive(Drop)]
 pub enum Drove<R> {
-    Closed(Closed<R>),
-    Opening { done: u32, plan: Plan, regs: R },
+    Closed {
+        closed: Closed<R>,
+        replies: List<Reply>,
+    },
+    Opening {
+        done: u32,
+        plan: Plan,
+        regs: R,
+    },
 }
 
-/// A list of requests for each processor, and room for a worker for each.
-fn prepare(
-    alloc: Global,
-    plan: &Plan,
-    lines: &[Line],
-) -> Result<(Vec<Vec<Request>>, Vec<Worker>), Memory>
+/// What a run takes memory for: a list of requests for each processor, room for a worker for each and for
+/// its replies, and for all replies.
+#[derive(Drop)]
+struct Prepared {
+    lists: Vec<Vec<Request>>,
+    workers: Vec<Worker>,
+    each: Vec<Vec<Reply>>,
+    all: Vec<Reply>,
+}
+
+/// The memory for a run of these lines.
+fn prepare(alloc: Global, plan: &Plan, lines: &[Line]) -> Result<Prepared, Memory>
     requires { AllByRecursion (λ (l : asked). Has plan.now l.request) lines.now }
     ensures lists { IfOk result
-        (λ made. AreLists (requests_of lines.now) (length plan.now.cpus) made.0.items) }
-    ensures none { IfOk result (λ made. made.1.items ≡ []) }
-    ensures room { IfOk result (λ made. length made.0.items ≤ vec_capacity made.1) }
+        (λ p. AreLists (requests_of lines.now) (length plan.now.cpus) p.lists.items) }
+    ensures none { IfOk result (λ p. p.workers.items ≡ []) }
+    ensures room { IfOk result (λ p. length p.lists.items ≤ vec_capacity p.workers) }
+    ensures empty { IfOk result (λ p. AreEmpty (length p.lists.items) p.each.items) }
+    ensures spare { IfOk result (λ p. HaveRoom (length p.lists.items) p.lists.items p.each.items) }
+    ensures unanswered { IfOk result (λ p. p.all.items ≡ []) }
+    ensures enough { IfOk result (λ p. length lines.now ≤ vec_capacity p.all) }
 {
     let lists = lists_of(alloc, plan, lines)?;
     let workers = Vec::with_capacity(alloc, lists.len())?;
-    Ok((lists, workers))
+    let each = rooms(alloc, lists.as_slice())?;
+    let all = Vec::with_capacity(alloc, lines.len())?;
+    Ok(Prepared {
+        lists,
+        workers,
+        each,
+        all,
+    })
 }
 
-/// Seats the workers, lets them make their requests, and ends the coordinator. Where there is no memory
-/// for a seat no request is made, and the registers are given back.
+/// Seats the workers, lets them make their requests, and ends the coordinator, with each worker's replies at
+/// the place of its processor. Where there is no memory for a seat no request is made, and the registers are
+/// given back.
 fn run<T: Threads + Wait + Sync, R: Registers + Send, G: Gate + Sync>(
     rt: &T,
     alloc: Global,
@@ -59,6 +87,7 @@ fn run<T: Threads + Wait + Sync, R: Registers + Send, G: Gate + Sync>(
     mut first: Seat,
     lists: Vec<Vec<Request>>,
     mut workers: Vec<Worker>,
+    each: &mut Vec<Vec<Reply>>,
     gate: &G,
 ) -> Result<Closed<R>, R>
     requires owns { Owns coordinator.table.shared.table_id first }
@@ -67,25 +96,28 @@ fn run<T: Threads + Wait + Sync, R: Registers + Send, G: Gate + Sync>(
     requires lists { AreListsFor coordinator.plan lists.items }
     requires none { workers.items ≡ [] }
     requires room { length lists.items ≤ vec_capacity workers }
+    requires unseen { (view_in first.badge.views).seen ≡ [] }
+    requires empty { AreEmpty (length lists.items) each.old.items }
+    requires spare { HaveRoom (length lists.items) lists.items each.old.items }
     ensures plan { IfOk result (λ c. c.sealed.plan ≡ coordinator.plan) }
     ensures made { IfOk result (λ c. let key = coordinator.table.shared.key in
-        Makes R.Registers (promise_of R.Registers key) (given_of R.Registers key) lists.items c.sealed.entries
-        c.regs) }
+        Makes R.Registers (promise_of R.Registers key) (given_of R.Registers key) lists.items each.new.items
+        c.sealed.entries c.regs) }
     ensures given_back { IfErr result (λ back. let key = coordinator.table.shared.key in
         LeavesNone R.Registers (promise_of R.Registers key) (given_of R.Registers key) back) }
 {
-    if seat_all(alloc, &coordinator, &mut first, lists, &mut workers).is_err() {
-        let (sealed, regs) = end(coordinator, first, workers).into_parts();
+    if seat_all(alloc, &coordinator, &mut first, lists, each, &mut workers).is_err() {
+        let (sealed, regs) = end(coordinator, first, workers, each).into_parts();
         drop(sealed);
         return Err(regs);
     }
     work_all(rt, &coordinator, workers.as_mut_slice(), gate);
-    Ok(end(coordinator, first, workers))
+    Ok(end(coordinator, first, workers, each))
 }
 
 /// Runs a script on registers by one worker for each processor that it names, side by side over one
-/// shared coordinator: each makes its processor's lines in their order, up to a fault. The memory of
-/// the seats alone is taken after the operations at the start.
+/// shared coordinator: each makes its processor's lines in their order, up to a fault, and keeps their
+/// replies. The memory of the seats alone is taken after the operations at the start.
 pub fn drive<T: Threads + Wait + Sync, R: Registers + Send, G: Gate + Sync>(
     rt: &T,
     alloc: Global,
@@ -97,17 +129,37 @@ pub fn drive<T: Threads + Wait + Sync, R: Registers + Send, G: Gate + Sync>(
     requires few { length script.now.lines ≤ 65536 }
     requires has { AllByRecursion (λ (l : asked). Has plan l.request) script.now.lines }
     ensures drove { IfOk result (λ d. Drives R.Registers plan script.now.lines regs d) }
+    // Each entry has the reply of its place.
+    ensures replies { IfOk result (λ d. Replies plan d) }
     ensures given_back { IfErr result (λ back. GivesBack R.Registers plan regs back) }
 {
     let lines = script.lines.as_slice();
-    let Ok((lists, workers)) = prepare(alloc, &plan, lines) else {
+    let Ok(prepared) = prepare(alloc, &plan, lines) else {
         drop(plan);
         return Err(regs);
     };
+    let Prepared {
+        lists,
+        workers,
+        mut each,
+        all,
+    } = prepared;
     match Coordinator::open(alloc, plan, regs, lines.len() as u32) {
         Ok((coordinator, first)) => {
-            match run(rt, alloc, coordinator, first, lists, workers, gate) {
-                Ok(closed) => Ok(Drove::Closed(closed)),
+            match run(
+                rt,
+                alloc,
+                coordinator,
+                first,
+                lists,
+                workers,
+                &mut each,
+                gate,
+            ) {
+                Ok(closed) => {
+                    let replies = in_order(closed.sealed(), each, all);
+                    Ok(Drove::Closed { closed, replies })
+                }
                 Err(regs) => Err(regs),
             }
         }

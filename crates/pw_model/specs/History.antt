@@ -65,6 +65,9 @@ replay_from = histories.replay_from power
 abbrev pub replay : Plan → List HistoryEntry → State
 replay = histories.replay power
 
+abbrev pub entry_reply : Plan → State → HistoryEntry → List Reply
+entry_reply = histories.entry_reply power
+
 abbrev pub replies_from : Plan → State → List HistoryEntry → List Reply
 replies_from = histories.replies_from power
 

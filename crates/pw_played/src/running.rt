@@ -52,10 +52,10 @@ pub fn play<T: Threads + Wait + Sync, G: Gate + Sync>(
         return None;
     }
     match drive(rt, alloc, plan, script, regs, gate) {
-        Ok(Drove::Closed(closed)) => {
+        Ok(Drove::Closed { closed, replies }) => {
             let sealed = closed.sealed();
             let played = told(alloc, sealed.plan(), None, sealed.entries(), closed.regs());
-            drop(closed);
+            drop((closed, replies));
             played
         }
         Ok(Drove::Opening { done, plan, regs }) => {

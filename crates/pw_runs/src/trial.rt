@@ -78,7 +78,8 @@ fn run<T: Threads + Wait + Sync, K: Sink, R: Registers + Send, G: Gate + Sync>(
                 sealed: None,
             }
         }
-        Ok(Drove::Closed(closed)) => {
+        Ok(Drove::Closed { closed, replies }) => {
+            drop(replies);
             let (sealed, regs) = closed.into_parts();
             let status = print_run(alloc, sealed.plan(), None, sealed.entries(), page, out, err);
             Outcome {

@@ -64,18 +64,12 @@ fn work<T: Threads + Wait + Sync, K: Sink, R: Registers + Send, G: Gate + Sync>(
                 sealed: None,
             }
         }
-        Ok(Drove::Closed(closed)) => {
+        Ok(Drove::Closed { closed, replies }) => {
             let (sealed, regs) = closed.into_parts();
-            let status = print_run(
-                alloc,
-                sealed.plan(),
-                None,
-                sealed.entries(),
-                None,
-                page,
-                out,
-                err,
-            );
+            let (plan, entries) = (sealed.plan(), sealed.entries());
+            let known = Some(replies.as_slice());
+            let status = print_run(alloc, plan, None, entries, known, page, out, err);
+            drop(replies);
             Outcome {
                 status,
                 regs,

@@ -9,13 +9,14 @@ use Rattle.pw_books.specs.Books.{calls_of}
 use Rattle.pw_turns.specs.Owning.{Owns}
 use Rattle.pw_books.specs.inner.Seated as any
 use Rattle.pw_drive.specs.declared.working.Worker.{Worker}
-use Rattle.pw_drive.specs.inner.Workers.{holding, view_of}
+use Rattle.pw_drive.specs.inner.Workers.{AwaitsReplies, holding, view_of}
 
 -- it has a seat of one part that has called nothing
 pub record HasSeat (id : TableId) (w : Worker) : Type 0 where
   pub owns : Owns id w.seat
   pub fresh : (view_of w).book ≡ calls_of (view_of w).number [] ∷ []
   pub part : (view_of w).parts ≡ 1
+  pub awaits : AwaitsReplies w
 
 -- the worker of this processor has a seat, for which the first one gave a part
 abbrev pub IsSeated : TableId → ℕ → Vec Request Global → ℕ → Result Worker Memory → ℕ → Type 0

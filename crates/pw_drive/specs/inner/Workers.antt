@@ -1,29 +1,22 @@
 -- A worker before and after it makes its requests.
-use Rattle.std.specs.Prelude.{◌≡◌, ◌⊎◌, ◌∷◌, ℕ, Bool, true, false, List, []}
+use Rattle.std.specs.Prelude.{◌≡◌, ◌⊎◌, ◌∷◌, ◌≤◌, ℕ, List, [], length, vec_capacity}
 use Rattle.std.specs.List.{AllByRecursion}
 use Rattle.atomic_table.specs.Seated.{TableId}
 use Rattle.pw_plan.specs.declared.plan.Plan.{Plan}
 use Rattle.pw_plan.specs.declared.request.Request.{Request}
 use Rattle.pw_plan.specs.Requests.{Has}
 use Rattle.pw_machine.specs.declared.view.View.{View}
+use Rattle.pw_machine.specs.Machine.{Given}
 use Rattle.pw_books.specs.Books.{calls_of}
 use Rattle.pw_turns.specs.Owning.{Owns}
 use Rattle.pw_turns.specs.Views.{view_in}
-use Rattle.pw_turns.specs.declared.waited.Done.{Done}
-use Rattle.pw_turns.specs.declared.waited.Done.TheVariants.{Answer, Full, RegisterFault, Stopped}
 use Rattle.pw_books.specs.Workers.{Filled, Worked}
 use Rattle.pw_books.specs.Workers.{Worker as Gathered}
 use Rattle.pw_books.specs.inner.Seated.{Holding}
 use Rattle.pw_drive.specs.declared.working.Worker.{Worker}
 use Rattle.pw_model.specs.declared.entry.HistoryEntry.{HistoryEntry}
+use Rattle.pw_drive.specs.inner.Replying.{KeepsReplies}
 use Rattle.pw_drive.specs.inner.Telling.{telling}
-
--- the request has a reply
-abbrev pub is_answer : Done → Bool
-is_answer (Answer reply) = true
-is_answer (Full capacity) = false
-is_answer (RegisterFault done) = false
-is_answer (Stopped at) = false
 
 -- what the worker's seat knows
 abbrev pub view_of : Worker → View
@@ -41,15 +34,23 @@ holding = record { gathered = gathered; requests = λ w. w.requests }
 abbrev pub MadeLines : List Request → ℕ → View → Type 0
 MadeLines lines room v = Worked telling lines v.number v.book v.seen ⊎ Filled telling lines room v.number v.book v.seen
 
+-- no reply is there, and room for one to each of its requests
+pub record AwaitsReplies (w : Worker) : Type 0 where
+  pub unseen : (view_of w).seen ≡ []
+  pub none : w.replies.items ≡ []
+  pub room : length w.requests.items ≤ vec_capacity w.replies
+
 -- it has a seat that has called nothing, and its processor's requests
 pub record IsReady (id : TableId) (P : Plan) (w : Worker) : Type 0 where
   pub owns : Owns id w.seat
   pub fresh : (view_of w).book ≡ calls_of (view_of w).number [] ∷ []
   pub has : AllByRecursion (Has P) w.requests.items
+  pub awaits : AwaitsReplies w
 
 -- it ended
-pub record HasEnded (id : TableId) (room : ℕ) (v w : Worker) : Type 0 where
+pub record HasEnded (id : TableId) (given : Given) (v w : Worker) : Type 0 where
   pub owns : Owns id w.seat
   pub cpu : w.cpu ≡ v.cpu
   pub parts : (view_of w).parts ≡ (view_of v).parts
-  pub made : MadeLines v.requests.items room (view_of w)
+  pub made : MadeLines v.requests.items given.capacity (view_of w)
+  pub replied : KeepsReplies given.plan w.replies.items (view_of w)

@@ -1,7 +1,8 @@
-use Rattle.std.proofs.Common.{◌≡◌, ◌≤◌, ◌+◌, length}
+use Rattle.std.proofs.Common.{◌≡◌, ◌≤◌, ◌+◌, [], length}
 use Rattle.std.specs.Prelude.{vec_capacity}
 use Rattle.pw_turns.specs.Owning.{Owns}
 use Rattle.pw_turns.specs.Views.{view_in}
+use Rattle.pw_drive.specs.inner.Replying.{AreEmpty, HaveRoom}
 use Rattle.pw_drive.specs.inner.Seated.{AreSeated}
 use Rattle.pw_drive.specs.inner.Workers.{holding}
 use Rattle.pw_books.proofs.Places.{AreAbove, AreLeft, AllSeatedFrom}
@@ -22,6 +23,9 @@ invariant-loop-requests g l =
       begins : AreLeft left all;
       few : length ws + length left ≤ length all;
       room : vec_capacity l.workers ≡ vec_capacity l.initial.workers;
+      unseen : (view_in l.first.badge.views).seen ≡ [];
+      empty : AreEmpty (length all) l.each.items;
+      spare : HaveRoom (length left) all l.each.items;
     }
 
 abbrev pub decreases-loop-requests : goal.decreases-loop-requests
