@@ -1,10 +1,10 @@
-ghost use Rattle.std.specs.Prelude.{◌≡◌, ◌≤◌, ◌<◌, ◌^◌, length, OnOk, OnErr};
+ghost use Rattle.std.specs.Prelude.{◌≡◌, ◌≤◌, ◌<◌, ◌+◌, ◌^◌, length, vec_capacity, vec_len, OnOk, OnErr};
 ghost use Rattle.pw_plan.specs.Requests.{ops_bound};
-ghost use Rattle.pw_model.specs.History.{Faultless, Legal, replay};
+ghost use Rattle.pw_model.specs.History.{Faultless, Legal, replay, replies};
 ghost use Rattle.pw_regs.specs.Seen.{registers_seen};
 ghost use Rattle.pw_walker.specs.Places.{IsPlace, walk_of};
 ghost use Rattle.pw_drive.specs.Keeping.{AreRecordsOf, part_in};
-ghost use Rattle.pw_drive.specs.inner.Running.{Replied, Stands, Turned};
+ghost use Rattle.pw_drive.specs.inner.Running.{Stands, Turned};
 ghost use Rattle.pw_drive.specs.inner.Midway.{IsMidway, Undone};
 
 use crate::records::Records;
@@ -18,7 +18,7 @@ use pw_walker::{
 };
 
 /// Makes a request from this place on: steps the records that come next, each where it lies, does the
-/// operations, appends the entry and says the reply. At a fault it sets back what each record had, from the
+/// operations, appends the entry and keeps the reply. At a fault it sets back what each record had, from the
 /// last to the first, and answers how many of the operations were done.
 pub fn make_from<R: Registers>(
     plan: &Plan,
@@ -27,7 +27,8 @@ pub fn make_from<R: Registers>(
     place: &Place,
     ops: &mut Ops,
     journal: &mut Journal<R>,
-) -> Result<Reply, u32>
+    kept: &mut Vec<Reply>,
+) -> Result<(), u32>
     requires legal { Legal plan.now journal.old.entries }
     requires faultless { Faultless journal.old.entries }
     requires of { AreRecordsOf plan.now records.old }
@@ -37,25 +38,32 @@ pub fn make_from<R: Registers>(
     requires space { length journal.old.entries < journal.old.capacity }
     requires room { ops_bound plan.now request.now ≤ ops.old.capacity }
     requires few { ops.old.capacity < 2 ^ 32 }
+    requires answered { kept.old.items ≡ replies plan.now journal.old.entries }
+    requires spare { vec_len kept.old < vec_capacity kept.old }
     ensures space { journal.new.capacity ≡ journal.old.capacity }
     ensures room { ops.new.capacity ≡ ops.old.capacity }
     ensures turned { Turned plan.now request.now journal.old.entries journal.new.entries
         (registers_seen R.Registers journal.old.regs) (registers_seen R.Registers journal.new.regs) }
-    ensures replied { Replied plan.now journal.old.entries journal.new.entries result }
+    ensures answered { kept.new.items ≡ replies plan.now journal.new.entries }
+    ensures count { OnOk result (vec_len kept.new ≡ vec_len kept.old + 1) }
+    ensures capacity { vec_capacity kept.new ≡ vec_capacity kept.old }
     ensures stands { OnOk result (Stands plan.now journal.new.entries records.new) }
     ensures undone { OnErr result
         (Undone plan.now journal.old.entries journal.new.entries records.old records.new) }
 {
     match *place {
         Place::Over { reply } => match journal.append(0, *request, ops.list()) {
-            Ok(()) => Ok(reply),
+            Ok(()) => {
+                kept.push_reserved(reply);
+                Ok(())
+            }
             Err(done) => Err(done),
         },
         Place::Scaled { domain } => {
             let held = &mut records.domains[domain as usize];
             let (next, old) = step_domain(plan, request, held, ops);
-            match make_from(plan, records, request, &next, ops, journal) {
-                Ok(reply) => Ok(reply),
+            match make_from(plan, records, request, &next, ops, journal, kept) {
+                Ok(()) => Ok(()),
                 Err(done) => {
                     unstep_domain(plan, &mut records.domains[domain as usize], old);
                     Err(done)
@@ -65,8 +73,8 @@ pub fn make_from<R: Registers>(
         Place::Grouped { group } => {
             let held = &mut records.groups[group as usize];
             let (next, old) = step_group(plan, request, held, ops);
-            match make_from(plan, records, request, &next, ops, journal) {
-                Ok(reply) => Ok(reply),
+            match make_from(plan, records, request, &next, ops, journal, kept) {
+                Ok(()) => Ok(()),
                 Err(done) => {
                     unstep_group(plan, &mut records.groups[group as usize], old);
                     Err(done)
@@ -76,8 +84,8 @@ pub fn make_from<R: Registers>(
         Place::Climbing { node, climb } => {
             let held = &mut records.nodes[node as usize];
             let (next, old) = step_node(plan, request, node, climb, held, ops);
-            match make_from(plan, records, request, &next, ops, journal) {
-                Ok(reply) => Ok(reply),
+            match make_from(plan, records, request, &next, ops, journal, kept) {
+                Ok(()) => Ok(()),
                 Err(done) => {
                     unstep_node(plan, &mut records.nodes[node as usize], old);
                     Err(done)

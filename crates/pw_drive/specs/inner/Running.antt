@@ -1,13 +1,12 @@
 -- A serial run as it goes: what each request does, and what the lines have come to.
-use Rattle.std.specs.Prelude.{◌≡◌, ◌++◌, ◌∷◌, [], ℕ, List, take, Option, Some, None, Result, Ok, Err}
+use Rattle.std.specs.Prelude.{◌≡◌, ◌++◌, ◌∷◌, [], ℕ, List, take, Option, Some, None}
 use Rattle.std.specs.List.{AllByRecursion, sum_by}
 use Rattle.acpi_values.specs.declared.operation.Op.{Op}
 use Rattle.pw_plan.specs.declared.plan.Plan.{Plan}
 use Rattle.pw_plan.specs.declared.request.Request.{Request}
 use Rattle.pw_plan.specs.Requests.{ops_bound}
 use Rattle.pw_model.specs.declared.entry.HistoryEntry.{HistoryEntry}
-use Rattle.pw_model.specs.declared.reply.Reply.{Reply}
-use Rattle.pw_model.specs.History.{Faultless, Legal, entry_ops, fault_at, history_ops, replay, replies, request_of}
+use Rattle.pw_model.specs.History.{Faultless, Legal, entry_ops, fault_at, history_ops, replay, request_of}
 use Rattle.pw_model.specs.Operations.{opening_ops}
 use Rattle.pw_model.specs.Locality.{AllTold}
 use Rattle.pw_regs.specs.Seen.{RegistersSeen}
@@ -42,11 +41,6 @@ pub record Turned (P : Plan) (q : Request) (es fs : List HistoryEntry) (old new 
   pub request : request_of entry ≡ q
   pub legal : Legal P fs
   pub did : Did (ops_bound P q) (entry_ops P (replay P es) entry) (fault_at fs) old new
-
--- its reply is that of the history's new entry, or a fault has none
-abbrev pub Replied : Plan → List HistoryEntry → List HistoryEntry → Result Reply ℕ → Type 0
-Replied P es fs (Ok reply) = replies P fs ≡ replies P es ++ reply ∷ []
-Replied P es fs (Err done) = replies P fs ≡ replies P es
 
 -- how many operations the requests of lines have at most
 abbrev pub lines_bound : Plan → List line → ℕ

@@ -1,5 +1,4 @@
-use Rattle.std.proofs.Common.{◌≡◌, ◌≤◌, ◌+◌, ◌++◌, ◌∷◌, ◌∙◌, [], List, ap, arith, length, refl, sym, take_all}
-use Rattle.pw_model.specs.declared.reply.Reply.{Reply}
+use Rattle.std.proofs.Common.{◌≡◌, ◌≤◌, ◌+◌, ◌∙◌, ap, arith, length, refl, sym, take_all}
 use Rattle.pw_model.specs.History.{replies}
 use Rattle.pw_regs.specs.Seen.{registers_seen}
 use Rattle.pw_drive.proofs.Entering.{replies_none}
@@ -32,9 +31,9 @@ loop-line-preserved g c =
           (seen c.args.journal.now.regs) (seen l.journal.regs) (seen c.make.new.journal.regs) l.invariant.runs c.make.ensures.turned
           c.make.new.records c.in-Ok.ensures.stands;
       space = c.make.ensures.space ∙ l.invariant.space;
-      answered = c.push_reserved.ensures.items ∙ ap (λ (rs : List Reply). rs ++ c.in-Ok.reply ∷ []) l.invariant.answered ∙ sym c.in-Ok.ensures.replied;
-      count = c.push_reserved.ensures.len ∙ ap (λ n. n + 1) l.invariant.count;
-      spare = c.push_reserved.ensures.capacity ∙ l.invariant.spare;
+      answered = c.make.ensures.answered;
+      count = c.in-Ok.ensures.count ∙ ap (λ n. n + 1) l.invariant.count;
+      spare = c.make.ensures.capacity ∙ l.invariant.spare;
       room = c.make.ensures.room ∙ l.invariant.room;
     }
 

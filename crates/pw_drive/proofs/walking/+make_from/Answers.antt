@@ -1,4 +1,5 @@
-use Rattle.std.proofs.Common.{◌<◌, ◌∙◌, [], refl, sym, subst, arith, rules}
+use Rattle.std.proofs.Common.{◌<◌, ◌++◌, ◌∷◌, ◌∙◌, [], List, ap, refl, sym, subst, arith, rules}
+use Rattle.pw_model.specs.declared.reply.Reply.{Reply}
 use Rattle.pw_model.specs.History.{replay}
 use Rattle.pw_model.specs.Records.{container, domain, group}
 use Rattle.pw_idle.specs.Nodes.{node_part}
@@ -38,7 +39,7 @@ make_from-requires g t c κs within =
     let lower = falls P q (Scaled n) next c.args.ops.now.elements more (part_in was (domain n)) at (λ reply e. absurd (cc)) s.on in
     let low : rank next < rank c.args.place.now = subst (λ p. rank next < rank p) (sym c.in-Scaled.is) lower in (
       omega (arith, low, c.decreases),
-      (search rules, (c.requires.legal, (c.requires.faultless, (s.puts.of, (e.place, (on, (c.requires.space, (search rules, search rules)))))))),
+      (search rules, (c.requires.legal, (c.requires.faultless, (s.puts.of, (e.place, (on, (c.requires.space, (search rules, (search rules, (c.requires.answered, c.requires.spare)))))))))),
     )
 
 pub unstep_domain-requires-clause-of : goal.unstep_domain-requires-clause-of
@@ -81,7 +82,7 @@ make_from-requires-in-Grouped g t c κs within =
     let lower = falls P q (Grouped n) next c.args.ops.now.elements more (part_in was (group n)) at (λ reply e. absurd (cc)) s.on in
     let low : rank next < rank c.args.place.now = subst (λ p. rank next < rank p) (sym c.in-Grouped.is) lower in (
       omega (arith, low, c.decreases),
-      (search rules, (c.requires.legal, (c.requires.faultless, (s.puts.of, (e.place, (on, (c.requires.space, (search rules, search rules)))))))),
+      (search rules, (c.requires.legal, (c.requires.faultless, (s.puts.of, (e.place, (on, (c.requires.space, (search rules, (search rules, (c.requires.answered, c.requires.spare)))))))))),
     )
 
 pub unstep_group-requires-clause-of : goal.unstep_group-requires-clause-of
@@ -125,7 +126,7 @@ make_from-requires-in-Climbing g t c κs within =
     let lower = falls P q (Climbing n c.in-Climbing.climb) next c.args.ops.now.elements more (part_in was (container n)) at (λ reply e. absurd (cc)) s.on in
     let low : rank next < rank c.args.place.now = subst (λ p. rank next < rank p) (sym c.in-Climbing.is) lower in (
       omega (arith, low, c.decreases),
-      (search rules, (c.requires.legal, (c.requires.faultless, (s.puts.of, (e.place, (on, (c.requires.space, (search rules, search rules)))))))),
+      (search rules, (c.requires.legal, (c.requires.faultless, (s.puts.of, (e.place, (on, (c.requires.space, (search rules, (search rules, (c.requires.answered, c.requires.spare)))))))))),
     )
 
 pub unstep_node-requires-clause-of : goal.unstep_node-requires-clause-of
@@ -184,16 +185,18 @@ returns-in-Err-clause-turned g t c =
     turned P q es need.place.has need.legal need.faultless c.list.result.now c.append.result c.append.new.self.entries old new (c.list.ensures ∙ is)
     e.entry e.fault e.within did
 
-pub returns-in-Ok-clause-replied : goal.returns-in-Ok-clause-replied
-returns-in-Ok-clause-replied g t c =
+pub returns-in-Ok-clause-answered : goal.returns-in-Ok-clause-answered
+returns-in-Ok-clause-answered g t c =
     let P = c.args.plan.now in let q = c.args.request.now in let es = c.args.journal.now.entries in let need = c.requires in
-    replied_done P es c.append.new.self.entries q c.in-Over.reply c.in-Ok.ensures.entry
-    (reply_is P (replay P es) q (legal_state P es need.legal) need.place.has c.in-Over.reply c.args.ops.now.elements (part_in c.args.records.now)
-    (rw c.in-Over.is at need.midway))
+    let is = reply_is P (replay P es) q (legal_state P es need.legal) need.place.has c.in-Over.reply c.args.ops.now.elements (part_in c.args.records.now)
+    (rw c.in-Over.is at need.midway) in
+    c.push_reserved.ensures.items ∙ ap (λ (rs : List Reply). rs ++ c.in-Over.reply ∷ []) need.answered
+    ∙ sym (replied_done P es c.append.new.self.entries q c.in-Over.reply c.in-Ok.ensures.entry is)
 
-pub returns-in-Err-clause-replied : goal.returns-in-Err-clause-replied
-returns-in-Err-clause-replied g t c =
-    replied_stopped c.args.plan.now c.args.journal.now.entries c.append.new.self.entries c.args.request.now c.in-Err.done c.in-Err.ensures.fault
+pub returns-in-Err-clause-answered : goal.returns-in-Err-clause-answered
+returns-in-Err-clause-answered g t c =
+    c.requires.answered
+    ∙ sym (replied_stopped c.args.plan.now c.args.journal.now.entries c.append.new.self.entries c.args.request.now c.in-Err.done c.in-Err.ensures.fault)
 
 pub returns-in-Ok-clause-stands : goal.returns-in-Ok-clause-stands
 returns-in-Ok-clause-stands g t c =
