@@ -1,15 +1,17 @@
-ghost use Rattle.std.specs.Prelude.{◌≡◌, ◌<◌, length, IfOk, IfSome};
-ghost use Rattle.pw_text.specs.Looking.{LeadsTo};
+ghost use Rattle.std.specs.Prelude.{◌≡◌, ◌<◌, length, option_map, IfOk, IfSome};
+ghost use Rattle.pw_text.specs.Forms.{name_of};
+ghost use Rattle.pw_text.specs.Looking.{IsIndexOf, LeadsTo};
 ghost use Rattle.pw_cppc_drive.specs.Forms.{cpu_named, segs_of};
 
+use crate::named::path_texts;
 use pw_base::Memory;
 use pw_cppc::CppcPlan;
-use pw_text::{find_path, index_path};
+use pw_text::{PathIndex, index_path};
 use std::alloc::Global;
 use std::collections::HashMap;
 
-/// The processors of a plan by their paths.
-pub(crate) fn index_of(alloc: Global, plan: &CppcPlan) -> Result<HashMap<Vec<u8>, u32>, Memory>
+/// The processors of a plan by the segments of their paths.
+fn names_of(alloc: Global, plan: &CppcPlan) -> Result<HashMap<Vec<u8>, u32>, Memory>
     ensures { IfOk result (λ index. LeadsTo segs_of 0 plan.now.paths index) }
 {
     let paths = plan.paths.as_slice();
@@ -22,11 +24,25 @@ pub(crate) fn index_of(alloc: Global, plan: &CppcPlan) -> Result<HashMap<Vec<u8>
     Ok(index)
 }
 
-/// The processor with these segments.
-pub(crate) fn find(plan: &CppcPlan, index: &HashMap<Vec<u8>, u32>, name: &Vec<u8>) -> Option<u32>
-    requires { LeadsTo segs_of 0 plan.now.paths index.now }
-    ensures named { result ≡ cpu_named plan.now name.now.items }
-    ensures exists { IfSome result (λ cpu. cpu < length plan.now.cpus) }
+/// The processors of a plan by their paths.
+pub(crate) fn index_of(alloc: Global, plan: &CppcPlan) -> Result<PathIndex, Memory>
+    ensures { IfOk result (λ index. IsIndexOf segs_of plan.now.paths index) }
 {
-    find_path(index, name)
+    let names = names_of(alloc, plan)?;
+    PathIndex::new(alloc, names, &path_texts(alloc, plan)?)
+}
+
+/// The processor that a path leads to, if any; nothing where the text is no path. `name` is room for it.
+pub(crate) fn find(
+    plan: &CppcPlan,
+    index: &PathIndex,
+    name: &mut Vec<u8>,
+    path: &[u8],
+) -> Result<Option<Option<u32>>, Memory>
+    requires { IsIndexOf segs_of plan.now.paths index.now }
+    ensures named { IfOk result (λ found. found ≡ option_map (cpu_named plan.now) (name_of path.now)) }
+    ensures exists { IfOk result
+        (λ found. IfSome found (λ some. IfSome some (λ cpu. cpu < length plan.now.cpus))) }
+{
+    index.find(name, path)
 }

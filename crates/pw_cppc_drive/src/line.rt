@@ -1,14 +1,13 @@
 ghost use Rattle.std.specs.Prelude.{◌≡◌, bytes_eq, IfOk, IfSome};
 ghost use Rattle.pw_text.specs.Fields.{fields_of};
-ghost use Rattle.pw_text.specs.Looking.{LeadsTo};
+ghost use Rattle.pw_text.specs.Looking.{IsIndexOf};
 ghost use Rattle.pw_cppc.specs.Requests.{Has, cpu_of};
 ghost use Rattle.pw_cppc_drive.specs.Forms.{control_named, request_by, request_in, said, segs_of};
 
 use crate::index::find;
 use pw_base::Memory;
 use pw_cppc::{Control, CppcPlan, CppcRequest};
-use pw_text::{LineWhy, first_field, is_number, value_of, write_name};
-use std::collections::HashMap;
+use pw_text::{LineWhy, PathIndex, first_field, is_number, value_of};
 
 /// Whether bytes are this text.
 fn is(bytes: &[u8], text: &str) -> bool
@@ -61,14 +60,14 @@ fn request_by(control: Control, cpu: u32, value: u32) -> CppcRequest
     }
 }
 
-/// What a line asks for, if anything, or why it is bad. `name` is room for the segments of its path.
+/// What a line asks for, if anything, or why it is bad. `name` is room for its path.
 pub(crate) fn request_in(
     plan: &CppcPlan,
-    index: &HashMap<Vec<u8>, u32>,
+    index: &PathIndex,
     name: &mut Vec<u8>,
     line: &[u8],
 ) -> Result<Result<Option<CppcRequest>, LineWhy>, Memory>
-    requires { LeadsTo segs_of 0 plan.now.paths index.now }
+    requires { IsIndexOf segs_of plan.now.paths index.now }
     ensures request { IfOk result (λ asked. asked ≡ request_in plan.now line.now) }
     ensures exists { IfOk result (λ asked. IfOk asked (λ some. IfSome some (λ q. Has plan.now q))) }
 {
@@ -76,13 +75,13 @@ pub(crate) fn request_in(
     if path.is_empty() || path[0] == b'#' {
         return Ok(Ok(None));
     }
-    if !write_name(name, path)? {
+    let Some(found) = find(plan, index, name, path)? else {
         return Ok(Err(LineWhy::Grammar));
-    }
+    };
     let Some((control, value)) = said(rest) else {
         return Ok(Err(LineWhy::Grammar));
     };
-    let Some(cpu) = find(plan, index, name) else {
+    let Some(cpu) = found else {
         return Ok(Err(LineWhy::Processor));
     };
     let Some(value) = value else {

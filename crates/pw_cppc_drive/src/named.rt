@@ -63,7 +63,7 @@ impl<'a> NamedPlan<'a> {
 }
 
 /// The texts of the processors' paths, by their numbers.
-fn path_texts(alloc: Global, plan: &CppcPlan) -> Result<PathTexts, Memory>
+pub(crate) fn path_texts(alloc: Global, plan: &CppcPlan) -> Result<PathTexts, Memory>
     ensures { IfOk result (λ paths. paths ≡ paths_of plan.now) }
 {
     let mut paths = PathTexts::new(alloc);

@@ -4,7 +4,7 @@ ghost use Rattle.pw_cppc.specs.Requests.{Has};
 ghost use Rattle.pw_text.specs.declared.script.ScriptFault.TheVariants as faults;
 ghost use Rattle.pw_text.specs.declared.script.TheConstants.{MOST_LINES, MOST_OPERATIONS};
 ghost use Rattle.pw_text.specs.Fields.{lines_of};
-ghost use Rattle.pw_text.specs.Looking.{LeadsTo};
+ghost use Rattle.pw_text.specs.Looking.{IsIndexOf};
 ghost use Rattle.pw_text.specs.Scripts.{first_bad_by};
 ghost use Rattle.pw_cppc_drive.specs.Forms.{request_in, segs_of};
 ghost use Rattle.pw_cppc_drive.specs.Reading.{Fit, IsNoScript, IsScript, lines_in, operations};
@@ -14,9 +14,8 @@ use crate::line::request_in;
 use crate::script::{CppcLine, CppcScript};
 use pw_base::List;
 use pw_cppc::CppcPlan;
-use pw_text::{MOST_OPERATIONS, ScriptFault, first_line, too_long};
+use pw_text::{MOST_OPERATIONS, PathIndex, ScriptFault, first_line, too_long};
 use std::alloc::Global;
-use std::collections::HashMap;
 
 /// Whether the lines have too many operations, with those at the start.
 fn has_too_many(plan: &CppcPlan, lines: &[CppcLine]) -> bool
@@ -34,15 +33,15 @@ fn has_too_many(plan: &CppcPlan, lines: &[CppcLine]) -> bool
     bound > u64::from(MOST_OPERATIONS)
 }
 
-/// Reads lines, and puts those that ask for something into a list. `name` is room for the segments of a path.
+/// Reads lines, and puts those that ask for something into a list. `name` is room for a path.
 fn read_into(
     plan: &CppcPlan,
-    index: &HashMap<Vec<u8>, u32>,
+    index: &PathIndex,
     name: &mut Vec<u8>,
     bytes: &[u8],
     lines: &mut Vec<CppcLine>,
 ) -> Result<(), ScriptFault>
-    requires index { LeadsTo segs_of 0 plan.now.paths index.now }
+    requires index { IsIndexOf segs_of plan.now.paths index.now }
     requires few { length (lines_of bytes.now) ≤ MOST_LINES }
     requires none { lines.old.items ≡ [] }
     ensures good { OnOk result (first_bad_by (request_in plan.now) 1 (lines_of bytes.now) ≡ None) }

@@ -1,6 +1,6 @@
 ghost use Rattle.std.specs.Prelude.{◌≡◌, ◌<◌, length, bytes_eq, IfOk, IfSome};
 ghost use Rattle.pw_text.specs.Fields.{fields_of};
-ghost use Rattle.pw_text.specs.Looking.{LeadsTo};
+ghost use Rattle.pw_text.specs.Looking.{IsIndexOf};
 ghost use Rattle.pw_script.specs.Forms.{said, segs_of, verb_alone, verb_of_one, verb_of_two, wish_by, wish_in};
 ghost use Rattle.pw_script.specs.Reading.{asker};
 
@@ -9,8 +9,7 @@ use crate::wish::{Verb, Wish};
 use pw_base::Memory;
 use pw_model::ScaleKind;
 use pw_plan::{ANY_LATENCY, Plan, Request};
-use pw_text::{LineWhy, first_field, is_number, value_of, write_name};
-use std::collections::HashMap;
+use pw_text::{LineWhy, PathIndex, first_field, is_number, value_of};
 
 /// Whether bytes are this text.
 fn is(bytes: &[u8], text: &str) -> bool
@@ -136,14 +135,14 @@ fn wish_by(verb: Verb, cpu: u32, n: u32, m: u32) -> Option<Wish>
     }
 }
 
-/// What a line asks for, if anything, or why it is bad. `name` is room for the segments of its path.
+/// What a line asks for, if anything, or why it is bad. `name` is room for its path.
 pub(crate) fn wish_in(
     plan: &Plan,
-    index: &HashMap<Vec<u8>, u32>,
+    index: &PathIndex,
     name: &mut Vec<u8>,
     line: &[u8],
 ) -> Result<Result<Option<Wish>, LineWhy>, Memory>
-    requires { LeadsTo segs_of 0 plan.now.cpus index.now }
+    requires { IsIndexOf segs_of plan.now.cpus index.now }
     ensures wish { IfOk result (λ wish. wish ≡ wish_in plan.now line.now) }
     ensures exists { IfOk result
         (λ wish. IfOk wish (λ some. IfSome some (λ w. asker w < length plan.now.cpus))) }
@@ -152,13 +151,13 @@ pub(crate) fn wish_in(
     if path.is_empty() || path[0] == b'#' {
         return Ok(Ok(None));
     }
-    if !write_name(name, path)? {
+    let Some(found) = find(plan, index, name, path)? else {
         return Ok(Err(LineWhy::Grammar));
-    }
+    };
     let Some((verb, first, second)) = said(rest) else {
         return Ok(Err(LineWhy::Grammar));
     };
-    let Some(cpu) = find(plan, index, name) else {
+    let Some(cpu) = found else {
         return Ok(Err(LineWhy::Processor));
     };
     let (Some(first), Some(second)) = (first, second) else {

@@ -8,7 +8,7 @@ ghost use Rattle.pw_script.specs.declared.script.Line.{Line as line};
 ghost use Rattle.pw_text.specs.declared.script.ScriptFault.TheVariants as faults;
 ghost use Rattle.pw_text.specs.declared.script.TheConstants.{MOST_LINES, MOST_OPERATIONS};
 ghost use Rattle.pw_text.specs.Fields.{lines_of};
-ghost use Rattle.pw_text.specs.Looking.{LeadsTo};
+ghost use Rattle.pw_text.specs.Looking.{IsIndexOf};
 ghost use Rattle.pw_text.specs.Scripts.{too_long};
 ghost use Rattle.pw_script.specs.Forms.{segs_of};
 ghost use Rattle.pw_script.specs.Asking.{CanBeAsked};
@@ -25,9 +25,8 @@ use pw_core::State;
 use pw_governor::Governor;
 use pw_notice::Handlers;
 use pw_plan::Plan;
-use pw_text::{MOST_OPERATIONS, ScriptFault, first_line, too_long};
+use pw_text::{MOST_OPERATIONS, PathIndex, ScriptFault, first_line, too_long};
 use std::alloc::Global;
-use std::collections::HashMap;
 
 /// Whether the lines have too many operations, with those at the start.
 fn has_too_many(plan: &Plan, lines: &[Line]) -> bool
@@ -46,7 +45,7 @@ fn has_too_many(plan: &Plan, lines: &[Line]) -> bool
 }
 
 /// Reads lines, of which the first is asked in this state, and puts those that ask for something into a
-/// list. `name` is room for the segments of a path.
+/// list. `name` is room for a path.
 fn read_into<
     F: Fn(&IdleTable, u32, u32) -> u32,
     P: Fn(u32, u32, u32) -> u32,
@@ -55,7 +54,7 @@ fn read_into<
     plan: &Plan,
     governor: &Governor<F>,
     handlers: &Handlers<P, T>,
-    index: &HashMap<Vec<u8>, u32>,
+    index: &PathIndex,
     name: &mut Vec<u8>,
     state: &mut State,
     bytes: &[u8],
@@ -64,7 +63,7 @@ fn read_into<
     requires chooses { Chooses (F.pre governor.now) (F.post governor.now) }
     requires perf { Handles (P.pre handlers.now.0) (P.post handlers.now.0) }
     requires throttle { Handles (T.pre handlers.now.1) (T.post handlers.now.1) }
-    requires index { LeadsTo segs_of 0 plan.now.cpus index.now }
+    requires index { IsIndexOf segs_of plan.now.cpus index.now }
     requires opening { state.old ≡ opening plan.now }
     requires fits { IsState plan.now state.old }
     requires few { length (lines_of bytes.now) ≤ MOST_LINES }

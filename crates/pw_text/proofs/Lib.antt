@@ -11,4 +11,5 @@ pub mod Putting
 pub mod Refusing
 pub mod Shorts
 pub mod Spacing
+mod Spelling
 pub mod Values

@@ -1,6 +1,6 @@
 ghost use Rattle.std.specs.Prelude.{◌≡◌, IfOk, OnOk};
 ghost use Rattle.aml_data.specs.Segment.{joined};
-ghost use Rattle.pw_text.specs.Looking.{LeadsAlso, led_by};
+ghost use Rattle.pw_text.specs.Looking.{KeyLeadsAlso, LeadsAlso, led_by};
 
 use aml_data::FullPath;
 use pw_base::Memory;
@@ -20,6 +20,18 @@ pub fn key_of(alloc: Global, path: &FullPath) -> Result<Vec<u8>, Memory>
     Ok(key)
 }
 
+/// Lets a key lead to a number, wherever it led before.
+pub(crate) fn index_key(
+    index: &mut HashMap<Vec<u8>, u32>,
+    key: Vec<u8>,
+    number: u32,
+) -> Result<(), Memory>
+    ensures { OnOk result (KeyLeadsAlso key.items number index.old index.new) }
+{
+    index.insert(key, number)?;
+    Ok(())
+}
+
 /// Lets the segments of a path lead to a number, wherever they led before. Who puts the paths of a list
 /// from its last to its first has them lead to the first of each.
 pub fn index_path(
@@ -30,9 +42,7 @@ pub fn index_path(
 ) -> Result<(), Memory>
     ensures { OnOk result (LeadsAlso path.now.segs number index.old index.new) }
 {
-    let key = key_of(alloc, path)?;
-    index.insert(key, number)?;
-    Ok(())
+    index_key(index, key_of(alloc, path)?, number)
 }
 
 /// The number that segments lead to, as `write_name` writes them.

@@ -41,6 +41,13 @@ impl PathTexts {
         Ok(())
     }
 
+    /// The texts, in their order.
+    pub fn list(&self) -> &[List<u8>]
+        ensures { result.now ≡ self.now }
+    {
+        self.texts.as_slice()
+    }
+
     /// The text at a number, counted from 0; that of the root where there is none.
     #[inline]
     pub fn path(&self, number: u32) -> &[u8]

@@ -1,7 +1,7 @@
 use Rattle.std.proofs.Common.{arith}
 use Rattle.pw_text.proofs.Leading.{leads_on}
 use Rattle.pw_cppc_drive.specs.Forms.{segs_of}
-use Rattle.pw_cppc_drive.proofs.index.index_of.Goals as goal
+use Rattle.pw_cppc_drive.proofs.index.names_of.Goals as goal
 
 pub loop-number-preserved : goal.loop-number-preserved
 loop-number-preserved c =

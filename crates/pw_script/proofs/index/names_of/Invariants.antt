@@ -1,7 +1,7 @@
 use Rattle.std.proofs.Common.{◌≤◌, drop, length}
 use Rattle.pw_text.specs.Looking.{LeadsTo}
 use Rattle.pw_script.specs.Forms.{segs_of}
-use Rattle.pw_script.proofs.index.index_of.Given as goal
+use Rattle.pw_script.proofs.index.names_of.Given as goal
 
 abbrev pub invariant-loop-number : goal.invariant-loop-number
 invariant-loop-number l = record {
