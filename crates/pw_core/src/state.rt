@@ -26,11 +26,12 @@ impl Model for State {
 }
 
 impl State {
-    ghost use Rattle.std.specs.Prelude.{◌≡◌, ◌++◌, IfOk};
+    ghost use Rattle.std.specs.Prelude.{◌≡◌, ◌++◌, None, IfOk};
     ghost use Rattle.pw_plan.specs.Requests.{Has, opening_bound, ops_bound};
     ghost use Rattle.pw_model.specs.States.{IsState, opening};
     ghost use Rattle.pw_model.specs.Answers.{after, answer};
     ghost use Rattle.pw_model.specs.Operations.{opening_ops, ops_of};
+    ghost use Rattle.pw_model.specs.Refusals.{refusal};
     ghost use Rattle.pw_regs.specs.Rooms.{HasRoom};
 
     /// The state at the start: everyone runs, the limits are those of the tables, and each processor
@@ -90,6 +91,19 @@ impl State {
         open_all(plan, ops);
     }
 
+    /// Notes what an accepted request asks for.
+    #[tactic(auto, unfolding(pw_model::specs::Answers::after))]
+    pub fn note(&mut self, plan: &Plan, request: Request)
+        requires request { Has plan.now request }
+        requires fits { IsState plan.now self.old }
+        requires accepted { refusal plan.now self.old request ≡ None }
+        ensures after { self.new ≡ after plan.now self.old request }
+        ensures fits { IsState plan.now self.new }
+    {
+        let change = change_of(plan, &self.lists, request);
+        make(&mut self.lists, change);
+    }
+
     /// Notes what the request asks for. A refusal changes nothing.
     #[tactic(auto, unfolding(pw_model::specs::Answers::after))]
     pub fn apply(&mut self, plan: &Plan, request: Request)
@@ -99,8 +113,7 @@ impl State {
         ensures fits { IsState plan.now self.new }
     {
         if refusal(plan, &self.lists, request).is_none() {
-            let change = change_of(plan, &self.lists, request);
-            make(&mut self.lists, change);
+            self.note(plan, request);
         }
     }
 

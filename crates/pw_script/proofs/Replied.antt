@@ -25,7 +25,7 @@ use Rattle.pw_model.specs.declared.reply.Reply.TheVariants.{AboveLimit, Disabled
 use Rattle.pw_model.specs.declared.state.State.{State}
 use Rattle.pw_model.specs.declared.state.Vote.{Vote}
 use Rattle.pw_model.specs.States.{IsIndex, IsState, ask_of, idling, limit_of, limits_of, running, vote_of}
-use Rattle.pw_model.specs.Answers.{accepted, answer, chain_of, changed, if_accepted, stands, states_of}
+use Rattle.pw_model.specs.Answers.{accepted, after, answer, chain_of, changed, if_accepted, stands, states_of}
 use Rattle.pw_model.specs.Composites.{composite_of}
 use Rattle.pw_model.specs.Domains.{c_state, standing, stands_at}
 use Rattle.pw_model.specs.History.{after_entry, replies_from, request_of}
@@ -37,7 +37,7 @@ use Rattle.pw_model.proofs.Reasons.{AskReason, LimitReason, Reason, alone, ask_r
 use Rattle.pw_core.specs.Chains.{AreStatesOf, IsChain, states_in}
 use Rattle.pw_core.proofs.Climbing.{chain_fits}
 use Rattle.pw_core.proofs.Drawing.{nobody_drawn, own_enters, own_stays}
-use Rattle.pw_script.specs.inner.Known.{AreKnown, entered_alone, kind_of, other_replies, own_reply}
+use Rattle.pw_script.specs.inner.Known.{AreKnown, accepts, entered_alone, kind_of, other_replies, own_reply}
 
 -- # Whose reply is known
 
@@ -79,17 +79,6 @@ module _ (P : Plan) (S : State) where
   others_known (e ∷ es) d known le h = others e es known h
 
 -- # Replies of requests that are accepted, and of refusals
-
-abbrev accepts : Reply → Bool
-accepts (Entered c) = true
-accepts Running = true
-accepts (Stands i) = true
-accepts (NoState n) = false
-accepts Disabled = false
-accepts (AboveLimit l) = false
-accepts NoTable = false
-accepts (Unfit d why) = false
-accepts (TooSlow l) = false
 
 accepted_accepts : (P : Plan) (T : State) (q : Request) → accepts (accepted P T q) ≡ true
 unfolding accepted
@@ -141,13 +130,23 @@ refuses P S (Throttle p i) r e = ask_refuses P kinds.Throttle p S i r (ask_reaso
 refuses P S (PerfLimit p n) r e = limit_refuses P kinds.Perf p r (limit_reason P kinds.Perf p r (alone (limit_refusal P kinds.Perf p) r e))
 refuses P S (ThrottleLimit p n) r e = limit_refuses P kinds.Throttle p r (limit_reason P kinds.Throttle p r (alone (limit_refusal P kinds.Throttle p) r e))
 
-none_refused : (P : Plan) (S : State) (q : Request) → accepts (answer P S q) ≡ true → refusal P S q ≡ None
+pub none_refused : (P : Plan) (S : State) (q : Request) → accepts (answer P S q) ≡ true → refusal P S q ≡ None
 unfolding answer
 none_refused P S q e = step (refusal P S q) refl e
   where
     step : (r : Option Reply) → refusal P S q ≡ r → accepts (if_accepted r (λ reply. reply) (accepted P (changed P S q) q)) ≡ true → refusal P S q ≡ None
     step None is e = is
     step (Some x) is e = let no = refuses P S q x is in let clash : true ≡ false = sym e ∙ no in cc
+
+-- a refusal changes nothing
+pub refused_stays : (P : Plan) (S : State) (q : Request) → accepts (answer P S q) ≡ false → after P S q ≡ S
+unfolding answer after
+refused_stays P S q e = step (refusal P S q) e
+  where
+    step : (r : Option Reply) → accepts (if_accepted r (λ reply. reply) (accepted P (changed P S q) q)) ≡ false
+        → if_accepted r (λ reply. S) (changed P S q) ≡ S
+    step None e = let yes = accepted_accepts P (changed P S q) q in let clash : true ≡ false = sym yes ∙ e in cc
+    step (Some x) e = refl
 
 -- a refusal operates nothing
 refused_nothing : (P : Plan) (S : State) (q : Request) → accepts (answer P S q) ≡ false → ops_of P S q ≡ []
@@ -207,8 +206,8 @@ module _ (P : Plan) (S : State) (c : Chain) (fits : IsState P S) where
     abbrev T : State
     T = changed P S (Idle p s t)
 
-    after : IsState P T
-    after = changed_fits P S (Idle p s t) fits lt none
+    fits_after : IsState P T
+    fits_after = changed_fits P S (Idle p s t) fits lt none
 
     idle : IdleFits P p s
     idle = idle_fits P p s t (none_first (idle_refusal P p s t) None none)
@@ -220,7 +219,7 @@ module _ (P : Plan) (S : State) (c : Chain) (fits : IsState P S) where
       own_is : own_entry (cpu_at P p).idle.kind (c_state P T p) (enter P T p) ≡ entered_alone P p c
       own_is = elim (cases_lt 0 (get_or c.states 0 0)) [
         | inl above ↦
-            let fit = chain_fits P T p c lt after is above in
+            let fit = chain_fits P T p c lt fits_after is above in
             let some : (get_or c.states 0 0 == 0) ≡ false = grind (arith, nat_tests, above) in
             own_enters P T p c is (present (cpu_at P p).idle.kind idle.table) above
             ∙ ap (λ ss. Enter p (composite_of P p ss) ∷ []) (sym fit.told)
@@ -240,8 +239,8 @@ module _ (P : Plan) (S : State) (c : Chain) (fits : IsState P S) where
       idle_is : Tells P S (Idle p s t) c
       unfolding accepted_ops
       idle_is = record {
-        chain = λ above. (chain_fits P T p c lt after is above).chain;
-        states = λ above. (chain_fits P T p c lt after is above).fit;
+        chain = λ above. (chain_fits P T p c lt fits_after is above).chain;
+        states = λ above. (chain_fits P T p c lt fits_after is above).fit;
         bound = let few = drawn-few P S T p in omega (arith, few);
         alone = λ past. accepted_operates P S (Idle p s t) none ∙ alone_is past;
       }

@@ -8,7 +8,7 @@ ghost use Rattle.pw_model.specs.Answers.{after, answer};
 ghost use Rattle.pw_model.specs.Operations.{ops_of, set_at, set_on};
 ghost use Rattle.pw_core.specs.Chains.{AreStatesOf, IsChain, states_in};
 ghost use Rattle.pw_regs.specs.Rooms.{HasRoom};
-ghost use Rattle.pw_script.specs.inner.Known.{entered_alone, kind_of, other_replies, own_reply};
+ghost use Rattle.pw_script.specs.inner.Known.{accepts, entered_alone, kind_of, other_replies, own_reply};
 
 use acpi_values::{Chain, Coord, Op};
 use pw_core::{Ops, State, chain_composite, set_each, set_on, standing_now};
@@ -148,7 +148,20 @@ fn operate(plan: &Plan, state: &State, request: Request, reply: Reply, ops: &mut
     }
 }
 
+/// Whether this is the reply of a request that is accepted.
+fn accepts(reply: Reply) -> bool
+    ensures { result ≡ accepts reply }
+{
+    match reply {
+        Reply::Entered { .. } => true,
+        Reply::Running => true,
+        Reply::Stands { .. } => true,
+        _ => false,
+    }
+}
+
 /// Answers a request, with its reply where that is known, appends its operations and notes what it asks for.
+#[tactic(auto, using(crate::proofs::Replied::none_refused, crate::proofs::Replied::refused_stays))]
 pub fn step(
     plan: &Plan,
     state: &mut State,
@@ -171,7 +184,9 @@ pub fn step(
         None => state.step(plan, request, ops),
         Some(reply) => {
             operate(plan, state, request, reply, ops);
-            state.apply(plan, request);
+            if accepts(reply) {
+                state.note(plan, request);
+            }
             reply
         }
     }

@@ -1,5 +1,5 @@
 -- Replies that are known, and the operations of a request by its reply.
-use Rattle.std.specs.Prelude.{◌≡◌, ◌==◌, ℕ, List, [], ◌∷◌, slice_index_or, Option, Some, None, if◌then◌else◌}
+use Rattle.std.specs.Prelude.{◌≡◌, ◌==◌, ℕ, Bool, true, false, List, [], ◌∷◌, slice_index_or, Option, Some, None, if◌then◌else◌}
 use Rattle.acpi_values.specs.declared.operation.Chain.{Chain}
 use Rattle.acpi_values.specs.declared.operation.Op.{Op}
 use Rattle.acpi_values.specs.declared.operation.Op.TheVariants.{Enter}
@@ -10,6 +10,7 @@ use Rattle.pw_plan.specs.declared.request.Request.{Request}
 use Rattle.pw_plan.specs.declared.request.Request.TheVariants.{Idle, Wake, Perf, Throttle, PerfLimit, ThrottleLimit}
 use Rattle.pw_model.specs.declared.entry.HistoryEntry.{HistoryEntry}
 use Rattle.pw_model.specs.declared.reply.Reply.{Reply}
+use Rattle.pw_model.specs.declared.reply.Reply.TheVariants.{AboveLimit, Disabled, Entered, NoState, NoTable, Running, Stands, TooSlow, Unfit}
 use Rattle.pw_model.specs.declared.state.State.{State}
 use Rattle.pw_model.specs.Composites.{composite_of}
 use Rattle.pw_model.specs.History.{replies_from}
@@ -31,6 +32,18 @@ abbrev pub other_replies : HistoryEntry → Option (List Reply) → Option (List
 other_replies e None = None
 other_replies e (Some []) = Some []
 other_replies e (Some (r ∷ rs)) = if e.fault == 0 then Some rs else Some (r ∷ rs)
+
+-- whether this is the reply of a request that is accepted
+abbrev pub accepts : Reply → Bool
+accepts (Entered c) = true
+accepts Running = true
+accepts (Stands i) = true
+accepts (NoState n) = false
+accepts Disabled = false
+accepts (AboveLimit l) = false
+accepts NoTable = false
+accepts (Unfit d why) = false
+accepts (TooSlow l) = false
 
 -- what a processor enters by itself in a chain of states
 abbrev pub entered_alone : Plan → ℕ → Chain → List Op
