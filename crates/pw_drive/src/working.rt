@@ -57,8 +57,8 @@ fn make_all<W: Wait, R: Registers, G: Gate>(
     ensures parts { (view_in seat.new.badge.views).parts ≡ (view_in seat.old.badge.views).parts }
     ensures made { MadeLines requests.now (given_of R.Registers coordinator.now.table.shared.key).capacity
         (view_in seat.new.badge.views) }
-    ensures replied { KeepsReplies (given_of R.Registers coordinator.now.table.shared.key).plan replies.new.items
-        (view_in seat.new.badge.views) }
+    ensures replied { KeepsReplies (given_of R.Registers coordinator.now.table.shared.key).plan
+        replies.new.items (view_in seat.new.badge.views) }
 {
     for request in requests {
         let done = coordinator.request(rt, seat, *request, gate);
