@@ -1,5 +1,5 @@
 ghost use Rattle.std.specs.Prelude.{◌≡◌, ◌++◌, ◌∷◌, [], decimal, is_ok, length, true};
-ghost use Rattle.std.specs.Prelude.{Err, IfOk, OnOk};
+ghost use Rattle.std.specs.Prelude.{Err, IfOk, IfSome, OnOk};
 ghost use Rattle.pw_base.specs.Outside.{GrewByPart, KeepsSink, Rose};
 ghost use Rattle.pw_text.specs.Lines.{text_of};
 ghost use Rattle.pw_text.specs.Puts.{PutsText};
@@ -13,7 +13,7 @@ use crate::counts::{Counts, count_replies};
 use crate::ends::put_ends;
 use pw_base::{Failed, Memory, Sink};
 use pw_core::State;
-use pw_model::{HistoryEntry, State as Lists};
+use pw_model::{HistoryEntry, Reply, State as Lists};
 use pw_plan::Plan;
 use pw_text::{Page, PrintFault, put_number};
 use std::alloc::Global;
@@ -100,10 +100,40 @@ fn hold(alloc: Global, plan: &Plan) -> Result<Held, Memory>
     })
 }
 
+/// Prints the summary of a history as `print_summary` does, with the replies to its entries where they are
+/// known: then they aren't worked out again.
+#[tactic(auto, unfolding(pw_kind::specs::History::replay, pw_kind::specs::History::replies))]
+pub fn print_summary_known<K: Sink>(
+    alloc: Global,
+    plan: &Plan,
+    entries: &[HistoryEntry],
+    known: Option<&[Reply]>,
+    out: &mut K,
+) -> Result<(), PrintFault>
+    requires legal { Legal plan.now entries.now }
+    requires faultless { Faultless entries.now }
+    requires known { IfSome known (λ told. told.now ≡ replies plan.now entries.now) }
+    ensures keeps { KeepsSink K.told K.faults out.old out.new }
+    ensures whole { OnOk result (K.told out.old ≡ true →
+        K.written out.new ≡ K.written out.old ++ summary_text plan.now entries.now) }
+    // Whatever fails, the sink has a beginning of the text.
+    ensures part { K.told out.old ≡ true →
+        GrewByPart (K.written out.old) (K.written out.new) (summary_text plan.now entries.now) }
+    ensures sink { result ≡ Err faults.Sink → Rose (K.faults out.old) (K.faults out.new) }
+    ensures memory { result ≡ Err faults.Memory → out.new ≡ out.old }
+{
+    let Held {
+        mut page,
+        mut state,
+    } = hold(alloc, plan)?;
+    let counts = count_replies(plan, &mut state, entries, known);
+    put_summary(&mut page, out, plan, entries, &counts, state.lists())?;
+    Ok(())
+}
+
 /// Prints the summary of a history: how many processors and lines there are, how many requests were answered
 /// in which way, the state of each container at the end, and where each performance domain stands. Memory is
 /// taken before the sink sees a byte.
-#[tactic(auto, unfolding(pw_kind::specs::History::replay, pw_kind::specs::History::replies))]
 pub fn print_summary<K: Sink>(
     alloc: Global,
     plan: &Plan,
@@ -121,11 +151,5 @@ pub fn print_summary<K: Sink>(
     ensures sink { result ≡ Err faults.Sink → Rose (K.faults out.old) (K.faults out.new) }
     ensures memory { result ≡ Err faults.Memory → out.new ≡ out.old }
 {
-    let Held {
-        mut page,
-        mut state,
-    } = hold(alloc, plan)?;
-    let counts = count_replies(plan, &mut state, entries);
-    put_summary(&mut page, out, plan, entries, &counts, state.lists())?;
-    Ok(())
+    print_summary_known(alloc, plan, entries, None, out)
 }

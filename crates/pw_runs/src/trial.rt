@@ -70,7 +70,7 @@ fn run<T: Threads + Wait + Sync, K: Sink, R: Registers + Send, G: Gate + Sync>(
             sealed: None,
         },
         Ok(Drove::Opening { done, plan, regs }) => {
-            let status = print_run(alloc, &plan, Some(done), &[], page, out, err);
+            let status = print_run(alloc, &plan, Some(done), &[], None, page, out, err);
             drop(plan);
             Outcome {
                 status,
@@ -79,9 +79,11 @@ fn run<T: Threads + Wait + Sync, K: Sink, R: Registers + Send, G: Gate + Sync>(
             }
         }
         Ok(Drove::Closed { closed, replies }) => {
-            drop(replies);
             let (sealed, regs) = closed.into_parts();
-            let status = print_run(alloc, sealed.plan(), None, sealed.entries(), page, out, err);
+            let (plan, entries) = (sealed.plan(), sealed.entries());
+            let known = Some(replies.as_slice());
+            let status = print_run(alloc, plan, None, entries, known, page, out, err);
+            drop(replies);
             Outcome {
                 status,
                 regs,

@@ -1,5 +1,5 @@
--- Counts of replies, as they are added up.
-use Rattle.std.specs.Prelude.{◌+◌, ℕ, List, [], ◌∷◌, codes}
+-- Counts of replies, as they are added up, and replies that are known.
+use Rattle.std.specs.Prelude.{◌+◌, ℕ, List, [], ◌∷◌, Option, Some, None, codes}
 use Rattle.pw_model.specs.declared.reply.Reply.{Reply}
 use Rattle.pw_model.specs.declared.reply.Reply.TheVariants.{Entered, Running, Stands, NoState, Disabled, AboveLimit, NoTable, Unfit, TooSlow}
 use Rattle.pw_generate.specs.declared.counts.Counts.{Counts}
@@ -27,6 +27,18 @@ with_reply c (TooSlow latency) = record c { refused = c.refused + 1 }
 abbrev pub counted : Counts → List Reply → Counts
 counted c [] = c
 counted c (r ∷ rs) = counted (with_reply c r) rs
+
+-- the first of the known replies
+abbrev pub next_reply : Option (List Reply) → Option Reply
+next_reply None = None
+next_reply (Some []) = None
+next_reply (Some (r ∷ rs)) = Some r
+
+-- those behind it
+abbrev pub later_replies : Option (List Reply) → Option (List Reply)
+later_replies None = None
+later_replies (Some []) = Some []
+later_replies (Some (r ∷ rs)) = Some rs
 
 -- the lines of counts
 abbrev pub reply_lines : Counts → List (List ℕ)

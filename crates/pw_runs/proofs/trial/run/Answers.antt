@@ -17,12 +17,23 @@ print_run-status-requires-in-Ok-Closed-clause-legal g c =
     let s = c.into_parts-sealed.result.0 in
     let drove = rw o.field-0-is at o.ensures.drove in
     let sealed : s ≡ o.closed.sealed = ap (λ p. p.0) c.into_parts-sealed.ensures in
-    let plan = c.plan.ensures ∙ ap (λ (x : Sealed). x.plan) sealed ∙ drove.0 in
-    let entries = c.entries.ensures ∙ ap (λ (x : Sealed). x.entries) sealed in
+    let plan = c.plan-plan.ensures ∙ ap (λ (x : Sealed). x.plan) sealed ∙ drove.0 in
+    let entries = c.entries-entries.ensures ∙ ap (λ (x : Sealed). x.entries) sealed in
     rw (plan, entries) (run_legal c.args.plan (requests_of c.args.script.now.lines) None o.closed.sealed.entries drove.1.lawful)
 
 pub print_run-status-requires-in-Ok-Closed-clause-faultless : goal.print_run-status-requires-in-Ok-Closed-clause-faultless
-print_run-status-requires-in-Ok-Closed-clause-faultless g c = run_faultless None c.entries.result.now
+print_run-status-requires-in-Ok-Closed-clause-faultless g c = run_faultless None c.entries-entries.result.now
+
+pub print_run-status-requires-in-Ok-Closed-clause-known : goal.print_run-status-requires-in-Ok-Closed-clause-known
+print_run-status-requires-in-Ok-Closed-clause-known g c =
+    let o = c.in-Ok-Closed in
+    let s = c.into_parts-sealed.result.0 in
+    let drove = rw o.field-0-is at o.ensures.drove in
+    let told = rw o.field-0-is at o.ensures.replies in
+    let sealed : s ≡ o.closed.sealed = ap (λ p. p.0) c.into_parts-sealed.ensures in
+    let plan = c.plan-plan.ensures ∙ ap (λ (x : Sealed). x.plan) sealed ∙ drove.0 in
+    let entries = c.entries-entries.ensures ∙ ap (λ (x : Sealed). x.entries) sealed in
+    rw (plan, entries) (c.as_slice.ensures ∙ told)
 
 pub returns-in-Err-clause-ran : goal.returns-in-Err-clause-ran
 returns-in-Err-clause-ran g c =
@@ -50,7 +61,7 @@ returns-in-Ok-Closed-clause-ran g c =
     let regs : c.into_parts-sealed.result.1 ≡ o.closed.regs = ap (λ p. p.1) c.into_parts-sealed.ensures in
     let plan : s.plan ≡ P = ap (λ (x : Sealed). x.plan) sealed ∙ drove.0 in
     let entries : s.entries ≡ es = ap (λ (x : Sealed). x.entries) sealed in
-    let printed = rw (c.plan.ensures ∙ plan, c.entries.ensures ∙ entries) at c.print_run-status-in-Ok-Closed.ensures.printed in
+    let printed = rw (c.plan-plan.ensures ∙ plan, c.entries-entries.ensures ∙ entries) at c.print_run-status-in-Ok-Closed.ensures.printed in
     let before = registers_seen g.R.Registers c.args.regs in
     let run = subst (λ r. Runs P c.args.script.now.lines None es before (registers_seen g.R.Registers r)) (sym regs) drove.1 in
     let seals = seals_closed P es c.print_run-status-in-Ok-Closed.result s c.handed_on.result plan entries c.handed_on.ensures.given c.handed_on.ensures.unended in

@@ -7,9 +7,9 @@ use Rattle.pw_runs.proofs.trial_print.print_run.Goals as goal
 
 pub returns-in-None-clause-printed : goal.returns-in-None-clause-printed
 returns-in-None-clause-printed g c =
-    let summary = c.print_summary.ensures in
-    rw c.printed.ensures.status (printed_whole g.K.Sink c.args.out.now c.print_summary.new.out c.args.err.now c.printed.new.err c.args.plan.now c.args.opening c.args.entries.now
-    (sym c.failed_after.ensures ∙ c.in-None.is) c.print_summary.result summary.whole summary.part summary.sink summary.memory c.printed.ensures.line)
+    let summary = c.print_summary_known.ensures in
+    rw c.printed.ensures.status (printed_whole g.K.Sink c.args.out.now c.print_summary_known.new.out c.args.err.now c.printed.new.err c.args.plan.now c.args.opening c.args.entries.now
+    (sym c.failed_after.ensures ∙ c.in-None.is) c.print_summary_known.result summary.whole summary.part summary.sink summary.memory c.printed.ensures.line)
 
 pub returns-in-Some-clause-printed : goal.returns-in-Some-clause-printed
 returns-in-Some-clause-printed g c =
