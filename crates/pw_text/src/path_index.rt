@@ -59,8 +59,8 @@ fn shortened(alloc: Global, text: &[u8]) -> Result<Vec<u8>, Memory> {
 }
 
 impl PathIndex {
-    /// Lets each of these texts lead where its segments do, beside the segments, and so it as short as it may be
-    /// spelled.
+    /// Lets each of these texts lead where its segments do, beside the segments, and so it as short as it may
+    /// be spelled.
     pub fn new(
         alloc: Global,
         names: HashMap<Vec<u8>, u32>,

@@ -1,12 +1,9 @@
-use Rattle.std.proofs.Common.{◌<◌, ◌++◌, ◌∷◌, ◌∙◌, [], List, ap, refl, sym, subst, arith, rules}
-use Rattle.pw_model.specs.declared.reply.Reply.{Reply}
+use Rattle.std.proofs.Common.{◌<◌, ◌∙◌, [], refl, sym, subst, arith, rules}
 use Rattle.pw_model.specs.History.{replay}
 use Rattle.pw_model.specs.Records.{container, domain, group}
 use Rattle.pw_idle.specs.Nodes.{node_part}
 use Rattle.pw_domain.specs.Domains.{domain_part}
 use Rattle.pw_domain.specs.Groups.{group_part}
-use Rattle.pw_regs.specs.Seen.{registers_seen}
-use Rattle.pw_regs.proofs.Operating.{did_by}
 use Rattle.pw_machine.specs.Walk.{grouped, scaled}
 use Rattle.pw_machine.proofs.Plans.{legal_state}
 use Rattle.pw_walker.specs.declared.place.Place.TheVariants.{Scaled, Grouped, Climbing}
@@ -16,8 +13,7 @@ use Rattle.pw_walker.specs.Undoing.{FitsLevel, FitsState, FitsVote, level_back, 
 use Rattle.pw_turns.specs.HeldRecords.{rank}
 use Rattle.pw_turns.proofs.Frames.{falls}
 use Rattle.pw_drive.specs.Keeping.{part_in}
-use Rattle.pw_drive.proofs.Midway.{midway_on, ops_are, reply_is, told_after, undone_too}
-use Rattle.pw_drive.proofs.Requesting.{few_ops, replied_done, replied_stopped, stands_after, turned, undone_after}
+use Rattle.pw_drive.proofs.Midway.{midway_on, undone_too}
 use Rattle.pw_drive.proofs.Setting.{domain_before, group_before, held_is, node_before, puts_domain, puts_group, puts_node, stepped_domain, stepped_group, stepped_node}
 use Rattle.pw_drive.proofs.Setting.{with_domain, with_group, with_node}
 use Rattle.pw_drive.proofs.walking.+make_from.Goals as goal
@@ -45,21 +41,21 @@ make_from-requires g t c κs within =
 pub unstep_domain-requires-clause-of : goal.unstep_domain-requires-clause-of
 unstep_domain-requires-clause-of g t c =
     let at = rw c.in-Scaled.is at c.requires.place in
-    (held_is c.in-Err-make_from.ensures.undone.of.domains c.in-Scaled.domain at.stands.1 c.index_mut.result.now c.index_mut.ensures.value).of
+    (held_is c.in-Err.ensures.undone.of.domains c.in-Scaled.domain at.stands.1 c.index_mut.result.now c.index_mut.ensures.value).of
 
 pub unstep_domain-requires-clause-fits : goal.unstep_domain-requires-clause-fits
 unstep_domain-requires-clause-fits g t c =
     let at = rw c.in-Scaled.is at c.requires.place in
-    let is = held_is c.in-Err-make_from.ensures.undone.of.domains c.in-Scaled.domain at.stands.1 c.index_mut.result.now c.index_mut.ensures.value in
+    let is = held_is c.in-Err.ensures.undone.of.domains c.in-Scaled.domain at.stands.1 c.index_mut.result.now c.index_mut.ensures.value in
     subst (λ m. FitsLevel c.args.plan.now m c.step_domain-next.result.1)
     ((held_is c.requires.of.domains c.in-Scaled.domain at.stands.1 c.index_mut-held.result.now c.index_mut-held.ensures.value).number ∙ sym is.number)
     c.step_domain-next.ensures.old.fits
 
-pub returns-in-Err-make_from-clause-undone : goal.returns-in-Err-make_from-clause-undone
-returns-in-Err-make_from-clause-undone g t c =
+pub returns-in-Err-clause-undone : goal.returns-in-Err-clause-undone
+returns-in-Err-clause-undone g t c =
     let P = c.args.plan.now in let was = c.args.records.now in let n = c.in-Scaled.domain in let at = rw c.in-Scaled.is at c.requires.place in
     let h = c.index_mut-held.result.now in let there = c.index_mut-held.ensures.value in let r = c.step_domain-next.new.held in let e = c.step_domain-next.ensures in
-    let u = c.in-Err-make_from.ensures.undone in let mid = c.make_from.new.records in let back = level_back c.step_domain-next.result.1 in let s = c.unstep_domain in
+    let u = c.in-Err.ensures.undone in let mid = c.make_from.new.records in let back = level_back c.step_domain-next.result.1 in let s = c.unstep_domain in
     undone_too P c.args.journal.now.entries c.make_from.new.journal.entries was (with_domain was n r) mid (with_domain mid n s.new.held) (domain n) (domain_part r) back at.stands.1
     (puts_domain P was c.requires.of n at.stands.1 h r there e.of (λ x. domain_part r) refl) u
     (puts_domain P mid u.of n at.stands.1 c.index_mut.result.now s.new.held c.index_mut.ensures.value s.ensures.of back s.ensures.part)
@@ -88,24 +84,24 @@ make_from-requires-in-Grouped g t c κs within =
 pub unstep_group-requires-clause-of : goal.unstep_group-requires-clause-of
 unstep_group-requires-clause-of g t c =
     let at = rw c.in-Grouped.is at c.requires.place in
-    (held_is c.in-Err-make_from-2.ensures.undone.of.groups c.in-Grouped.group at.stands.1 c.index_mut-in-Err-make_from-2.result.now c.index_mut-in-Err-make_from-2.ensures.value).of
+    (held_is c.in-Err-make_from.ensures.undone.of.groups c.in-Grouped.group at.stands.1 c.index_mut-in-Err-make_from.result.now c.index_mut-in-Err-make_from.ensures.value).of
 
 pub unstep_group-requires-clause-fits : goal.unstep_group-requires-clause-fits
 unstep_group-requires-clause-fits g t c =
     let at = rw c.in-Grouped.is at c.requires.place in
-    let is = held_is c.in-Err-make_from-2.ensures.undone.of.groups c.in-Grouped.group at.stands.1 c.index_mut-in-Err-make_from-2.result.now c.index_mut-in-Err-make_from-2.ensures.value in
+    let is = held_is c.in-Err-make_from.ensures.undone.of.groups c.in-Grouped.group at.stands.1 c.index_mut-in-Err-make_from.result.now c.index_mut-in-Err-make_from.ensures.value in
     subst (λ m. FitsState c.args.plan.now m c.step_group-next.result.1)
     ((held_is c.requires.of.groups c.in-Grouped.group at.stands.1 c.index_mut-held-in-Grouped.result.now c.index_mut-held-in-Grouped.ensures.value).number ∙ sym is.number)
     c.step_group-next.ensures.old.fits
 
-pub returns-in-Err-make_from-2-clause-undone : goal.returns-in-Err-make_from-2-clause-undone
-returns-in-Err-make_from-2-clause-undone g t c =
+pub returns-in-Err-make_from-clause-undone : goal.returns-in-Err-make_from-clause-undone
+returns-in-Err-make_from-clause-undone g t c =
     let P = c.args.plan.now in let was = c.args.records.now in let n = c.in-Grouped.group in let at = rw c.in-Grouped.is at c.requires.place in
     let h = c.index_mut-held-in-Grouped.result.now in let there = c.index_mut-held-in-Grouped.ensures.value in let r = c.step_group-next.new.held in let e = c.step_group-next.ensures in
-    let u = c.in-Err-make_from-2.ensures.undone in let mid = c.make_from-in-Grouped.new.records in let back = state_back c.step_group-next.result.1 in let s = c.unstep_group in
+    let u = c.in-Err-make_from.ensures.undone in let mid = c.make_from-in-Grouped.new.records in let back = state_back c.step_group-next.result.1 in let s = c.unstep_group in
     undone_too P c.args.journal.now.entries c.make_from-in-Grouped.new.journal.entries was (with_group was n r) mid (with_group mid n s.new.held) (group n) (group_part r) back at.stands.1
     (puts_group P was c.requires.of n at.stands.1 h r there e.of (λ x. group_part r) refl) u
-    (puts_group P mid u.of n at.stands.1 c.index_mut-in-Err-make_from-2.result.now s.new.held c.index_mut-in-Err-make_from-2.ensures.value s.ensures.of back s.ensures.part)
+    (puts_group P mid u.of n at.stands.1 c.index_mut-in-Err-make_from.result.now s.new.held c.index_mut-in-Err-make_from.ensures.value s.ensures.of back s.ensures.part)
     (e.old.back ∙ group_before P was c.requires.of n at.stands.1 h r there e.of)
 
 pub step_node-next-requires-clause-of : goal.step_node-next-requires-clause-of
@@ -132,81 +128,26 @@ make_from-requires-in-Climbing g t c κs within =
 pub unstep_node-requires-clause-of : goal.unstep_node-requires-clause-of
 unstep_node-requires-clause-of g t c =
     let at = rw c.in-Climbing.is at c.requires.place in
-    (held_is c.in-Err-make_from-3.ensures.undone.of.nodes c.in-Climbing.node at.stands.exists c.index_mut-in-Err-make_from-3.result.now c.index_mut-in-Err-make_from-3.ensures.value).of
+    (held_is c.in-Err-make_from-2.ensures.undone.of.nodes c.in-Climbing.node at.stands.exists c.index_mut-in-Err-make_from-2.result.now c.index_mut-in-Err-make_from-2.ensures.value).of
 
 pub unstep_node-requires-clause-fits : goal.unstep_node-requires-clause-fits
 unstep_node-requires-clause-fits g t c =
     let at = rw c.in-Climbing.is at c.requires.place in
-    let is = held_is c.in-Err-make_from-3.ensures.undone.of.nodes c.in-Climbing.node at.stands.exists c.index_mut-in-Err-make_from-3.result.now c.index_mut-in-Err-make_from-3.ensures.value in
+    let is = held_is c.in-Err-make_from-2.ensures.undone.of.nodes c.in-Climbing.node at.stands.exists c.index_mut-in-Err-make_from-2.result.now c.index_mut-in-Err-make_from-2.ensures.value in
     subst (λ m. FitsVote c.args.plan.now m c.step_node-next.result.1)
     (sym is.number)
     c.step_node-next.ensures.old.fits
 
-pub returns-in-Err-make_from-3-clause-undone : goal.returns-in-Err-make_from-3-clause-undone
-returns-in-Err-make_from-3-clause-undone g t c =
+pub returns-in-Err-make_from-2-clause-undone : goal.returns-in-Err-make_from-2-clause-undone
+returns-in-Err-make_from-2-clause-undone g t c =
     let P = c.args.plan.now in let was = c.args.records.now in let n = c.in-Climbing.node in let at = rw c.in-Climbing.is at c.requires.place in
     let h = c.index_mut-held-in-Climbing.result.now in let there = c.index_mut-held-in-Climbing.ensures.value in let r = c.step_node-next.new.held in let e = c.step_node-next.ensures in
-    let u = c.in-Err-make_from-3.ensures.undone in let mid = c.make_from-in-Climbing.new.records in let back = vote_back c.step_node-next.result.1 in let s = c.unstep_node in
+    let u = c.in-Err-make_from-2.ensures.undone in let mid = c.make_from-in-Climbing.new.records in let back = vote_back c.step_node-next.result.1 in let s = c.unstep_node in
     let own = subst (λ m. IsNode P m r) (sym (held_is c.requires.of.nodes n at.stands.exists h there).number) e.of in
     undone_too P c.args.journal.now.entries c.make_from-in-Climbing.new.journal.entries was (with_node was n r) mid (with_node mid n s.new.held) (container n) (node_part r) back at.stands.exists
     (puts_node P was c.requires.of n at.stands.exists h r there own (λ x. node_part r) refl) u
-    (puts_node P mid u.of n at.stands.exists c.index_mut-in-Err-make_from-3.result.now s.new.held c.index_mut-in-Err-make_from-3.ensures.value s.ensures.of back s.ensures.part)
+    (puts_node P mid u.of n at.stands.exists c.index_mut-in-Err-make_from-2.result.now s.new.held c.index_mut-in-Err-make_from-2.ensures.value s.ensures.of back s.ensures.part)
     (e.old.back ∙ node_before P was c.requires.of n at.stands.exists h r there own)
 
--- # The journal's call
-
-pub append-requires-clause-few : goal.append-requires-clause-few
-append-requires-clause-few g t c =
-    let P = c.args.plan.now in let q = c.args.request.now in let es = c.args.journal.now.entries in let need = c.requires in
-    let is = ops_are P (replay P es) q (legal_state P es need.legal) need.place.has c.in-Over.reply c.args.ops.now.elements (part_in c.args.records.now)
-    (rw c.in-Over.is at need.midway) in
-    let few = few_ops P q es need.place.has need.legal need.faultless c.list.result.now (c.list.ensures ∙ is) in
-    omega (arith, few, need.room, need.few)
-
-pub returns-in-Ok-clause-turned : goal.returns-in-Ok-clause-turned
-returns-in-Ok-clause-turned g t c =
-    let P = c.args.plan.now in let q = c.args.request.now in let es = c.args.journal.now.entries in let need = c.requires in
-    let is = ops_are P (replay P es) q (legal_state P es need.legal) need.place.has c.in-Over.reply c.args.ops.now.elements (part_in c.args.records.now)
-    (rw c.in-Over.is at need.midway) in
-    let old = registers_seen g.R.Registers c.args.journal.now.regs in let new = registers_seen g.R.Registers c.append.new.self.regs in
-    let e = c.append.ensures in
-    let did = did_by c.list.result.now c.append.result old new e.keeps.same_told e.keeps.count e.done e.part e.failed e.promised e.steady e.left in
-    turned P q es need.place.has need.legal need.faultless c.list.result.now c.append.result c.append.new.self.entries old new (c.list.ensures ∙ is)
-    e.entry e.fault e.within did
-
-pub returns-in-Err-clause-turned : goal.returns-in-Err-clause-turned
-returns-in-Err-clause-turned g t c =
-    let P = c.args.plan.now in let q = c.args.request.now in let es = c.args.journal.now.entries in let need = c.requires in
-    let is = ops_are P (replay P es) q (legal_state P es need.legal) need.place.has c.in-Over.reply c.args.ops.now.elements (part_in c.args.records.now)
-    (rw c.in-Over.is at need.midway) in
-    let old = registers_seen g.R.Registers c.args.journal.now.regs in let new = registers_seen g.R.Registers c.append.new.self.regs in
-    let e = c.append.ensures in
-    let did = did_by c.list.result.now c.append.result old new e.keeps.same_told e.keeps.count e.done e.part e.failed e.promised e.steady e.left in
-    turned P q es need.place.has need.legal need.faultless c.list.result.now c.append.result c.append.new.self.entries old new (c.list.ensures ∙ is)
-    e.entry e.fault e.within did
-
-pub returns-in-Ok-clause-answered : goal.returns-in-Ok-clause-answered
-returns-in-Ok-clause-answered g t c =
-    let P = c.args.plan.now in let q = c.args.request.now in let es = c.args.journal.now.entries in let need = c.requires in
-    let is = reply_is P (replay P es) q (legal_state P es need.legal) need.place.has c.in-Over.reply c.args.ops.now.elements (part_in c.args.records.now)
-    (rw c.in-Over.is at need.midway) in
-    c.push_reserved.ensures.items ∙ ap (λ (rs : List Reply). rs ++ c.in-Over.reply ∷ []) need.answered
-    ∙ sym (replied_done P es c.append.new.self.entries q c.in-Over.reply c.in-Ok.ensures.entry is)
-
-pub returns-in-Err-clause-answered : goal.returns-in-Err-clause-answered
-returns-in-Err-clause-answered g t c =
-    c.requires.answered
-    ∙ sym (replied_stopped c.args.plan.now c.args.journal.now.entries c.append.new.self.entries c.args.request.now c.in-Err.done c.in-Err.ensures.fault)
-
-pub returns-in-Ok-clause-stands : goal.returns-in-Ok-clause-stands
-returns-in-Ok-clause-stands g t c =
-    let P = c.args.plan.now in let q = c.args.request.now in let es = c.args.journal.now.entries in let need = c.requires in
-    let told = told_after P (replay P es) q (legal_state P es need.legal) need.place.has c.in-Over.reply c.args.ops.now.elements (part_in c.args.records.now)
-    (rw c.in-Over.is at need.midway) in
-    rw c.in-Ok.is at (stands_after P q es need.place.has need.legal need.faultless c.append.new.self.entries c.args.records.now need.of c.append.result c.append.ensures.entry told)
-
-pub returns-in-Err-clause-undone : goal.returns-in-Err-clause-undone
-returns-in-Err-clause-undone g t c =
-    let need = c.requires in
-    rw c.in-Err.is at (undone_after c.args.plan.now c.args.request.now c.args.journal.now.entries need.place.has need.legal need.faultless c.append.new.self.entries
-    c.args.records.now need.of c.append.result c.append.ensures.fault)
+pub enter-requires-clause-midway : goal.enter-requires-clause-midway
+enter-requires-clause-midway g t c = rw c.in-Over.is at c.requires.midway
