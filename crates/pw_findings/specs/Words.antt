@@ -48,6 +48,8 @@ use Rattle.pw_findings.specs.declared.finding.Unused.{Unused}
 use Rattle.pw_findings.specs.declared.finding.Unused.TheVariants as unused
 use Rattle.pw_findings.specs.declared.putting.Word.{Word}
 use Rattle.pw_findings.specs.declared.putting.Word.TheVariants as words
+use Rattle.pw_findings.specs.declared.words.Name.{Name}
+use Rattle.pw_findings.specs.declared.words.Name.TheVariants as names
 
 -- # Words for what has a number or a name in tables
 
@@ -161,27 +163,31 @@ unused_words (unused.Skipped term) = unread_words term
 
 -- # Lines
 
+-- a word that is one of a few texts
+abbrev pub name_text : Name → List ℕ
+name_text (names.States kind) = states_word kind
+name_text (names.Control kind) = control_word kind
+name_text (names.Limit kind) = limit_word kind
+name_text (names.Domains kind) = domain_word kind
+name_text (names.Coord coord) = coord_word coord
+name_text (names.Why why) = why_words why
+name_text (names.Bounded which) = bounded_words which
+name_text (names.Level place) = level_words place
+name_text (names.Unused why) = unused_words why
+
 -- the text of a word
 abbrev pub word_text : Word → List ℕ
 word_text (words.Text text) = text.now
 word_text (words.Number number) = decimal number
 word_text (words.Byte number) = decimal number
 word_text (words.Count count) = decimal count
+word_text (words.Long number) = decimal number
 word_text (words.Path path) = place_text path.now.segs
-word_text (words.States kind) = states_word kind
+word_text (words.Place place) = place_words place
 word_text (words.State kind state) = state_words kind state
 word_text (words.Rate kind rate) = pace_words kind rate
-word_text (words.Control kind) = control_word kind
-word_text (words.Limit kind) = limit_word kind
-word_text (words.Domains kind) = domain_word kind
 word_text (words.Domain id) = domain_words id
-word_text (words.Coord coord) = coord_word coord
-word_text (words.Place place) = place_words place
-word_text (words.Why why) = why_words why
-word_text (words.Bounded which) = bounded_words which
-word_text (words.Long number) = decimal number
-word_text (words.Level place) = level_words place
-word_text (words.Unused why) = unused_words why
+word_text (words.Name name) = name_text name
 
 -- each behind a space
 abbrev pub behind : List (List ℕ) → List ℕ

@@ -52,5 +52,6 @@ pub fn add_when(
     if holds {
         return add(alloc, path, kind, found);
     }
+    drop(kind);
     Ok(())
 }

@@ -5,12 +5,9 @@ ghost use Rattle.pw_findings.specs.declared.finding.Shared.TheVariants.{States};
 ghost use Rattle.pw_findings.specs.Words.{domain_words, number_words, pace_words, place_words};
 ghost use Rattle.pw_findings.specs.Words.{shared_words, state_words, word_text};
 
-use crate::finding::{DomainId, Shared, Unused};
-use crate::words::{
-    bounded_name, control_name, coord_name, domain_name, level_name, limit_name, states_name,
-    unit_name, unused_name, why_name,
-};
-use acpi_values::{Coord, Place, Why};
+use crate::finding::{DomainId, Shared};
+use crate::words::{Name, states_name, text_of, unit_name};
+use acpi_values::Place;
 use aml_data::FullPath;
 use pw_base::{Failed, Sink};
 use pw_plan::DomainKind;
@@ -23,31 +20,15 @@ pub(crate) enum Word<'a> {
     Number(u32),
     Byte(u8),
     Count(usize),
+    Long(u64),
     Path(&'a FullPath),
-    /// What states are of.
-    States(DomainKind),
-    /// One of them, by its number.
+    Place(Place),
+    /// A state, by its number.
     State(DomainKind, usize),
     /// How fast one is.
     Rate(DomainKind, u32),
-    /// The name of their control registers.
-    Control(DomainKind),
-    /// The name of their limit at the start.
-    Limit(DomainKind),
-    /// The name by which their domains are declared.
-    Domains(DomainKind),
-    /// One of these.
     Domain(DomainId),
-    Coord(Coord),
-    Place(Place),
-    Why(Why),
-    /// What the limit of this number bounds, and at how many.
-    Bounded(u8),
-    Long(u64),
-    /// A level of performance, by its place in `_CPC`.
-    Level(usize),
-    /// Why an object isn't used, with its code.
-    Unused(Unused),
+    Name(Name),
 }
 
 /// Puts a number behind a text.
@@ -169,21 +150,13 @@ fn put_text<K: Sink>(page: &mut Page, sink: &mut K, word: &Word) -> Result<(), F
         Word::Number(number) => put_number(page, sink, u64::from(number)),
         Word::Byte(number) => put_number(page, sink, u64::from(number)),
         Word::Count(count) => put_number(page, sink, count as u64),
+        Word::Long(number) => put_number(page, sink, number),
         Word::Path(path) => put_place(page, sink, path.segs.as_slice()),
-        Word::States(kind) => page.put(sink, states_name(kind)),
+        Word::Place(at) => put_inner_place(page, sink, at),
         Word::State(kind, state) => put_state(page, sink, kind, state),
         Word::Rate(kind, rate) => put_rate(page, sink, kind, rate),
-        Word::Control(kind) => page.put(sink, control_name(kind)),
-        Word::Limit(kind) => page.put(sink, limit_name(kind)),
-        Word::Domains(kind) => page.put(sink, domain_name(kind)),
         Word::Domain(domain) => put_domain(page, sink, domain),
-        Word::Coord(coord) => page.put(sink, coord_name(coord)),
-        Word::Place(at) => put_inner_place(page, sink, at),
-        Word::Why(why) => page.put(sink, why_name(why)),
-        Word::Bounded(which) => page.put(sink, bounded_name(which)),
-        Word::Long(number) => put_number(page, sink, number),
-        Word::Level(place) => page.put(sink, level_name(place)),
-        Word::Unused(why) => page.put(sink, unused_name(why)),
+        Word::Name(name) => page.put(sink, text_of(name)),
     }
 }
 

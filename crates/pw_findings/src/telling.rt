@@ -10,6 +10,7 @@ use crate::finding::{FindingKind, OfCpc, OfCst, OfDevice, OfEntry, OfIdle, OfObj
 use crate::putting::{Word, put_words};
 use crate::telling_domains::{put_declared, put_member};
 use crate::telling_states::{put_control, put_limit, put_rate, put_scale};
+use crate::words::Name;
 use aml_data::FullPath;
 use pw_base::{Failed, Sink};
 use pw_text::Page;
@@ -26,7 +27,7 @@ fn put_object<K: Sink>(page: &mut Page, sink: &mut K, amiss: &OfObject) -> Resul
             &[
                 Word::Text(b"W-OBJECT"),
                 Word::Place(*place),
-                Word::Why(*why),
+                Word::Name(Name::Why(*why)),
             ],
         ),
         OfObject::PastLimit { which, number } => put_words(
@@ -35,10 +36,10 @@ fn put_object<K: Sink>(page: &mut Page, sink: &mut K, amiss: &OfObject) -> Resul
             &[
                 Word::Text(b"U-LARGE has"),
                 Word::Number(*number),
-                Word::Bounded(*which),
+                Word::Name(Name::Bounded(*which)),
             ],
         ),
-        OfObject::Unused(why) => put_words(page, sink, &[Word::Unused(*why)]),
+        OfObject::Unused(why) => put_words(page, sink, &[Word::Name(Name::Unused(*why))]),
     }
 }
 
@@ -335,10 +336,10 @@ fn put_cpc<K: Sink>(page: &mut Page, sink: &mut K, amiss: &OfCpc) -> Result<(), 
             sink,
             &[
                 Word::Text(b"W-CPC-ORDER has"),
-                Word::Level(*lower),
+                Word::Name(Name::Level(*lower)),
                 Word::Long(*there),
                 Word::Text(b"above"),
-                Word::Level(*upper),
+                Word::Name(Name::Level(*upper)),
                 Word::Long(*number),
             ],
         ),

@@ -7,6 +7,7 @@ ghost use Rattle.pw_findings.specs.Words.{behind, declared_words, member_words};
 
 use crate::finding::{DomainId, OfDomain, OfMember};
 use crate::putting::{Word, put_words};
+use crate::words::Name;
 use acpi_values::Coord;
 use aml_data::FullPath;
 use pw_base::{Failed, Sink};
@@ -26,13 +27,13 @@ fn put_other_type<K: Sink>(
 {
     let words = [
         Word::Text(b"W-DOMAIN-TYPE declares"),
-        Word::Coord(coord),
+        Word::Name(Name::Coord(coord)),
         Word::Text(b"for"),
         Word::Domain(id),
         Word::Text(b"and"),
         Word::Path(other),
         Word::Text(b"declares"),
-        Word::Coord(there),
+        Word::Name(Name::Coord(there)),
     ];
     put_words(page, sink, &words)
 }

@@ -6,6 +6,7 @@ ghost use Rattle.pw_findings.specs.Words.{behind, control_words, limit_words, ra
 
 use crate::finding::{OfControl, OfLimit, OfRate, OfScale, Repeat};
 use crate::putting::{Word, put_words};
+use crate::words::Name;
 use pw_base::{Failed, Sink};
 use pw_plan::DomainKind;
 use pw_text::Page;
@@ -47,7 +48,7 @@ pub(crate) fn put_scale<K: Sink>(
             sink,
             &[
                 Word::Text(b"U-STATES-ONE has one"),
-                Word::States(kind),
+                Word::Name(Name::States(kind)),
                 Word::Text(b"state alone"),
             ],
         ),
@@ -56,9 +57,9 @@ pub(crate) fn put_scale<K: Sink>(
             sink,
             &[
                 Word::Text(b"U-DOMAIN-NONE has"),
-                Word::States(kind),
+                Word::Name(Name::States(kind)),
                 Word::Text(b"states and no"),
-                Word::Domains(kind),
+                Word::Name(Name::Domains(kind)),
                 Word::Text(b"while one stands at"),
                 Word::Path(other),
             ],
@@ -145,9 +146,9 @@ pub(crate) fn put_limit<K: Sink>(
             &[
                 Word::Text(b"W-LIMIT-PAST has"),
                 Word::Count(*count),
-                Word::States(kind),
+                Word::Name(Name::States(kind)),
                 Word::Text(b"states, and"),
-                Word::Limit(kind),
+                Word::Name(Name::Limit(kind)),
                 Word::Text(b"is"),
                 Word::Number(*limit),
             ],
@@ -157,7 +158,7 @@ pub(crate) fn put_limit<K: Sink>(
             sink,
             &[
                 Word::Text(b"U-LIMIT-START may not use"),
-                Word::States(kind),
+                Word::Name(Name::States(kind)),
                 Word::Text(b"states before state"),
                 Word::Number(*limit),
                 Word::Text(b"at the start"),
@@ -168,9 +169,9 @@ pub(crate) fn put_limit<K: Sink>(
             sink,
             &[
                 Word::Text(b"U-LIMIT-NONE has"),
-                Word::States(kind),
+                Word::Name(Name::States(kind)),
                 Word::Text(b"states and no"),
-                Word::Limit(kind),
+                Word::Name(Name::Limit(kind)),
             ],
         ),
     }
@@ -189,7 +190,7 @@ fn put_wide<K: Sink>(
 {
     let words = [
         Word::Text(b"W-REGISTER-WIDTH has in"),
-        Word::Control(kind),
+        Word::Name(Name::Control(kind)),
         Word::Text(b"a control register of"),
         Word::Number(end),
         Word::Text(b"bits with its offset, where an access takes"),
@@ -214,9 +215,9 @@ pub(crate) fn put_control<K: Sink>(
             sink,
             &[
                 Word::Text(b"W-STATES-REGISTER has"),
-                Word::States(kind),
+                Word::Name(Name::States(kind)),
                 Word::Text(b"states and no control register in"),
-                Word::Control(kind),
+                Word::Name(Name::Control(kind)),
             ],
         ),
         OfControl::Shared => put_words(
@@ -224,7 +225,7 @@ pub(crate) fn put_control<K: Sink>(
             sink,
             &[
                 Word::Text(b"U-REGISTER-SHARED has the control register of performance states in"),
-                Word::Control(kind),
+                Word::Name(Name::Control(kind)),
                 Word::Text(b"too"),
             ],
         ),
@@ -233,7 +234,7 @@ pub(crate) fn put_control<K: Sink>(
             sink,
             &[
                 Word::Text(b"U-REGISTER-SPACES has in"),
-                Word::Control(kind),
+                Word::Name(Name::Control(kind)),
                 Word::Text(b"a control register in space"),
                 Word::Byte(*control),
                 Word::Text(b"and a status register in space"),

@@ -1,7 +1,7 @@
 ghost use Rattle.std.specs.Prelude.{◌≡◌};
 ghost use Rattle.pw_findings.specs.Words.{bounded_words, control_word, coord_word, domain_word, limit_word};
 ghost use Rattle.pw_findings.specs.Words.{level_words, states_word, unit_word, unread_words, unused_words};
-ghost use Rattle.pw_findings.specs.Words.{why_words};
+ghost use Rattle.pw_findings.specs.Words.{name_text, why_words};
 
 use crate::finding::{Unread, Unused};
 use acpi_values::{Coord, Why};
@@ -30,7 +30,7 @@ pub(crate) fn unit_name(kind: DomainKind) -> &'static [u8]
 }
 
 /// The object of their control registers.
-pub(crate) fn control_name(kind: DomainKind) -> &'static [u8]
+fn control_name(kind: DomainKind) -> &'static [u8]
     ensures { result.now ≡ control_word kind }
 {
     match kind {
@@ -41,7 +41,7 @@ pub(crate) fn control_name(kind: DomainKind) -> &'static [u8]
 }
 
 /// The object of their limit at the start.
-pub(crate) fn limit_name(kind: DomainKind) -> &'static [u8]
+fn limit_name(kind: DomainKind) -> &'static [u8]
     ensures { result.now ≡ limit_word kind }
 {
     match kind {
@@ -52,7 +52,7 @@ pub(crate) fn limit_name(kind: DomainKind) -> &'static [u8]
 }
 
 /// The object that declares their domain.
-pub(crate) fn domain_name(kind: DomainKind) -> &'static [u8]
+fn domain_name(kind: DomainKind) -> &'static [u8]
     ensures { result.now ≡ domain_word kind }
 {
     match kind {
@@ -63,7 +63,7 @@ pub(crate) fn domain_name(kind: DomainKind) -> &'static [u8]
 }
 
 /// A coordination type.
-pub(crate) fn coord_name(coord: Coord) -> &'static [u8]
+fn coord_name(coord: Coord) -> &'static [u8]
     ensures { result.now ≡ coord_word coord }
 {
     match coord {
@@ -74,7 +74,7 @@ pub(crate) fn coord_name(coord: Coord) -> &'static [u8]
 }
 
 /// Why an object means nothing.
-pub(crate) fn why_name(why: Why) -> &'static [u8]
+fn why_name(why: Why) -> &'static [u8]
     ensures { result.now ≡ why_words why }
 {
     match why {
@@ -87,7 +87,7 @@ pub(crate) fn why_name(why: Why) -> &'static [u8]
 }
 
 /// What the limit of this number bounds, and at how many.
-pub(crate) fn bounded_name(which: u8) -> &'static [u8]
+fn bounded_name(which: u8) -> &'static [u8]
     ensures { result.now ≡ bounded_words which }
 {
     match which {
@@ -100,7 +100,7 @@ pub(crate) fn bounded_name(which: u8) -> &'static [u8]
 }
 
 /// A level of performance, by its place in `_CPC` behind the first two elements.
-pub(crate) fn level_name(place: usize) -> &'static [u8]
+fn level_name(place: usize) -> &'static [u8]
     ensures { result.now ≡ level_words place }
 {
     match place {
@@ -129,7 +129,7 @@ fn unread_name(term: Unread) -> &'static [u8]
 }
 
 /// The code of why an object isn't used, and what it says.
-pub(crate) fn unused_name(why: Unused) -> &'static [u8]
+fn unused_name(why: Unused) -> &'static [u8]
     ensures { result.now ≡ unused_words why }
 {
     match why {
@@ -146,5 +146,43 @@ pub(crate) fn unused_name(why: Unused) -> &'static [u8]
             DomainKind::Idle => b"U-STATES-NONE stands without a _CST: it isn't used",
         },
         Unused::Skipped(term) => unread_name(term),
+    }
+}
+
+/// A word that is one of a few texts.
+#[derive(Clone, Copy)]
+pub(crate) enum Name {
+    /// What states are of.
+    States(DomainKind),
+    /// The name of their control registers.
+    Control(DomainKind),
+    /// The name of their limit at the start.
+    Limit(DomainKind),
+    /// The name by which their domains are declared.
+    Domains(DomainKind),
+    Coord(Coord),
+    Why(Why),
+    /// What the limit of this number bounds, and at how many.
+    Bounded(u8),
+    /// A level of performance, by its place in `_CPC`.
+    Level(usize),
+    /// Why an object isn't used, with its code.
+    Unused(Unused),
+}
+
+/// Its text.
+pub(crate) fn text_of(name: Name) -> &'static [u8]
+    ensures { result.now ≡ name_text name }
+{
+    match name {
+        Name::States(kind) => states_name(kind),
+        Name::Control(kind) => control_name(kind),
+        Name::Limit(kind) => limit_name(kind),
+        Name::Domains(kind) => domain_name(kind),
+        Name::Coord(coord) => coord_name(coord),
+        Name::Why(why) => why_name(why),
+        Name::Bounded(which) => bounded_name(which),
+        Name::Level(place) => level_name(place),
+        Name::Unused(why) => unused_name(why),
     }
 }
