@@ -1,3 +1,4 @@
+pub mod Apart
 pub mod Placed
 pub mod Kept
 pub mod Members

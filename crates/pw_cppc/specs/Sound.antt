@@ -1,5 +1,5 @@
 -- When lists are the plan of processors that are steered by desired performance, and what then holds of them.
-use Rattle.std.specs.Prelude.{◌≡◌, ◌<◌, ◌≤◌, ℕ, Bool, true, List, [], map, length, slice_index_or, is_some, Option, All}
+use Rattle.std.specs.Prelude.{◌≡◌, ◌≢◌, ◌<◌, ◌≤◌, ℕ, Bool, true, List, [], map, length, slice_index_or, is_some, Option, All}
 use Rattle.std.specs.List.{position, position_or_len, range_with_len}
 use Rattle.acpi_values.specs.declared.dependency.Coord.TheVariants.{HwAll}
 use Rattle.aml_data.specs.declared.path.FullPath.{FullPath}
@@ -9,6 +9,16 @@ use Rattle.pw_cppc.specs.declared.parts.CppcParts.{CppcParts}
 use Rattle.pw_cppc.specs.declared.plan.CppcDomain.{CppcDomain}
 use Rattle.pw_cppc.specs.Parts.{parts_in, has_cpc, is_ranged, register_of}
 use Rattle.pw_cppc.specs.Domains.{domains_of, same_range}
+
+unfoldable pub no_path : FullPath
+no_path = record { segs = [] }
+
+abbrev pub path_in : List FullPath → ℕ → FullPath
+path_in paths p = slice_index_or paths p no_path
+
+-- no two of the paths are the same
+abbrev pub PathsDiffer : List FullPath → Type 0
+PathsDiffer paths = (p q : ℕ) → p < q → q < length paths → path_in paths p ≢ path_in paths q
 
 unfoldable pub no_domain : CppcDomain
 no_domain = record { coord = HwAll; members = []; unfit = 0 }
@@ -24,9 +34,10 @@ covers p d = has_member d.members p
 abbrev pub places_of : List CppcDomain → ℕ → List (Option ℕ)
 places_of ds count = map (λ p. position (covers p) ds) (range_with_len 0 count)
 
--- It is the plan of these processors: a path for each, at most 256 of them, their domains, and where each stands.
+-- It is the plan of these processors: a path of its own for each, at most 256 of them, their domains, and where each stands.
 pub record IsPlanOf (paths : List FullPath) (ps : List CppcParts) (ds : List CppcDomain) (places : List (Option ℕ)) : Type 0 where
   pub paths_are : length paths ≡ length ps
+  pub paths_differ : PathsDiffer paths
   pub few : length ps ≤ 256
   pub domains_are : ds ≡ domains_of ps
   pub places_are : places ≡ places_of ds (length ps)

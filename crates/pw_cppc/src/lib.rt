@@ -12,6 +12,7 @@ mod laws;
 mod numbers;
 mod opening;
 mod parts;
+mod paths;
 mod plan;
 mod planning;
 mod reading;
@@ -33,6 +34,7 @@ pub use laws::{control_registers_are_not_null, domains_have_reasons, domains_hol
 pub use numbers::CppcNumbers;
 pub use opening::open_all;
 pub use parts::{Control, CppcParts};
+pub use paths::paths_differ;
 pub use plan::{CppcDomain, CppcPlan};
 pub use planning::cppc_plan;
 pub use reading::cppc_parts;

@@ -1,4 +1,4 @@
-ghost use Rattle.pw_cppc.specs.Sound.{IsPlanOf, IsSound};
+ghost use Rattle.pw_cppc.specs.Sound.{IsPlanOf, IsSound, PathsDiffer};
 
 use crate::bounds::{bounds_of, opened_by, set_count};
 use crate::domains::{domains_of, places_of};
@@ -42,13 +42,14 @@ impl CppcPlan {
     ghost use Rattle.pw_cppc.specs.Planning.{domain_at, domain_of, parts_at};
     ghost use Rattle.pw_cppc.specs.Requests.{Has, opening_bound, opening_count, ops_bound};
 
-    /// The plan of these processors, whose paths these are.
+    /// The plan of these processors, whose paths these are, no two the same.
     pub fn new(
         alloc: Global,
         paths: Vec<FullPath>,
         cpus: Vec<CppcParts>,
     ) -> Result<CppcPlan, Memory>
         requires paths { length paths.items ≡ length cpus.items }
+        requires differ { PathsDiffer paths.items }
         requires few { length cpus.items ≤ 256 }
         ensures paths { IfOk result (λ plan. plan.paths ≡ paths.items) }
         ensures cpus { IfOk result (λ plan. plan.cpus ≡ cpus.items) }

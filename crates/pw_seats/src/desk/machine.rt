@@ -1,7 +1,7 @@
 use acpi_values::{Coord, Cpc, CpcEntry, Dependency, Register};
-use aml_data::FullPath;
+use aml_data::{FullPath, Seg};
 use pw_base::List;
-use pw_cppc::{CppcParts, CppcPlan};
+use pw_cppc::{CppcParts, CppcPlan, paths_differ};
 use pw_machines::{number_at, u32_at, word_at};
 use std::alloc::Global;
 
@@ -62,18 +62,27 @@ fn parts_of(alloc: Global, line: &str) -> Option<CppcParts> {
     })
 }
 
-/// The plan of the processors that lines give, each without a name.
+/// A path of one segment, which is another for each number below 676.
+fn path_of(alloc: Global, number: usize) -> Option<FullPath> {
+    let high = b'A' + (number / 26 % 26) as u8;
+    let low = b'A' + (number % 26) as u8;
+    let seg = Seg::new([b'C', high, low, b'_'])?;
+    Some(FullPath {
+        segs: List::from_vec(Vec::from_slice(alloc, &[seg]).ok()?),
+    })
+}
+
+/// The plan of the processors that lines give, which are named by their numbers.
 pub(crate) fn plan_of(alloc: Global, lines: &str) -> Option<CppcPlan> {
     let mut paths = Vec::new(alloc);
     let mut cpus = Vec::new(alloc);
     for line in lines.lines() {
         if line.starts_with("cpu ") {
-            let root = List::from_vec(Vec::new(alloc));
-            paths.push(FullPath { segs: root }).ok()?;
+            paths.push(path_of(alloc, paths.len())?).ok()?;
             cpus.push(parts_of(alloc, line)?).ok()?;
         }
     }
-    if cpus.len() > 256 || paths.len() != cpus.len() {
+    if cpus.len() > 256 || paths.len() != cpus.len() || !paths_differ(paths.as_slice()) {
         return None;
     }
     CppcPlan::new(alloc, paths, cpus).ok()

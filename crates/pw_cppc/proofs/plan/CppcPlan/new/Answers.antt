@@ -13,6 +13,7 @@ planned c =
     let places : c.in_ok-places.places ≡ places_of c.in_ok-domains.domains (length c.args.cpus.items) = rw (c.as_slice-2.ensures, c.len.ensures, ← size) at c.in_ok-places.ensures in
     rw (c.from_vec-paths.ensures, c.from_vec-cpus.ensures) (record {
       paths_are = c.requires.paths;
+      paths_differ = c.requires.differ;
       few = c.requires.few;
       domains_are = domains_are c;
       places_are = places;
