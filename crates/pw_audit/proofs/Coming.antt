@@ -5,7 +5,7 @@ use Rattle.std.proofs.lemmas.List.{length-append, map-append}
 use Rattle.pw_plan.specs.declared.plan.Plan.{Plan}
 use Rattle.pw_plan.specs.declared.request.Request.{Request}
 use Rattle.pw_kind.specs.History as histories
-use Rattle.pw_kind.proofs.Joining.{last_before}
+use Rattle.pw_kind.proofs.Joining.{each_last, last_before}
 use Rattle.pw_model.specs.declared.entry.HistoryEntry.{HistoryEntry}
 use Rattle.pw_model.specs.States.{opening}
 use Rattle.pw_model.specs.History.{Faultless, IsEntry, entry_ops, power, replay}
@@ -13,16 +13,16 @@ use Rattle.pw_model.proofs.Joining.{legal-first}
 use Rattle.pw_notice.specs.Limits.{own, requests}
 use Rattle.pw_script.specs.Asking.{CanBeAsked}
 use Rattle.pw_script.specs.Completing.{IsStart}
+use Rattle.pw_script.specs.HistoryText.{power_words}
 use Rattle.pw_script.specs.Lawful.{Begins, IsRunOf, Lawful}
 use Rattle.pw_script.specs.Telling.{HasSegments, IsNarrow, unseated}
 use Rattle.pw_script.specs.Wholes.{entry_line}
-use Rattle.pw_script.proofs.Alike.{legal-alike, requests-alike}
-use Rattle.pw_script.proofs.Completions.{first-begins}
-use Rattle.pw_script.proofs.Determined.{head_of, tail_of}
-use Rattle.pw_script.proofs.Ends.{run-alike}
-use Rattle.pw_script.proofs.Firsts.{each_rest}
-use Rattle.pw_script.proofs.Narrow.{lawful-opening, run-narrow, start-narrow}
+use Rattle.pw_history.proofs.Alike.{legal-alike, requests-alike, run-alike}
+use Rattle.pw_history.proofs.Completions.{first-begins}
+use Rattle.pw_history.proofs.Determined.{head_of, tail_of}
+use Rattle.pw_history.proofs.Narrow.{lawful-opening, run-start, start-narrow}
 use Rattle.pw_script.proofs.Readers.{entry-same}
+use Rattle.pw_script.proofs.Told.{power_fits, power_numbers}
 use Rattle.pw_audit.specs.declared.form.Form.{Form}
 use Rattle.pw_audit.specs.declared.form.Form.TheVariants.{Trace}
 use Rattle.pw_audit.specs.Traces.{Opens, Tells, TellsOps}
@@ -49,19 +49,20 @@ module _ (form : Form) (P : Plan) (tell : HasSegments P) (L : List Request) (are
     unfolding histories.replay
     after Z free o es other Y lawful opens_o tells_o same =
         let whole : other ++ Y ≡ first ++ (told ++ Z) = same ∙ append_assoc first told Z in
-        let none : None ≡ o = same_opening P tell form None o first other opens opens_o tt (lawful-opening P L o es lawful) (told ++ Z) Y whole in
+        let none : None ≡ o = same_opening P tell form None o first other opens opens_o tt (lawful-opening (power_fits P) (power_numbers P) L o es lawful) (told ++ Z) Y whole in
         let run : IsRunOf P L es = subst (λ (x : Option ℕ). Lawful P L x es) (sym none) lawful in
         let opens_none : Opens form P None other = subst (λ (x : Option ℕ). Opens form P x other) (sym none) opens_o in
         let rest : Y ≡ told ++ Z = behind_opened P tell form first other opens opens_none (told ++ Z) Y free (told_not_first P tell form es (opening P) 1 Y tells_o) whole in
-        let narrow = run-narrow P L es are.narrow run in
-        let f = follows P tell form H es (opening P) 1 told Z Y start.legal.well_formed.entries run.legal.well_formed.entries (start-narrow P L H are.narrow start) narrow tells tells_o rest in
+        let narrow = start-narrow (power_fits P) (power_numbers P) L es are.narrow (run-start power_words P L es run) in
+        let f = follows P tell form H es (opening P) 1 told Z Y start.legal.well_formed.entries run.legal.well_formed.entries
+        (start-narrow (power_fits P) (power_numbers P) L H are.narrow start) narrow tells tells_o rest in
         record {
           before = f.before;
           later = f.later;
           alike = f.alike;
           run = subst (IsRunOf P L) f.split run;
-          are_entries = each_rest (IsEntry P) f.before f.later (subst (AllByRecursion (IsEntry P)) f.split run.legal.well_formed.entries);
-          narrow = each_rest IsNarrow f.before f.later (subst (AllByRecursion IsNarrow) f.split narrow);
+          are_entries = each_last (IsEntry P) f.before f.later (subst (AllByRecursion (IsEntry P)) f.split run.legal.well_formed.entries);
+          narrow = each_last IsNarrow f.before f.later (subst (AllByRecursion IsNarrow) f.split narrow);
           rest = f.rest;
         }
 
@@ -81,12 +82,12 @@ module _ (form : Form) (P : Plan) (tell : HasSegments P) (L : List Request) (are
             let run_of : IsRunOf P L ((before ++ e ∷ []) ++ later) = subst (IsRunOf P L) (sym (append_assoc before (e ∷ []) later)) run in
             let like : map unseated (before ++ e ∷ []) ≡ map unseated (H ++ e ∷ []) =
             map-append unseated before (e ∷ []) ∙ ap (λ (x : List HistoryEntry). x ++ unseated e ∷ []) alike ∙ sym (map-append unseated H (e ∷ [])) in
-            let same_requests : requests (before ++ e ∷ []) ≡ requests (H ++ e ∷ []) = requests-alike (before ++ e ∷ []) (H ++ e ∷ []) like in
+            let same_requests : requests (before ++ e ∷ []) ≡ requests (H ++ e ∷ []) = requests-alike (power_fits P) (before ++ e ∷ []) (H ++ e ∷ []) like in
             record {
               entry = e;
               starts = record {
-                legal = legal-alike P (before ++ e ∷ []) (H ++ e ∷ []) like (legal-first P (before ++ e ∷ []) later run_of.legal);
-                begins = λ p lt. subst (λ (q : List Request). Begins (own p q) (own p L)) same_requests (first-begins P L (before ++ e ∷ []) later run_of p lt);
+                legal = legal-alike (power_fits P) (before ++ e ∷ []) (H ++ e ∷ []) like (legal-first P (before ++ e ∷ []) later run_of.legal);
+                begins = λ p lt. subst (λ (q : List Request). Begins (own p q) (own p L)) same_requests (first-begins power_words P L (before ++ e ∷ []) later run_of p lt);
               };
               line = ap (λ (ls : List (List ℕ)). head_of ls) rest.is;
             }
@@ -100,7 +101,7 @@ module _ (form : Form) (P : Plan) (tell : HasSegments P) (L : List Request) (are
     ended a = step a.before a.later a.alike a.run a.rest
       where
         step : (before later : List HistoryEntry) → map unseated before ≡ map unseated H → IsRunOf P L (before ++ later) → Tells form P (replay P H) (1 + length H) later [] → IsRunOf P L H
-        step before [] alike run rest = run-alike P L before H alike (subst (IsRunOf P L) (append-nil before) run)
+        step before [] alike run rest = run-alike (power_fits P) L before H alike (subst (IsRunOf P L) (append-nil before) run)
         step before (e ∷ later) alike run rest = absurd (nothing (sym rest.is))
 
     -- # Within an entry
@@ -108,8 +109,8 @@ module _ (form : Form) (P : Plan) (tell : HasSegments P) (L : List Request) (are
     module _ (e : HistoryEntry) (goes : IsStart P L (H ++ e ∷ [])) where
       like : (f : HistoryEntry) → IsEntry P f → IsNarrow f → entry_line P (replay P H) (1 + length H) e ≡ entry_line P (replay P H) (1 + length H) f → unseated e ≡ unseated f
       like f is_f narrow_f same =
-          let is_e = (each_rest (IsEntry P) H (e ∷ []) goes.legal.well_formed.entries).0 in
-          let narrow_e = (each_rest IsNarrow H (e ∷ []) (start-narrow P L (H ++ e ∷ []) are.narrow goes)).0 in
+          let is_e = (each_last (IsEntry P) H (e ∷ []) goes.legal.well_formed.entries).0 in
+          let narrow_e = (each_last IsNarrow H (e ∷ []) (start-narrow (power_fits P) (power_numbers P) L (H ++ e ∷ []) are.narrow goes)).0 in
           entry-same P tell (replay P H) (1 + length H) e f is_e is_f narrow_e narrow_f same
 
       pub free_within : (zs : List (List ℕ)) → NotFirst P tell (told ++ entry_line P (replay P H) (1 + length H) e ∷ zs)

@@ -8,17 +8,18 @@ use Rattle.pw_plan.specs.declared.plan.Plan.{Plan}
 use Rattle.pw_plan.specs.declared.request.Request.{Request}
 use Rattle.pw_plan.specs.Requests.{cpu_of}
 use Rattle.pw_plan.proofs.Lists.{each_append}
+use Rattle.pw_kind.proofs.Joining.{each_last}
 use Rattle.pw_model.specs.declared.entry.HistoryEntry.{HistoryEntry}
 use Rattle.pw_model.specs.History.{Faultless, after_entry, replay, request_of}
 use Rattle.pw_model.specs.Operations.{opening_ops}
 use Rattle.pw_model.proofs.Joining.{legal-empty, legal-follows, legal-more, replay-append}
 use Rattle.pw_model.proofs.Staying.{request_cpu}
 use Rattle.pw_notice.specs.Limits.{own, requests}
-use Rattle.pw_script.specs.HistoryText.{op_line, opening_lines}
+use Rattle.pw_script.specs.HistoryText.{op_line, opening_lines, power_words}
 use Rattle.pw_script.specs.Lawful.{Begins}
 use Rattle.pw_script.specs.Completing.{IsStart}
 use Rattle.pw_script.specs.Wholes.{Starts}
-use Rattle.pw_script.proofs.Firsts.{each_rest, own-append}
+use Rattle.pw_history.proofs.Firsts.{own-append}
 use Rattle.pw_audit.specs.inner.Queues.{EachOwn, Leaves, Takes, left_of}
 use Rattle.pw_audit.specs.inner.Stopping.{MayCome, WithinOpening}
 
@@ -60,10 +61,10 @@ module _ (P : Plan) where
           step false t = refl
 
       own_same : (e : HistoryEntry) (p : ℕ) → e.cpu ≡ p → own p (requests (H ++ e ∷ [])) ≡ own p (requests H) ++ request_of e ∷ []
-      own_same e p same = own-append p H (e ∷ []) ∙ ap (λ (l : List Request). own p (requests H) ++ l) (one_own e p same)
+      own_same e p same = own-append power_words p H (e ∷ []) ∙ ap (λ (l : List Request). own p (requests H) ++ l) (one_own e p same)
 
       own_other : (e : HistoryEntry) (p : ℕ) → e.cpu ≢ p → own p (requests (H ++ e ∷ [])) ≡ own p (requests H)
-      own_other e p ne = own-append p H (e ∷ []) ∙ ap (λ (l : List Request). own p (requests H) ++ l) (none_own e p ne) ∙ append-nil (own p (requests H))
+      own_other e p ne = own-append power_words p H (e ∷ []) ∙ ap (λ (l : List Request). own p (requests H) ++ l) (none_own e p ne) ∙ append-nil (own p (requests H))
 
       pub goes_on : (e : HistoryEntry) → MayCome P (replay P H) queues e → IsStart P L (H ++ e ∷ [])
       goes_on e may = record {
@@ -127,6 +128,6 @@ own_cpus p (q ∷ qs) = step (cpu_of q == p) refl (own_cpus p qs)
 
 pub leaves_own : (P : Plan) (L : List Request) (H : List HistoryEntry) (queues : List (List Request)) → Leaves P L H queues → EachOwn queues
 leaves_own P L H queues leaves p = elim (cases_lt p (length queues)) [
-  | inl lt ↦ each_rest (λ q. cpu_of q ≡ p) (own p (requests H)) (left_of queues p) (subst (AllByRecursion (λ q. cpu_of q ≡ p)) (leaves.each p (omega (arith, leaves.size))) (own_cpus p L))
+  | inl lt ↦ each_last (λ q. cpu_of q ≡ p) (own p (requests H)) (left_of queues p) (subst (AllByRecursion (λ q. cpu_of q ≡ p)) (leaves.each p (omega (arith, leaves.size))) (own_cpus p L))
   | inr ge ↦ let past : left_of queues p ≡ [] = get_or_past queues p [] ge in subst (AllByRecursion (λ q. cpu_of q ≡ p)) (sym past) tt
 ]

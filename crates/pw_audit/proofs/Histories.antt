@@ -8,6 +8,7 @@ use Rattle.pw_model.specs.declared.state.State.{State}
 use Rattle.pw_model.specs.States.{opening}
 use Rattle.pw_model.specs.History.{after_entry, entry_ops}
 use Rattle.pw_text.specs.Lines.{text_of}
+use Rattle.pw_history.specs.HistoryText as texts
 use Rattle.pw_script.specs.HistoryText.{history_lines, history_text, lines_from, op_line, opening_lines}
 use Rattle.pw_script.specs.Wholes.{BeginsWhole, IsWhole, entry_line, pieces_of}
 use Rattle.pw_audit.specs.declared.answer.Audit.{Audit}
@@ -31,7 +32,7 @@ told_listed P (e ∷ es) S n ls t =
 
 module _ (P : Plan) where
   text_is : (o : Option ℕ) (es : List HistoryEntry) → history_text P o es ≡ text_of (opening_lines P o ++ lines_from P (opening P) 1 es)
-  unfolding history_text history_lines
+  unfolding texts.history_text texts.history_lines
   text_is o es = refl
 
   pub text_tells : (form : Form) (o : Option ℕ) (es : List HistoryEntry) (text : List ℕ) → text ≡ history_text P o es → TextTells form P o es text

@@ -6,7 +6,7 @@ use Rattle.acpi_values.specs.declared.operation.Op.{Op}
 use Rattle.pw_plan.specs.declared.plan.Plan.{Plan}
 use Rattle.pw_text.specs.Lines.{text_of, with_feed}
 use Rattle.pw_script.specs.HistoryText.{op_line}
-use Rattle.pw_script.proofs.Nexts.{taken as next_of}
+use Rattle.pw_history.proofs.Nexts.{taken as next_of}
 use Rattle.pw_audit.specs.declared.answer.AuditFault.{AuditFault}
 use Rattle.pw_audit.specs.declared.answer.AuditFault.TheVariants.{TooLong, Wrong, Unfinished, Memory}
 use Rattle.pw_audit.specs.declared.form.Form.TheVariants.{History}

@@ -10,12 +10,13 @@ use Rattle.pw_model.specs.Operations.{opening_ops}
 use Rattle.pw_text.specs.Lines.{text_of, with_feed}
 use Rattle.pw_text.specs.Openings.{opened, opening_line}
 use Rattle.pw_script.specs.Asking.{CanBeAsked}
-use Rattle.pw_script.specs.HistoryText.{op_line, opening_lines}
+use Rattle.pw_script.specs.HistoryText.{op_line, opening_lines, power_words}
 use Rattle.pw_script.specs.Lawful.{Begins, Lawful}
 use Rattle.pw_script.specs.Telling.{HasSegments, IsNarrowFault}
-use Rattle.pw_script.proofs.Determined.{head_of, heads-tell, tail_of}
-use Rattle.pw_script.proofs.Narrow.{lawful-opening, opening-narrow}
-use Rattle.pw_script.proofs.Nexts.{taken}
+use Rattle.pw_history.proofs.Determined.{head_of, heads-tell, tail_of}
+use Rattle.pw_history.proofs.Narrow.{lawful-opening, opening-narrow}
+use Rattle.pw_history.proofs.Nexts.{taken}
+use Rattle.pw_script.proofs.Told.{power_fits, power_numbers}
 use Rattle.pw_audit.specs.declared.answer.AuditFault.{AuditFault}
 use Rattle.pw_audit.specs.declared.answer.AuditFault.TheVariants.{TooLong, Wrong, Unfinished, Memory}
 use Rattle.pw_audit.specs.declared.form.Form.{Form}
@@ -95,7 +96,7 @@ long_line (b ∷ l) rest e = cc
 module _ (form : Form) (P : Plan) (tell : HasSegments P) (L : List Request) (are : CanBeAsked P L) where
   narrow_within : (o : Option ℕ) → WithinOpening (length (opening_ops P)) o → IsNarrowFault o
   narrow_within None w = tt
-  narrow_within (Some k) w = opening-narrow P k w
+  narrow_within (Some k) w = opening-narrow (power_fits P) (power_numbers P) k w
 
   listed_or : (f : Form) (o : Option ℕ) (first : List (List ℕ)) → Opens f P o first → (first ≡ opening_lines P o) ⊎ ((f ≡ Trace) × (o ≡ None) × (first ≡ codes "open" ∷ []))
   listed_or History o first is = inl is
@@ -136,7 +137,7 @@ module _ (form : Form) (P : Plan) (tell : HasSegments P) (L : List Request) (are
       (f : Option ℕ) (es : List HistoryEntry) (lawful : Lawful P L f es) (first Y : List (List ℕ)) (opens : Opens form P f first) (tells : Tells form P (opening P) 1 es Y) where
     same_here : (Z : List (List ℕ)) → first ++ Y ≡ opening_line o ∷ Z → o ≡ f
     same_here Z is =
-        heads-tell P tell o f (narrow_within o w) (lawful-opening P L f es lawful)
+        heads-tell power_words P o f (narrow_within o w) (lawful-opening (power_fits P) (power_numbers P) L f es lawful)
         (ap (λ (ls : List (List ℕ)). head_of ls) (opening_is P o) ∙ ap (λ (ls : List (List ℕ)). head_of ls) (sym is) ∙ head_opens P tell form f first opens Y)
 
     not_out : (os : List Op) → opening_ops P ≡ os → o ≡ None → 0 < k → (Z : List (List ℕ)) → Y ≡ take k (map (op_line P) os) ++ Z → k < length (map (op_line P) os) → ⊥
@@ -264,7 +265,8 @@ module _ (form : Form) (P : Plan) (tell : HasSegments P) (L : List Request) (are
       none : (f : Option ℕ) (es : List HistoryEntry) → Lawful P L f es → (other Y : List (List ℕ)) → Opens form P f other → Tells form P (opening P) 1 es Y → (l : List ℕ) (zs : List (List ℕ))
           → other ++ Y ≡ first ++ l ∷ zs → ⊥
       none f es lawful other Y opens_f tells l zs same =
-          let is_f : Some k ≡ f = same_opening P tell form (Some k) f first other opens opens_f (opening-narrow P k lt) (lawful-opening P L f es lawful) (l ∷ zs) Y same in
+          let is_f : Some k ≡ f = same_opening P tell form (Some k) f first other opens opens_f (opening-narrow (power_fits P) (power_numbers P) k lt)
+          (lawful-opening (power_fits P) (power_numbers P) L f es lawful) (l ∷ zs) Y same in
           let opens_k : Opens form P (Some k) other = subst (λ (x : Option ℕ). Opens form P x other) (sym is_f) opens_f in
           let no_entries : es ≡ [] = (subst (λ (x : Option ℕ). Lawful P L x es) (sym is_f) lawful).1 in
           let no_lines : Y ≡ [] = subst (λ (x : List HistoryEntry). Tells form P (opening P) 1 x Y) no_entries tells in

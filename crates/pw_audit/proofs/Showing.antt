@@ -7,6 +7,7 @@ use Rattle.std.proofs.lemmas.List.{append_cancel_right, length-append, length-ma
 use Rattle.pw_plan.specs.declared.plan.Plan.{Plan}
 use Rattle.pw_plan.specs.declared.request.Request.{Request}
 use Rattle.pw_plan.proofs.Lists.{each_append, each_map}
+use Rattle.pw_kind.proofs.Joining.{each_first, each_last}
 use Rattle.pw_model.specs.declared.entry.HistoryEntry.{HistoryEntry}
 use Rattle.pw_model.specs.States.{opening}
 use Rattle.pw_model.specs.History.{Faultless, entry_of, replay_from}
@@ -16,12 +17,14 @@ use Rattle.pw_script.specs.Completing.{IsStart, lines_left}
 use Rattle.pw_script.specs.HistoryText.{lines_from}
 use Rattle.pw_script.specs.Lawful.{Begins, IsRunOf, Lawful}
 use Rattle.pw_script.specs.Telling.{HasSegments}
-use Rattle.pw_script.specs.Wholes.{HasFeed, Starts, onto_first, pieces_of}
-use Rattle.pw_script.proofs.Beginnings.{one_line, pieces_of-text}
-use Rattle.pw_script.proofs.Completions.{completed-run}
-use Rattle.pw_script.proofs.Cuts.{AllOver, Over}
-use Rattle.pw_script.proofs.Determined.{head_of, tail_of}
-use Rattle.pw_script.proofs.Firsts.{each_first, each_rest}
+use Rattle.pw_script.specs.Wholes.{HasFeed, Starts, pieces_of}
+use Rattle.pw_history.specs.Wholes.{onto_first}
+use Rattle.pw_history.proofs.Beginnings.{one_line, pieces_of-text}
+use Rattle.pw_history.proofs.Completions.{completed-run}
+use Rattle.pw_history.specs.Telling.{Over}
+use Rattle.pw_history.proofs.Cuts.{AllOver}
+use Rattle.pw_history.proofs.Determined.{head_of, tail_of}
+use Rattle.pw_script.proofs.Told.{power_fits}
 use Rattle.pw_audit.specs.declared.form.Form.{Form}
 use Rattle.pw_audit.specs.Traces.{BeginsAs, IsUnfinishedAs, IsWholeAs, IsWrongAs, Opens, Tells}
 use Rattle.pw_audit.proofs.Told.{opens_over, tells_append, tells_listed, tells_over}
@@ -102,7 +105,7 @@ record Completed (P : Plan) (L : List Request) (es : List HistoryEntry) : Type 0
 
 completes : (P : Plan) (L : List Request) (are : CanBeAsked P L) (es : List HistoryEntry) → IsStart P L es → Completed P L es
 completes P L are es start = elim (faultless_or es) [
-  | inl none ↦ record { later = map (entry_of 0) (lines_left L es); run = completed-run P L es are.has none start }
+  | inl none ↦ record { later = map (entry_of 0) (lines_left L es); run = completed-run (power_fits P) L es are.has none start }
   | inr some ↦ record {
     later = [];
     run = subst (IsRunOf P L) (sym (append-nil es)) (record { legal = start.legal; begins = start.begins; whole = λ none. absurd (some none) });
@@ -234,7 +237,7 @@ module _ (form : Form) (P : Plan) (L : List Request) where
         where
           bad : (first : FirstPiece rest) → BeginsAs form P L (map with_feed ls ++ first.piece ∷ []) → ⊥
           bad first b =
-              let feed : HasFeed first.piece = (each_rest HasFeed (map with_feed ls) (first.piece ∷ []) (each_feed (map with_feed ls ++ first.piece ∷ []) b)).0 in
+              let feed : HasFeed first.piece = (each_last HasFeed (map with_feed ls) (first.piece ∷ []) (each_feed (map with_feed ls ++ first.piece ∷ []) b)).0 in
               none feed.line (record { rest = first.tail; is = first.is ∙ ap (λ (l : List ℕ). l ++ first.tail) feed.is })
               (whole_has ls feed.line (subst (λ (l : List ℕ). BeginsAs form P L (map with_feed ls ++ l ∷ [])) feed.is b))
 

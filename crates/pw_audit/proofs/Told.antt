@@ -7,6 +7,7 @@ use Rattle.acpi_values.specs.declared.operation.Op.TheVariants.{Set, Enter}
 use Rattle.pw_plan.specs.declared.plan.Plan.{Plan}
 use Rattle.pw_plan.specs.Requests.{cpu_of}
 use Rattle.pw_plan.proofs.Lists.{each_append, each_map}
+use Rattle.pw_kind.proofs.Joining.{each_first}
 use Rattle.pw_model.specs.declared.entry.HistoryEntry.{HistoryEntry}
 use Rattle.pw_model.specs.declared.state.State.{State}
 use Rattle.pw_model.specs.History.{IsEntry, after_entry, entry_ops, replay_from, request_of}
@@ -15,15 +16,17 @@ use Rattle.pw_text.specs.Lines.{with_feed}
 use Rattle.pw_text.specs.Text.{hex_text, segments_text}
 use Rattle.pw_text.specs.HistoryText.{register_text}
 use Rattle.pw_text.specs.Behind.{behind}
+use Rattle.pw_history.specs.HistoryText as texts
 use Rattle.pw_plan.specs.Places.{cpu_at}
-use Rattle.pw_script.specs.HistoryText.{history_lines, lines_from, op_line, opening_lines, outcome_words, path_of, request_words}
+use Rattle.pw_script.specs.HistoryText.{history_lines, lines_from, op_line, opening_lines, outcome_words, path_of, power_words, request_words}
 use Rattle.pw_script.specs.Telling.{HasSegments, IsNarrow, IsNarrowFault, unseated}
 use Rattle.pw_script.specs.Wholes.{entry_line}
-use Rattle.pw_script.proofs.Cuts.{AllOver, Over, joined-over, over-test}
-use Rattle.pw_script.proofs.Determined.{head-opening, head_of, heads-tell, lines-over, tail_of}
+use Rattle.pw_history.specs.Telling.{Over}
+use Rattle.pw_history.proofs.Cuts.{AllOver, joined-over, over-test}
+use Rattle.pw_history.proofs.Determined.{head-opening, head_of, heads-tell, lines-over, tail_of}
 use Rattle.pw_script.proofs.Readers.{entry-same}
+use Rattle.pw_script.proofs.Told.{power_words_tell}
 use Rattle.pw_script.proofs.TextWords.{entry-over, op_line-over}
-use Rattle.pw_script.proofs.Firsts.{each_first}
 use Rattle.pw_audit.specs.declared.form.Form.{Form}
 use Rattle.pw_audit.specs.declared.form.Form.TheVariants.{History, Trace}
 use Rattle.pw_audit.specs.Traces.{Opens, Tells, TellsOps, op_cpu}
@@ -190,11 +193,11 @@ module _ (P : Plan) (tell : HasSegments P) where
       subst NotFirst (append-nil X) (tells_not_first form es S n X [] t (λ e o os rest ops none. nothing (sym none)))
 
   history_is : (o : Option ℕ) → history_lines P o [] ≡ opening_lines P o ++ []
-  unfolding history_lines
+  unfolding texts.history_lines
   history_is o = refl
 
   opening_over : (o : Option ℕ) → AllOver 10 (opening_lines P o)
-  opening_over o = each_first (Over 10) (opening_lines P o) [] (subst (AllOver 10) (history_is o) (lines-over P tell o []))
+  opening_over o = each_first (Over 10) (opening_lines P o) [] (subst (AllOver 10) (history_is o) (lines-over (power_words_tell P tell) o []))
 
   pub opens_over : (form : Form) (o : Option ℕ) (first : List (List ℕ)) → Opens form P o first → AllOver 10 first
   opens_over History o first is = subst (AllOver 10) (sym is) (opening_over o)
@@ -203,16 +206,16 @@ module _ (P : Plan) (tell : HasSegments P) where
   opens_over Trace (Some k) first is = subst (AllOver 10) (sym is) (opening_over (Some k))
 
   pub head_opens : (form : Form) (o : Option ℕ) (first : List (List ℕ)) → Opens form P o first → (Z : List (List ℕ)) → head_of (first ++ Z) ≡ head_of (opening_lines P o)
-  head_opens History o first is Z = ap (λ (ls : List (List ℕ)). head_of (ls ++ Z)) is ∙ head-opening P tell o Z
+  head_opens History o first is Z = ap (λ (ls : List (List ℕ)). head_of (ls ++ Z)) is ∙ head-opening power_words P o Z
   head_opens Trace None first (inl is) Z = ap (λ (ls : List (List ℕ)). head_of (ls ++ Z)) is
-  head_opens Trace None first (inr is) Z = ap (λ (ls : List (List ℕ)). head_of (ls ++ Z)) is ∙ head-opening P tell None Z
-  head_opens Trace (Some k) first is Z = ap (λ (ls : List (List ℕ)). head_of (ls ++ Z)) is ∙ head-opening P tell (Some k) Z
+  head_opens Trace None first (inr is) Z = ap (λ (ls : List (List ℕ)). head_of (ls ++ Z)) is ∙ head-opening power_words P None Z
+  head_opens Trace (Some k) first is Z = ap (λ (ls : List (List ℕ)). head_of (ls ++ Z)) is ∙ head-opening power_words P (Some k) Z
 
   -- openings of one text are one
   pub same_opening : (form : Form) (o f : Option ℕ) (first other : List (List ℕ)) → Opens form P o first → Opens form P f other → IsNarrowFault o → IsNarrowFault f
       → (Z Y : List (List ℕ)) → other ++ Y ≡ first ++ Z → o ≡ f
   same_opening form o f first other a b narrow_o narrow_f Z Y same =
-      heads-tell P tell o f narrow_o narrow_f (sym (head_opens form o first a Z) ∙ ap (λ (ls : List (List ℕ)). head_of ls) (sym same) ∙ head_opens form f other b Y)
+      heads-tell power_words P o f narrow_o narrow_f (sym (head_opens form o first a Z) ∙ ap (λ (ls : List (List ℕ)). head_of ls) (sym same) ∙ head_opens form f other b Y)
 
   drop_ops : (ops : List Op) (Z Y : List (List ℕ)) → ((o : Op) (os : List Op) (rest : List (List ℕ)) → ops ≡ o ∷ os → Z ≡ op_line P o ∷ rest → ⊥)
       → Z ≡ map (op_line P) ops ++ Y → Z ≡ Y

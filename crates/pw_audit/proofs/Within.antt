@@ -18,13 +18,13 @@ use Rattle.pw_plan.specs.Groups.{no_domain}
 use Rattle.pw_plan.specs.Places.{cpu_at, domain_at, domain_of, group_at, group_of, no_group}
 use Rattle.pw_plan.specs.Requests.{Has}
 use Rattle.pw_plan.proofs.Lists.{each_append}
+use Rattle.pw_kind.proofs.Joining.{each_first}
 use Rattle.pw_model.specs.declared.reply.Reply.{Reply}
 use Rattle.pw_model.specs.declared.state.State.{State}
 use Rattle.pw_model.specs.Answers.{changed, if_accepted}
 use Rattle.pw_model.specs.Domains.{c_state, standing}
 use Rattle.pw_model.specs.Operations.{accepted_ops, domain_ops, drawn_with, enter, idle_ops, ops_of, own_entry, set_at, set_on}
 use Rattle.pw_model.specs.Refusals.{refusal}
-use Rattle.pw_script.proofs.Firsts.{each_first}
 use Rattle.pw_audit.specs.Traces.{op_cpu}
 use Rattle.pw_audit.specs.inner.Queues.{AreWithin}
 use Rattle.pw_audit.proofs.Entries.{done_of}

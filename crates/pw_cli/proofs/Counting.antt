@@ -18,9 +18,11 @@ use Rattle.pw_notice.specs.Limits.{own, requests}
 use Rattle.pw_books.specs.Books.{Begins}
 use Rattle.pw_books.proofs.Sums.{sum-begun, sum-map_by}
 use Rattle.pw_script.specs.declared.script.Line.{Line as line}
+use Rattle.pw_script.specs.HistoryText.{power_words}
 use Rattle.pw_script.specs.Lawful.{IsRunOf}
 use Rattle.pw_script.specs.Reading.{operations, requests_of}
-use Rattle.pw_script.proofs.Firsts.{own-past}
+use Rattle.pw_history.proofs.Firsts.{own-past}
+use Rattle.pw_script.proofs.Told.{power_fits}
 
 from_few : (P : Plan) (es : List HistoryEntry) (S : State) → Faultless es → length (ops_from P S es) ≤ sum_by (ops_bound P) (requests es)
 from_few P [] S none = omega arith
@@ -37,7 +39,7 @@ module _ (P : Plan) (lines : List line) (es : List HistoryEntry) (run : IsRunOf 
   begins : (p : ℕ) → Begins (own p (requests_of lines)) (own p (requests es))
   begins p = elim (cases_lt p (length P.cpus)) [
     | inl lt ↦ ((run.begins p lt).rest, (run.begins p lt).is)
-    | inr le ↦ (own p (requests_of lines), ap (λ (l : List Request). l ++ own p (requests_of lines)) (sym (own-past P es p run.legal.well_formed.entries le)))
+    | inr le ↦ (own p (requests_of lines), ap (λ (l : List Request). l ++ own p (requests_of lines)) (sym (own-past power_words (power_fits P) es p run.legal.well_formed.entries le)))
   ]
 
   -- as many as may come of the lines

@@ -3,6 +3,7 @@ use Rattle.std.proofs.Common.{◌≡◌, ◌+◌, ◌++◌, ◌∷◌, ◌∙◌
 use Rattle.std.proofs.lemmas.List.{take-append-drop}
 use Rattle.pw_base.specs.Seen.{Grew}
 use Rattle.pw_text.specs.HistoryText.{opened_lines}
+use Rattle.pw_history.specs.HistoryText as texts
 use Rattle.pw_turns.specs.declared.close.Sealed.{Sealed}
 use Rattle.pw_kind.specs.History as histories
 use Rattle.pw_kind.proofs.Joining.{each_first, each_last}
@@ -143,7 +144,7 @@ module _ (P : CppcPlan) where
 
   history_lines-append : (es fs : List CppcEntry)
       → history_lines P None (es ++ fs) ≡ history_lines P None es ++ lines_from P (replay P es) (1 + length es) fs
-  unfolding history_lines histories.replay
+  unfolding texts.history_lines histories.replay
   history_lines-append es fs =
       ap (λ l. opened_lines (op_line P) (opening_ops P) None ++ l) (lines_from-append es fs (opening P) 1)
       ∙ sym (append_assoc (opened_lines (op_line P) (opening_ops P) None) (lines_from P (opening P) 1 es) (lines_from P (replay_from P (opening P) es) (1 + length es) fs))

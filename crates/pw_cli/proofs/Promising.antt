@@ -27,15 +27,15 @@ use Rattle.pw_model.proofs.Operating.{all_start}
 use Rattle.pw_model.proofs.Staying.{replay_fits, request_has}
 use Rattle.pw_notice.specs.Limits.{requests}
 use Rattle.pw_script.specs.declared.script.Line.{Line as line}
-use Rattle.pw_script.specs.HistoryText.{history_text}
+use Rattle.pw_script.specs.HistoryText.{history_text, power_words}
 use Rattle.pw_script.specs.Lawful.{HasLine, IsRunOf}
 use Rattle.pw_script.specs.Reading.{operations, requests_of}
 use Rattle.pw_script.specs.Wholes.{IsWhole}
-use Rattle.pw_script.proofs.Beginnings.{history_lines-append}
-use Rattle.pw_script.proofs.Determined.{text-tells}
+use Rattle.pw_history.proofs.Beginnings.{history_lines-append}
+use Rattle.pw_history.proofs.Ends.{lawful-told}
 use Rattle.pw_script.proofs.Lined.{entry_line}
-use Rattle.pw_script.proofs.Narrow.{lawful-formed, lawful-narrow}
 use Rattle.pw_script.proofs.Orders.{serial_lawful}
+use Rattle.pw_script.proofs.Told.{power_laws}
 use Rattle.pw_drive.specs.Driven.{OperatesFor, stopped_at}
 use Rattle.pw_drive.specs.Drives.{Runs, TellSeats}
 use Rattle.pw_turns.specs.declared.close.Sealed.{Sealed}
@@ -224,13 +224,11 @@ module _ (laws : ObjectLaws) (choices : ChoiceLaws) (step : Bool) (script : List
     entries = es;
     printed = grew;
     one = λ narrow other run' same.
-        (text-tells P (planned_segments before.files names P tells given.planned) None None es other tt tt (lawful-formed P (requests_of lines) None es run)
-        (lawful-formed P (requests_of lines) None other run') (lawful-narrow P (requests_of lines) narrow None es run)
-        (lawful-narrow P (requests_of lines) narrow None other run') same).1;
+        (lawful-told (power_laws P (planned_segments before.files names P tells given.planned)) (requests_of lines) (requests_of lines) None None es other narrow narrow run run' same).1;
     asked = run.whole faultless;
     in_order = ordered;
     line_of = λ fs later e is. has_line P (requests_of lines) es run fs later e is;
-    told = λ fs later e is. history_lines-append P None fs (e ∷ later);
+    told = λ fs later e is. history_lines-append power_words P None fs (e ∷ later);
     served = served_each P es run.legal faultless;
     refused = refused_each P;
     stands = beginning_stands P es run.legal faultless;

@@ -18,7 +18,7 @@ use Rattle.pw_cppc.specs.Requests.{Has, ops_bound}
 use Rattle.pw_cppc.specs.declared.entry.CppcEntry.{CppcEntry}
 use Rattle.pw_cppc.specs.History.{request_of}
 use Rattle.pw_cppc_drive.specs.declared.script.CppcLine.{CppcLine as line}
-use Rattle.pw_cppc_drive.proofs.Printed.{entry_cpu}
+use Rattle.pw_cppc_drive.proofs.Requested.{entry_cpu}
 use Rattle.pw_cppc_drive.specs.Reading.{operations, requests_of}
 use Rattle.pw_cppc_drive.specs.Driven.{OperatesFor}
 use Rattle.pw_cppc_desk.specs.Opens.{FailsAfter}

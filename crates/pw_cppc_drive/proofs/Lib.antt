@@ -2,7 +2,7 @@ pub mod Requesting
 pub mod Lining
 pub mod Making
 pub mod Pathed
-pub mod Printed
+pub mod Requested
 pub mod Refusing
 pub mod WorkersMaking
 pub mod Joining
@@ -10,3 +10,5 @@ pub mod Ending
 pub mod Drawn
 pub mod Serial
 pub mod Answered
+pub mod Told
+pub mod Coming

@@ -3,7 +3,7 @@ ghost use Rattle.pw_text.specs.Forms.{name_of};
 ghost use Rattle.pw_text.specs.Looking.{IsIndexOf, LeadsTo};
 ghost use Rattle.pw_cppc_drive.specs.Forms.{cpu_named, segs_of};
 
-use crate::named::path_texts;
+use crate::paths::cppc_path_texts;
 use pw_base::Memory;
 use pw_cppc::CppcPlan;
 use pw_text::{PathIndex, index_path};
@@ -29,7 +29,7 @@ pub(crate) fn index_of(alloc: Global, plan: &CppcPlan) -> Result<PathIndex, Memo
     ensures { IfOk result (λ index. IsIndexOf segs_of plan.now.paths index) }
 {
     let names = names_of(alloc, plan)?;
-    PathIndex::new(alloc, names, &path_texts(alloc, plan)?)
+    PathIndex::new(alloc, names, &cppc_path_texts(alloc, plan)?)
 }
 
 /// The processor that a path leads to, if any; nothing where the text is no path. `name` is room for it.

@@ -18,8 +18,8 @@ use pw_walker::{
     Place, step_domain, step_group, step_node, unstep_domain, unstep_group, unstep_node,
 };
 
-/// Enters a request that has all its records: does the operations, appends the entry and keeps the reply. At a
-/// fault it answers how many of the operations were done.
+/// Enters a request that has all its records: does the operations, appends the entry and keeps the reply. At
+/// a fault it answers how many of the operations were done.
 fn enter<R: Registers>(
     _plan: &Plan,
     _records: &Records,

@@ -8,7 +8,8 @@ use Rattle.pw_model.specs.declared.state.State.{State}
 use Rattle.pw_model.specs.Answers.{after}
 use Rattle.pw_notice.specs.Limits.{made_from, own}
 use Rattle.pw_script.specs.Completing.{without_first}
-use Rattle.pw_script.proofs.Firsts.{without-other, without-same}
+use Rattle.pw_script.specs.HistoryText.{power_words}
+use Rattle.pw_history.proofs.Firsts.{without-other, without-same}
 use Rattle.pw_generate.proofs.Apart.{after-turns}
 
 -- a number of each request, added up
@@ -83,11 +84,11 @@ module _ (P : Plan) where
     | inl is ↦
         let found : (cpu_of q == p) ≡ true = eq-eqb (cpu_of q) p is in
         let e : q ∷ own p qs ≡ own p rs = rw found at (h p) in
-        rw is (sym (without-same p rs q (own p qs) (sym e)))
+        rw is (sym (without-same power_words p rs q (own p qs) (sym e)))
     | inr ne ↦
         let other : (cpu_of q == p) ≡ false = ne_eqb (cpu_of q) p ne in
         let e : own p qs ≡ own p rs = rw other at (h p) in
-        e ∙ sym (without-other (cpu_of q) p rs ne)
+        e ∙ sym (without-other power_words (cpu_of q) p rs ne)
   ]
 
   first_same : (q : Request) (qs rs : List Request) → SameOwn (q ∷ qs) rs → own (cpu_of q) rs ≡ q ∷ own (cpu_of q) qs

@@ -16,10 +16,12 @@ use Rattle.pw_model.specs.States.{opening}
 use Rattle.pw_model.specs.Answers.{accepted, after, answer}
 use Rattle.pw_model.specs.History.{Faultless, entry_of, replay, replay_from, replies, replies_from, request_of}
 use Rattle.pw_notice.specs.Limits.{made_from, own, requests}
+use Rattle.pw_script.specs.HistoryText.{power_words}
 use Rattle.pw_script.specs.Lawful.{Lawful}
 use Rattle.pw_script.specs.Completing.{IsStart}
-use Rattle.pw_script.proofs.Firsts.{own-past}
-use Rattle.pw_script.proofs.Completions.{completed-run, faultless}
+use Rattle.pw_history.proofs.Completions.{completed-run, entries_faultless}
+use Rattle.pw_history.proofs.Firsts.{own-past}
+use Rattle.pw_script.proofs.Told.{power_fits}
 use Rattle.pw_generate.specs.Summary.{is_entered, is_refused, is_running, is_stands, script_summary, summary_text}
 use Rattle.pw_generate.proofs.Apart.{IsOfKind, answer-kept}
 use Rattle.pw_generate.proofs.Orders.{SameOwn, same-made, same-total, total}
@@ -78,7 +80,7 @@ module _ (P : Plan) (asked : List Request) (H G : List HistoryEntry)
   same_own : SameOwn (requests H) (requests G)
   same_own p = elim (cases_lt p (length P.cpus)) [
     | inl lt ↦ h.whole h_none p lt ∙ sym (g.whole g_none p lt)
-    | inr le ↦ own-past P H p h.legal.well_formed.entries le ∙ sym (own-past P G p g.legal.well_formed.entries le)
+    | inr le ↦ own-past power_words (power_fits P) H p h.legal.well_formed.entries le ∙ sym (own-past power_words (power_fits P) G p g.legal.well_formed.entries le)
   ]
 
   pub same-end : replay P H ≡ replay P G
@@ -125,5 +127,5 @@ pub summary-script : (P : Plan) (asked : List Request) (H : List HistoryEntry) �
     → Faultless H → summary_text P H ≡ script_summary P asked
 unfolding script_summary
 summary-script P asked H has h none =
-    let in_order = completed-run P asked [] has tt (nothing_starts P asked) in
-    same-summary P asked H (map (entry_of 0) asked) h none in_order (faultless asked)
+    let in_order = completed-run (power_fits P) asked [] has tt (nothing_starts P asked) in
+    same-summary P asked H (map (entry_of 0) asked) h none in_order (entries_faultless (power_fits P) asked)

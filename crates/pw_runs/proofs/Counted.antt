@@ -12,10 +12,11 @@ use Rattle.pw_model.specs.declared.state.State.{State}
 use Rattle.pw_model.specs.States.{opening}
 use Rattle.pw_model.specs.History.{after_entry, entry_ops, request_of}
 use Rattle.pw_model.specs.Operations.{opening_ops}
+use Rattle.pw_history.specs.Telling.{Over}
+use Rattle.pw_history.proofs.Cuts.{AllOver, ended-same}
+use Rattle.pw_history.proofs.Numbers.{decimal-over}
 use Rattle.pw_script.specs.HistoryText.{op_line, opening_lines, outcome_words, request_line}
 use Rattle.pw_script.specs.Telling.{HasSegments}
-use Rattle.pw_script.proofs.Cuts.{AllOver, Over, ended-same}
-use Rattle.pw_script.proofs.TextWords.{decimal-over}
 use Rattle.pw_audit.specs.declared.form.Form.{Form}
 use Rattle.pw_audit.specs.declared.form.Form.TheVariants.{History, Trace}
 use Rattle.pw_audit.specs.Traces.{IsWholeAs, Opens, Tells, TellsOps}

@@ -15,7 +15,8 @@ use Rattle.pw_script.specs.declared.script.Line.{Line as line}
 use Rattle.pw_script.specs.Lawful.{Lawful}
 use Rattle.pw_script.specs.Reading.{Answered, Chosen, requests_of}
 use Rattle.pw_script.proofs.Existing.{lines_fit}
-use Rattle.pw_script.proofs.Completions.{completed-run, entry_faultless}
+use Rattle.pw_history.proofs.Completions.{completed-run, entries_faultless}
+use Rattle.pw_script.proofs.Told.{power_fits}
 use Rattle.pw_runs.specs.Runs.{IsTextOn, entries_of}
 use Rattle.pw_runs.specs.Scripts.{HoldsScript, limit_by}
 use Rattle.pw_runs.specs.Workers.{IsTextBy, Seals}
@@ -23,13 +24,9 @@ use Rattle.pw_generate.proofs.Summaries.{nothing_starts}
 
 -- # The lines in their order
 
-entries_faultless : (asked : List Request) → Faultless (entries_of asked)
-entries_faultless [] = tt
-entries_faultless (q ∷ qs) = (entry_faultless q, entries_faultless qs)
-
 -- the history of requests that the plan has, in their order, is one that they allow
 in_order_lawful : (P : Plan) (asked : List Request) → AllByRecursion (Has P) asked → Lawful P asked None (entries_of asked)
-in_order_lawful P asked has = completed-run P asked [] has tt (nothing_starts P asked)
+in_order_lawful P asked has = completed-run (power_fits P) asked [] has tt (nothing_starts P asked)
 
 pub asked_have : (P : Plan) (lines : List line) → AllByRecursion (λ (l : line). Has P l.request) lines → AllByRecursion (Has P) (requests_of lines)
 asked_have P [] has = tt
@@ -54,7 +51,7 @@ serial_text_is_one files step script names text tells is =
       given = is.given;
       entries = entries_of asked;
       lawful = in_order_lawful is.plan asked has;
-      faultless = entries_faultless asked;
+      faultless = entries_faultless (power_fits is.plan) asked;
       says = is.says;
     }
 

@@ -12,14 +12,6 @@ pub mod Orders
 pub mod Pathed
 pub mod Printed
 pub mod Spacing
-pub mod Firsts
-pub mod Cuts
 pub mod TextWords
 pub mod Readers
-pub mod Determined
-pub mod Completions
-pub mod Beginnings
-pub mod Alike
-pub mod Nexts
-pub mod Narrow
-pub mod Ends
+pub mod Told

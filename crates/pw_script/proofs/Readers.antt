@@ -5,6 +5,9 @@ use Rattle.std.proofs.lemmas.Bool.{eqb-false}
 use Rattle.std.proofs.lemmas.Fmt.{decimal_is_IsNumeral, decimal_nonempty}
 use Rattle.std.proofs.lemmas.List.{append_cancel_left}
 use Rattle.pw_text.specs.HistoryText.{fault_words}
+use Rattle.pw_history.specs.Telling.{Over}
+use Rattle.pw_history.proofs.Cuts.{joined-same}
+use Rattle.pw_history.proofs.Numbers.{decimal-over}
 use Rattle.pw_plan.specs.declared.plan.Plan.{Plan}
 use Rattle.pw_plan.specs.declared.request.Request.{Request}
 use Rattle.pw_plan.specs.declared.request.Request.TheVariants.{Idle, Wake, Perf, Throttle, PerfLimit, ThrottleLimit}
@@ -21,8 +24,7 @@ use Rattle.pw_script.specs.HistoryText.{outcome_words, path_of, reply_words, req
 use Rattle.pw_script.specs.Asking.{IsNarrowRequest}
 use Rattle.pw_script.specs.Telling.{HasSegments, IsNarrow, unseated}
 use Rattle.pw_script.specs.Wholes.{entry_line}
-use Rattle.pw_script.proofs.Cuts.{Over, joined-same}
-use Rattle.pw_script.proofs.TextWords.{decimal-over, entry-over, path_of-same}
+use Rattle.pw_script.proofs.TextWords.{entry-over, path_of-same}
 
 abbrev number : List ℕ → ℕ
 number w = digits_value 10 w

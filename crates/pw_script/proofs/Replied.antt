@@ -1,6 +1,6 @@
 -- What the reply tells of a request's operations.
-use Rattle.std.proofs.Common.{◌≡◌, ◌≢◌, ◌<◌, ◌≤◌, ◌==◌, ◌++◌, ◌∙◌, ℕ, Bool, true, false, cond, List, [], ◌∷◌, length, map, max, min, drop, get_or, Option, Some, None, refl, ap, sym, subst, arith, inl, inr}
-use Rattle.std.specs.Prelude.{IfSome, fold, is_some}
+use Rattle.std.proofs.Common.{◌≡◌, ◌≢◌, ◌<◌, ◌≤◌, ◌==◌, ◌++◌, ◌∙◌, ℕ, Bool, true, false, cond, List, [], ◌∷◌, length, map, max, min, get_or, Option, Some, None, refl, ap, sym, subst, arith, inl, inr}
+use Rattle.std.specs.Prelude.{fold, is_some}
 use Rattle.std.proofs.lemmas.Bool.{cases_lt}
 use Rattle.std.proofs.lemmas.Bool.Decides.{nat_tests}
 use Rattle.std.proofs.lemmas.List.{get_or-set_same, get_or_past}
@@ -19,7 +19,6 @@ use Rattle.pw_plan.specs.Groups.{is_software}
 use Rattle.pw_plan.specs.Parts.{count_of, scale_of}
 use Rattle.pw_plan.specs.Places.{cpu_at, domain_at, domain_of, group_of}
 use Rattle.pw_plan.specs.Requests.{Has, cpu_of, domain_bound, ops_bound}
-use Rattle.pw_model.specs.declared.entry.HistoryEntry.{HistoryEntry}
 use Rattle.pw_model.specs.declared.reply.Reply.{Reply}
 use Rattle.pw_model.specs.declared.reply.Reply.TheVariants.{AboveLimit, Disabled, Entered, NoState, NoTable, Running, Stands, TooSlow, Unfit}
 use Rattle.pw_model.specs.declared.state.State.{State}
@@ -28,7 +27,6 @@ use Rattle.pw_model.specs.States.{IsIndex, IsState, ask_of, idling, limit_of, li
 use Rattle.pw_model.specs.Answers.{accepted, after, answer, chain_of, changed, if_accepted, stands, states_of}
 use Rattle.pw_model.specs.Composites.{composite_of}
 use Rattle.pw_model.specs.Domains.{c_state, standing, stands_at}
-use Rattle.pw_model.specs.History.{after_entry, replies_from, request_of}
 use Rattle.pw_model.specs.Operations.{accepted_ops, domain_ops, enter, idle_ops, ops_of, own_entry, set_at, set_on}
 use Rattle.pw_model.specs.Refusals.{idle_refusal, is_absent, limit_refusal, refusal}
 use Rattle.pw_model.proofs.Bounds.{drawn-few}
@@ -37,46 +35,7 @@ use Rattle.pw_model.proofs.Reasons.{AskReason, LimitReason, Reason, alone, ask_r
 use Rattle.pw_core.specs.Chains.{AreStatesOf, IsChain, states_in}
 use Rattle.pw_core.proofs.Climbing.{chain_fits}
 use Rattle.pw_core.proofs.Drawing.{nobody_drawn, own_enters, own_stays}
-use Rattle.pw_script.specs.inner.Known.{AreKnown, accepts, entered_alone, kind_of, other_replies, own_reply}
-
--- # Whose reply is known
-
-module _ (P : Plan) (S : State) where
-  own : (e : HistoryEntry) (es : List HistoryEntry) (known : Option (List Reply)) → AreKnown P S (e ∷ es) known
-      → IfSome (own_reply e known) (λ reply. e.fault ≡ 0 → answer P S (request_of e) ≡ reply)
-  own e es None h = tt
-  own e es (Some []) h = tt
-  own e es (Some (r ∷ rs)) h = step (e.fault == 0) h
-    where
-      step : (b : Bool) → r ∷ rs ≡ cond b (answer P S (request_of e) ∷ []) [] ++ replies_from P (after_entry P S e) es
-          → IfSome (cond b (Some r) None) (λ reply. e.fault ≡ 0 → answer P S (request_of e) ≡ reply)
-      step true is = λ none. cc
-      step false is = tt
-
-  others : (e : HistoryEntry) (es : List HistoryEntry) (known : Option (List Reply)) → AreKnown P S (e ∷ es) known
-      → AreKnown P (after_entry P S e) es (other_replies e known)
-  others e es None h = tt
-  others e es (Some []) h = step (e.fault == 0) h
-    where
-      step : (b : Bool) → [] ≡ cond b (answer P S (request_of e) ∷ []) [] ++ replies_from P (after_entry P S e) es → [] ≡ replies_from P (after_entry P S e) es
-      step true is = cc
-      step false is = is
-  others e es (Some (r ∷ rs)) h = step (e.fault == 0) h
-    where
-      step : (b : Bool) → r ∷ rs ≡ cond b (answer P S (request_of e) ∷ []) [] ++ replies_from P (after_entry P S e) es
-          → AreKnown P (after_entry P S e) es (cond b (Some rs) (Some (r ∷ rs)))
-      step true is = cc
-      step false is = is
-
-  pub own_known : (es : List HistoryEntry) (d : HistoryEntry) (known : Option (List Reply)) → 1 ≤ length es → AreKnown P S es known
-      → IfSome (own_reply (get_or es 0 d) known) (λ reply. (get_or es 0 d).fault ≡ 0 → answer P S (request_of (get_or es 0 d)) ≡ reply)
-  own_known [] d known le h = absurd (omega arith)
-  own_known (e ∷ es) d known le h = own e es known h
-
-  pub others_known : (es : List HistoryEntry) (d : HistoryEntry) (known : Option (List Reply)) → 1 ≤ length es → AreKnown P S es known
-      → AreKnown P (after_entry P S (get_or es 0 d)) (drop 1 es) (other_replies (get_or es 0 d) known)
-  others_known [] d known le h = absurd (omega arith)
-  others_known (e ∷ es) d known le h = others e es known h
+use Rattle.pw_script.specs.inner.Known.{accepts, entered_alone, kind_of}
 
 -- # Replies of requests that are accepted, and of refusals
 

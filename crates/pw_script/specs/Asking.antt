@@ -1,10 +1,10 @@
 -- Requests that can be asked.
 use Rattle.std.specs.Prelude.{◌<◌, ◌^◌, List}
-use Rattle.std.specs.List.{AllByRecursion}
+use Rattle.pw_history.specs.Asked as any
 use Rattle.pw_plan.specs.declared.plan.Plan.{Plan}
 use Rattle.pw_plan.specs.declared.request.Request.{Request}
 use Rattle.pw_plan.specs.declared.request.Request.TheVariants.{Idle, Wake, Perf, Throttle, PerfLimit, ThrottleLimit}
-use Rattle.pw_plan.specs.Requests.{Has}
+use Rattle.pw_script.specs.HistoryText.{power_words}
 
 -- the numbers of a request, besides that of its processor, are of 32 bits
 abbrev pub IsNarrowRequest : Request → Type 0
@@ -16,6 +16,5 @@ IsNarrowRequest (PerfLimit p n) = n < 2 ^ 32
 IsNarrowRequest (ThrottleLimit p n) = n < 2 ^ 32
 
 -- Their processors exist, and their numbers are of 32 bits.
-pub record CanBeAsked (P : Plan) (asked : List Request) : Type 0 where
-  pub has : AllByRecursion (Has P) asked
-  pub narrow : AllByRecursion IsNarrowRequest asked
+abbrev pub CanBeAsked : Plan → List Request → Type 0
+CanBeAsked = any.CanBeAsked power_words IsNarrowRequest

@@ -8,18 +8,17 @@ use Rattle.pw_model.specs.History.{Faultless, Legal, replay, request_of}
 use Rattle.pw_model.specs.States.{limit_of}
 use Rattle.pw_model.specs.Operations.{opening_ops}
 use Rattle.pw_notice.specs.Limits.{own, own_limit, requests}
+use Rattle.pw_history.specs.Asked as any
+use Rattle.pw_script.specs.HistoryText.{power_words}
 
 -- One list begins another.
-pub record Begins {X : Type 0} (xs ys : List X) : Type 0 where
-  pub rest : List X
-  pub is : ys ≡ xs ++ rest
+abbrev pub Begins : {X : Type 0} → List X → List X → Type 0
+Begins = any.Begins
 
 -- A history of the requests of a script's lines: each processor's requests are a beginning of its lines', all of them
 -- where no entry is a fault.
-pub record IsRunOf (P : Plan) (asked : List Request) (es : List HistoryEntry) : Type 0 where
-  pub legal : Legal P es
-  pub begins : (p : ℕ) → p < length P.cpus → Begins (own p (requests es)) (own p asked)
-  pub whole : Faultless es → (p : ℕ) → p < length P.cpus → own p (requests es) ≡ own p asked
+abbrev pub IsRunOf : Plan → List Request → List HistoryEntry → Type 0
+IsRunOf = any.IsRunOf power_words
 
 -- One in the order of the lines: its requests are a beginning of theirs, all of them where no entry is a fault.
 pub record IsSerialRunOf (P : Plan) (asked : List Request) (es : List HistoryEntry) : Type 0 where
@@ -30,8 +29,7 @@ pub record IsSerialRunOf (P : Plan) (asked : List Request) (es : List HistoryEnt
 -- What may come of a script's lines: the opening was ended by a fault after k of its operations, and nothing was asked; or
 -- the plan was opened, and there is a history of the lines.
 abbrev pub Lawful : Plan → List Request → Option ℕ → List HistoryEntry → Type 0
-Lawful P asked (Some k) es = (k < length (opening_ops P)) × (es ≡ [])
-Lawful P asked None es = IsRunOf P asked es
+Lawful = any.Lawful power_words
 
 -- The same in the order of the lines.
 abbrev pub LawfulSerial : Plan → List Request → Option ℕ → List HistoryEntry → Type 0

@@ -1,7 +1,8 @@
 -- What a printed text tells of a history.
-use Rattle.std.specs.Prelude.{◌<◌, ◌^◌, ℕ, Option, Some, None}
+use Rattle.std.specs.Prelude.{◌<◌, ◌^◌, ℕ, Option}
 use Rattle.std.specs.List.{AllByRecursion}
 use Rattle.aml_data.specs.Segment.{IsSegment}
+use Rattle.pw_history.specs.Telling as any
 use Rattle.pw_plan.specs.declared.parts.CpuParts.{CpuParts}
 use Rattle.pw_plan.specs.declared.plan.Plan.{Plan}
 use Rattle.pw_model.specs.declared.entry.HistoryEntry.{HistoryEntry}
@@ -24,8 +25,7 @@ pub record IsNarrow (e : HistoryEntry) : Type 0 where
 
 -- after how many operations a fault ended the opening, if one did
 abbrev pub IsNarrowFault : Option ℕ → Type 0
-IsNarrowFault None = Unit {0}
-IsNarrowFault (Some k) = k < 2 ^ 32
+IsNarrowFault = any.IsNarrowFault
 
 -- # Seats
 

@@ -3,7 +3,7 @@ ghost use Rattle.pw_text.specs.Forms.{name_of};
 ghost use Rattle.pw_text.specs.Looking.{IsIndexOf, LeadsTo};
 ghost use Rattle.pw_script.specs.Forms.{cpu_named, segs_of};
 
-use crate::named::path_texts;
+use crate::paths::path_texts;
 use pw_base::Memory;
 use pw_plan::Plan;
 use pw_text::{PathIndex, index_path};

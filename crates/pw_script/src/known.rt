@@ -1,6 +1,6 @@
 //! The operations of a request whose reply is known: nothing that the reply tells is worked out again.
 ghost use Rattle.std.specs.Prelude.{◌≡◌, ◌<◌, ◌+◌, ◌≤◌, ◌++◌, ◌==◌, [], length, map, IfSome, if◌then◌else◌};
-ghost use Rattle.std.specs.Prelude.{option_copied, slice_index_or};
+ghost use Rattle.std.specs.Prelude.{slice_index_or};
 ghost use Rattle.pw_plan.specs.Places.{domain_at};
 ghost use Rattle.pw_plan.specs.Requests.{Has, ops_bound, set_count};
 ghost use Rattle.pw_model.specs.States.{IsState};
@@ -8,32 +8,12 @@ ghost use Rattle.pw_model.specs.Answers.{after, answer};
 ghost use Rattle.pw_model.specs.Operations.{ops_of, set_at, set_on};
 ghost use Rattle.pw_core.specs.Chains.{AreStatesOf, IsChain, states_in};
 ghost use Rattle.pw_regs.specs.Rooms.{HasRoom};
-ghost use Rattle.pw_script.specs.inner.Known.{accepts, entered_alone, kind_of, other_replies, own_reply};
+ghost use Rattle.pw_script.specs.inner.Known.{accepts, entered_alone, kind_of};
 
 use acpi_values::{Chain, Coord, Op};
 use pw_core::{Ops, State, chain_composite, set_each, set_on, standing_now};
-use pw_model::{HistoryEntry, Reply};
+use pw_model::Reply;
 use pw_plan::{DomainKind, Plan, Request};
-
-/// The first of the known replies, where the entry isn't a fault and so has one, and those that follow.
-pub fn first_known<'a>(
-    entry: &HistoryEntry,
-    known: Option<&'a [Reply]>,
-) -> (Option<Reply>, Option<&'a [Reply]>)
-    ensures own { result.0 ≡ own_reply entry.now (option_copied known.entry) }
-    ensures rest { option_copied result.1 ≡ other_replies entry.now (option_copied known.entry) }
-{
-    let Some(replies) = known else {
-        return (None, None);
-    };
-    if entry.fault > 0 {
-        return (None, Some(replies));
-    }
-    match replies {
-        [reply, rest @ ..] => (Some(*reply), Some(rest)),
-        _ => (None, Some(replies)),
-    }
-}
 
 /// Appends what a processor enters by itself in a chain of states, which is nothing where its own is 0.
 fn enter_alone(plan: &Plan, cpu: u32, chain: &Chain, ops: &mut Ops)

@@ -4,11 +4,12 @@
 
 mod asking;
 mod index;
+mod kind;
 mod known;
 mod laws;
 mod line;
-mod named;
 mod parsing;
+mod paths;
 mod printing;
 mod script;
 mod text_laws;
@@ -21,6 +22,7 @@ pub use laws::{
     serial_histories_are_lawful, texts_tell_lines,
 };
 pub use parsing::parse;
+pub use paths::path_texts;
 pub use printing::{print_history, print_known};
 pub use pw_text::{LineWhy, ScriptFault};
 pub use script::{Line, Script};

@@ -1,24 +1,12 @@
 ghost use Rattle.std.specs.Prelude.{◌≡◌, map};
 ghost use Rattle.std.specs.List.{AllByRecursion};
-ghost use Rattle.aml_data.specs.Segment.{IsSegment};
 ghost use Rattle.pw_model.specs.History.{WellFormed};
 ghost use Rattle.pw_script.specs.HistoryText.{history_text};
 ghost use Rattle.pw_script.specs.Telling.{HasSegments, IsNarrow, IsNarrowFault, unseated};
 
-use aml_data::Seg;
+use pw_history::segments_known;
 use pw_model::HistoryEntry;
 use pw_plan::Plan;
-
-/// Each segment of a path is one.
-fn segments_known(segs: &[Seg])
-    ensures { AllByRecursion IsSegment segs.now }
-{
-    let mut left = segs;
-    while let [seg, rest @ ..] = left {
-        let _bytes = seg.bytes();
-        left = rest;
-    }
-}
 
 /// Each plan has paths of segments.
 pub fn plans_have_segments(plan: &Plan)

@@ -1,5 +1,5 @@
 -- Replies that are known, and the operations of a request by its reply.
-use Rattle.std.specs.Prelude.{◌≡◌, ◌==◌, ℕ, Bool, true, false, List, [], ◌∷◌, slice_index_or, Option, Some, None, if◌then◌else◌}
+use Rattle.std.specs.Prelude.{◌≡◌, ◌==◌, ℕ, Bool, true, false, List, [], ◌∷◌, slice_index_or, max, Option, Some, None, if◌then◌else◌}
 use Rattle.acpi_values.specs.declared.operation.Chain.{Chain}
 use Rattle.acpi_values.specs.declared.operation.Op.{Op}
 use Rattle.acpi_values.specs.declared.operation.Op.TheVariants.{Enter}
@@ -8,11 +8,13 @@ use Rattle.pw_plan.specs.declared.domain.DomainKind.TheVariants as kinds
 use Rattle.pw_plan.specs.declared.plan.Plan.{Plan}
 use Rattle.pw_plan.specs.declared.request.Request.{Request}
 use Rattle.pw_plan.specs.declared.request.Request.TheVariants.{Idle, Wake, Perf, Throttle, PerfLimit, ThrottleLimit}
+use Rattle.pw_plan.specs.Requests.{opening_bound}
 use Rattle.pw_model.specs.declared.entry.HistoryEntry.{HistoryEntry}
 use Rattle.pw_model.specs.declared.reply.Reply.{Reply}
 use Rattle.pw_model.specs.declared.reply.Reply.TheVariants.{AboveLimit, Disabled, Entered, NoState, NoTable, Running, Stands, TooSlow, Unfit}
 use Rattle.pw_model.specs.declared.state.State.{State}
 use Rattle.pw_model.specs.Composites.{composite_of}
+use Rattle.pw_model.specs.States.{IsState}
 use Rattle.pw_model.specs.History.{replies_from}
 use Rattle.pw_core.specs.Chains.{states_in}
 
@@ -21,17 +23,13 @@ abbrev pub AreKnown : Plan → State → List HistoryEntry → Option (List Repl
 AreKnown P S es None = Unit {0}
 AreKnown P S es (Some replies) = replies ≡ replies_from P S es
 
--- the known reply of an entry, if it has one
-abbrev pub own_reply : HistoryEntry → Option (List Reply) → Option Reply
-own_reply e None = None
-own_reply e (Some []) = None
-own_reply e (Some (r ∷ rs)) = if e.fault == 0 then Some r else None
+-- of a state of the plan it is kept whole, whether replies are known or not
+abbrev pub IsKept : Plan → Bool → State → State → Type 0
+IsKept P known S kept = (kept ≡ S) × IsState P S
 
--- those of the entries behind it
-abbrev pub other_replies : HistoryEntry → Option (List Reply) → Option (List Reply)
-other_replies e None = None
-other_replies e (Some []) = Some []
-other_replies e (Some (r ∷ rs)) = if e.fault == 0 then Some rs else Some (r ∷ rs)
+-- no fewer operations than the opening has, or any request
+abbrev pub most_of : Plan → ℕ
+most_of P = max (opening_bound P) 256
 
 -- whether this is the reply of a request that is accepted
 abbrev pub accepts : Reply → Bool

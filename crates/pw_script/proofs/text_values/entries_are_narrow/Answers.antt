@@ -1,6 +1,6 @@
 use Rattle.std.proofs.Common.{◌≡◌, ◌-◌, drop, length, length-drop, take, take_all, arith}
 use Rattle.pw_script.specs.Telling.{IsNarrow}
-use Rattle.pw_script.proofs.Firsts.{each_more, each_none}
+use Rattle.pw_history.proofs.Each.{each_more, each_none}
 use Rattle.pw_script.proofs.text_values.entries_are_narrow.Goals as goal
 
 pub loop-left-preserved : goal.loop-left-preserved

@@ -2,7 +2,7 @@ use Rattle.std.proofs.Common.{◌≡◌, ◌-◌, drop, length, length-drop, sub
 use Rattle.std.specs.List.{AllByRecursion}
 use Rattle.aml_data.specs.Segment.{IsSegment}
 use Rattle.pw_script.specs.Telling.{IsOfSegments}
-use Rattle.pw_script.proofs.Firsts.{each_more, each_none}
+use Rattle.pw_history.proofs.Each.{each_more, each_none}
 use Rattle.pw_script.proofs.text_values.plans_have_segments.Goals as goal
 
 pub loop-left-preserved : goal.loop-left-preserved

@@ -1,0 +1,15 @@
+pub mod Alike
+pub mod Beginnings
+pub mod Completions
+pub mod Cuts
+pub mod Determined
+pub mod Each
+pub mod Ends
+pub mod Firsts
+pub mod Known
+pub mod Narrow
+pub mod Nexts
+pub mod Numbers
+pub mod Pathed
+pub mod Paths
+pub mod Printed

@@ -1,0 +1,7 @@
+pub mod Asked
+pub mod HistoryText
+pub mod inner
+pub mod Paths
+pub mod Telling
+pub mod Wholes
+pub mod Wording

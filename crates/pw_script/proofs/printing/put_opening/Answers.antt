@@ -1,6 +1,0 @@
-use Rattle.pw_text.proofs.Putting.{PutsText-as}
-use Rattle.pw_script.proofs.Pathed.{plan_opened}
-use Rattle.pw_script.proofs.printing.put_opening.Goals as goal
-
-pub returns : goal.returns
-returns g c = PutsText-as _ (plan_opened c.args.plan.now c.args.opening) (rw (c.paths.ensures, c.requires) at c.put_opened.ensures)
