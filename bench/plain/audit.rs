@@ -1,9 +1,9 @@
 //! `audit`: whether a history is one that a script allows, or which line can't be one of it. Each line must be what the records
 //! make of the next line of its processor.
 
-use crate::drive::Records;
-use crate::script::{Line, Machine, Op, Request, put_number, put_ops, put_path, put_reply, put_request};
+use crate::script::{Machine, Op, put_number, put_ops, put_path};
 use std::collections::HashMap;
+use std::io;
 
 const MOST_BYTES: usize = 67_108_864;
 
@@ -13,6 +13,17 @@ pub enum Said {
     Wrong(usize),
     Ends(usize),
     Long,
+}
+
+/// Records of a kind of coordination, and the words of its histories.
+pub trait Coordination {
+    type Request: Copy;
+    type Reply;
+    fn cpu(request: Self::Request) -> u32;
+    fn opening(&mut self, ops: &mut Vec<Op>);
+    fn serve(&mut self, request: Self::Request, ops: &mut Vec<Op>) -> Self::Reply;
+    fn put_request(out: &mut Vec<u8>, request: Self::Request) -> io::Result<()>;
+    fn put_reply(out: &mut Vec<u8>, reply: &Self::Reply) -> io::Result<()>;
 }
 
 /// The lines that are left, and how many were taken.
@@ -62,11 +73,11 @@ impl<'a> Lines<'a> {
     }
 }
 
-/// Of each processor the requests that it is still to make, the last of its lines first.
-fn lists(machine: &Machine, lines: &[Line]) -> Vec<Vec<Request>> {
+/// Of each processor the requests that it is still to make, the last one first.
+fn lists<C: Coordination>(machine: &Machine, requests: &[C::Request]) -> Vec<Vec<C::Request>> {
     let mut lists = vec![Vec::new(); machine.cpus.len()];
-    for line in lines.iter().rev() {
-        lists[line.request.cpu() as usize].push(line.request);
+    for request in requests.iter().rev() {
+        lists[C::cpu(*request) as usize].push(*request);
     }
     lists
 }
@@ -81,8 +92,8 @@ fn paths(machine: &Machine) -> HashMap<Vec<u8>, usize> {
     (0..machine.cpus.len()).map(path).collect()
 }
 
-fn walk(machine: &Machine, records: &mut Records, lines: &[Line], text: &[u8]) -> Result<usize, Said> {
-    let (mut lists, paths) = (lists(machine, lines), paths(machine));
+fn walk<C: Coordination>(machine: &Machine, records: &mut C, requests: &[C::Request], text: &[u8]) -> Result<usize, Said> {
+    let (mut lists, paths) = (lists::<C>(machine, requests), paths(machine));
     let mut text = Lines { left: text, taken: 0 };
     let (mut ops, mut wanted) = (Vec::new(), b"open\n".to_vec());
     records.opening(&mut ops);
@@ -91,7 +102,7 @@ fn walk(machine: &Machine, records: &mut Records, lines: &[Line], text: &[u8]) -
     }
     put_ops(&mut wanted, machine, &ops).unwrap();
     text.take(&wanted)?;
-    for number in 1..=lines.len() {
+    for number in 1..=requests.len() {
         let Some(line) = text.first() else {
             return Err(Said::Ends(text.taken));
         };
@@ -103,26 +114,26 @@ fn walk(machine: &Machine, records: &mut Records, lines: &[Line], text: &[u8]) -
         wanted.clear();
         put_number(&mut wanted, number as u64).unwrap();
         wanted.push(b' ');
-        put_path(&mut wanted, machine, request.cpu()).unwrap();
-        put_request(&mut wanted, request).unwrap();
+        put_path(&mut wanted, machine, C::cpu(request)).unwrap();
+        C::put_request(&mut wanted, request).unwrap();
         wanted.extend_from_slice(b" ->");
         if let Some(said) = text.take_fault(machine, &wanted, &ops, number) {
             return Err(said);
         }
-        put_reply(&mut wanted, &reply).unwrap();
+        C::put_reply(&mut wanted, &reply).unwrap();
         wanted.push(b'\n');
         put_ops(&mut wanted, machine, &ops).unwrap();
         text.take(&wanted)?;
     }
-    if text.left.is_empty() { Ok(lines.len()) } else { Err(Said::Wrong(text.taken + 1)) }
+    if text.left.is_empty() { Ok(requests.len()) } else { Err(Said::Wrong(text.taken + 1)) }
 }
 
-/// Audits a history of these lines.
-pub fn audit(machine: &Machine, records: &mut Records, lines: &[Line], text: &[u8]) -> Said {
+/// Audits a history of these requests.
+pub fn audit<C: Coordination>(machine: &Machine, records: &mut C, requests: &[C::Request], text: &[u8]) -> Said {
     if text.len() > MOST_BYTES {
         return Said::Long;
     }
-    match walk(machine, records, lines, text) {
+    match walk(machine, records, requests, text) {
         Ok(entries) => Said::Lawful(entries),
         Err(said) => said,
     }

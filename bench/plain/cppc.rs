@@ -1,7 +1,8 @@
 //! `cppc --serial`: the requests of a script for performance, on the domains that processors with a `_CPC` make by their `_PSD`;
-//! a register file in memory; and the history, printed at the end.
+//! a register file in memory; and the history, printed at the end. `audit --cppc` walks over a history with the same state.
 
-use crate::drive::{MOST_OPERATIONS, register, segs};
+use crate::audit::{Coordination, audit};
+use crate::drive::{MOST_OPERATIONS, register, segs, tell};
 use crate::machine;
 use crate::script::{self, Op, Register, lines_of, number, path_of, put_number, put_ops, put_path, write_name};
 use crate::space::{Object, Space};
@@ -249,27 +250,72 @@ fn put(out: &mut impl Write, text: &[u8], number: u64) -> io::Result<()> {
     put_number(out, number)
 }
 
+fn put_request(out: &mut impl Write, request: Request) -> io::Result<()> {
+    let verb: &[u8] = match request.verb {
+        Verb::Desired => b" desired ",
+        Verb::Minimum => b" minimum ",
+        Verb::Maximum => b" maximum ",
+    };
+    put(out, verb, u64::from(request.value))
+}
+
 fn put_reply(out: &mut impl Write, reply: Reply) -> io::Result<()> {
     match reply {
-        Reply::Stands(value) => put(out, b" -> stands ", value),
-        Reply::NoTable => out.write_all(b" -> refused no table"),
-        Reply::Unfit(why) => put(out, b" -> refused unfit ", u64::from(why)),
+        Reply::Stands(value) => put(out, b" stands ", value),
+        Reply::NoTable => out.write_all(b" refused no table"),
+        Reply::Unfit(why) => put(out, b" refused unfit ", u64::from(why)),
         Reply::OutOfRange(lowest, highest) => {
-            put(out, b" -> refused out of range ", lowest)?;
+            put(out, b" refused out of range ", lowest)?;
             put(out, b" ", highest)
         }
-        Reply::Crossed(bound) => put(out, b" -> refused crossed ", bound),
+        Reply::Crossed(bound) => put(out, b" refused crossed ", bound),
     }
 }
 
-/// Makes the requests of a script, and prints their history.
-pub fn cppc(space: &Space, machine: &machine::Machine, text: &[u8], mut out: impl Write) -> io::Result<()> {
-    let plan = plan(space, machine);
+impl Coordination for State<'_> {
+    type Request = Request;
+    type Reply = Reply;
+
+    fn cpu(request: Request) -> u32 {
+        request.cpu
+    }
+
+    fn opening(&mut self, ops: &mut Vec<Op>) {
+        State::opening(self, ops);
+    }
+
+    fn serve(&mut self, request: Request, ops: &mut Vec<Op>) -> Reply {
+        State::serve(self, request, ops).unwrap_or_else(|refusal| refusal)
+    }
+
+    fn put_request(out: &mut Vec<u8>, request: Request) -> io::Result<()> {
+        put_request(out, request)
+    }
+
+    fn put_reply(out: &mut Vec<u8>, reply: &Reply) -> io::Result<()> {
+        put_reply(out, *reply)
+    }
+}
+
+/// The processors' names.
+fn names(space: &Space, machine: &machine::Machine) -> script::Machine {
     let cpu = |cpu: &machine::Cpu| {
         let segs = segs(space, cpu.place);
         script::Cpu { name: segs.concat(), path: path_of(&segs), parent: None, rows: Vec::new(), idle_bound: 0, scales: [None, None] }
     };
-    let names = script::Machine { containers: Vec::new(), cpus: machine.cpus.iter().map(cpu).collect(), domains: Vec::new() };
+    script::Machine { containers: Vec::new(), cpus: machine.cpus.iter().map(cpu).collect(), domains: Vec::new() }
+}
+
+/// Audits a history of the requests of a script, and tells the status.
+pub fn audit_history(space: &Space, machine: &machine::Machine, script: &[u8], text: &[u8], out: impl Write) -> io::Result<u8> {
+    let (plan, names) = (plan(space, machine), names(space, machine));
+    let requests = requests(&plan, &names, script);
+    tell(audit(&names, &mut State::new(&plan), &requests, text), out)
+}
+
+/// Makes the requests of a script, and prints their history.
+pub fn cppc(space: &Space, machine: &machine::Machine, text: &[u8], mut out: impl Write) -> io::Result<()> {
+    let (plan, names) = (plan(space, machine), names(space, machine));
     let requests = requests(&plan, &names, text);
     let mut state = State::new(&plan);
     let mut registers = Vec::with_capacity(MOST_OPERATIONS);
@@ -286,12 +332,8 @@ pub fn cppc(space: &Space, machine: &machine::Machine, text: &[u8], mut out: imp
         put_number(&mut out, number)?;
         out.write_all(b" ")?;
         put_path(&mut out, &names, request.cpu)?;
-        let verb: &[u8] = match request.verb {
-            Verb::Desired => b" desired ",
-            Verb::Minimum => b" minimum ",
-            Verb::Maximum => b" maximum ",
-        };
-        put(&mut out, verb, u64::from(request.value))?;
+        put_request(&mut out, request)?;
+        out.write_all(b" ->")?;
         put_reply(&mut out, reply)?;
         out.write_all(b"\n")?;
         put_ops(&mut out, &names, &registers[seen..until])?;

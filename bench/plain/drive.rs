@@ -2,7 +2,7 @@
 //! by what was asked, and the votes for C states; a register file in memory; and the history, printed at the end. By workers the
 //! records have locks (`workers`). `audit` walks over a history with these records.
 
-use crate::audit::{Said, audit};
+use crate::audit::{Coordination, Said, audit};
 use crate::machine;
 use crate::plan::{self, Sort};
 use crate::script::{
@@ -479,8 +479,33 @@ fn by_workers(machine: Machine, lines: &[Line], is_load: bool, out: impl Write) 
     }
 }
 
+impl Coordination for Records<'_> {
+    type Request = Request;
+    type Reply = Reply;
+
+    fn cpu(request: Request) -> u32 {
+        request.cpu()
+    }
+
+    fn opening(&mut self, ops: &mut Vec<Op>) {
+        Records::opening(self, ops);
+    }
+
+    fn serve(&mut self, request: Request, ops: &mut Vec<Op>) -> Reply {
+        Records::serve(self, request, ops)
+    }
+
+    fn put_request(out: &mut Vec<u8>, request: Request) -> io::Result<()> {
+        put_request(out, request)
+    }
+
+    fn put_reply(out: &mut Vec<u8>, reply: &Reply) -> io::Result<()> {
+        put_reply(out, reply)
+    }
+}
+
 /// Tells what is said of a history: the line, and the status.
-fn tell(said: Said, mut out: impl Write) -> io::Result<u8> {
+pub fn tell(said: Said, mut out: impl Write) -> io::Result<u8> {
     match said {
         Said::Lawful(entries) => writeln!(out, "lawful entries {entries}").and(Ok(0)),
         Said::Wrong(line) => writeln!(io::stderr(), "history: line {line}").and(Ok(8)),
@@ -510,8 +535,8 @@ pub fn drive(space: &Space, machine: machine::Machine, plan: plan::Plan, asked: 
             }
         }
         Asked::History { script, steps, text } => {
-            let lines = lines_of(script, steps);
-            return tell(audit(&machine, &mut Records::new(&machine, &c_states, has_c), &lines, text), out);
+            let requests: Vec<Request> = lines_of(script, steps).iter().map(|line| line.request).collect();
+            return tell(audit(&machine, &mut Records::new(&machine, &c_states, has_c), &requests, text), out);
         }
     }
     Ok(0)

@@ -5,13 +5,13 @@
 //! before; `show` prints each, and `check` reads the tables of processors and prints the plan of
 //! the machine. Which fault a block has it doesn't tell; that of a table it does.
 //! `drive` makes the requests of a script on the machine, and prints their history: by a thread for each processor, or on one
-//! thread. `cppc --serial` does so by requests for performance. `audit` tells whether a history is one that a script allows. `generate` makes a block of so many
-//! clusters, reads it again, makes the requests of a load on its machine by threads, and prints their summary. `shared` makes
-//! requests of one coordinator by several threads.
+//! thread. `cppc --serial` does so by requests for performance. `audit` tells whether a history of either is one that a script allows.
+//! `generate` makes a block of so many clusters, reads it again, makes the requests of a load on its machine by threads, and prints
+//! their summary. `shared` makes requests of one coordinator by several threads.
 //! usage: plain show|rewrite|check [--json] FILE..
 //!        plain drive [--serial] [--step] SCRIPT FILE..
 //!        plain cppc --serial SCRIPT FILE..
-//!        plain audit [--step] SCRIPT HISTORY FILE..
+//!        plain audit [--step|--cppc] SCRIPT HISTORY FILE..
 //!        plain generate N
 //!        plain read|print SCRIPT ROUNDS
 //!        plain shared one-lock|each-lock|each-turn|each-turn-apart one-cluster|eight-clusters|domains THREADS ROUNDS
@@ -95,6 +95,13 @@ fn steer(script: &str, blocks: &[(Vec<u8>, Vec<Term>)]) -> io::Result<ExitCode> 
 /// Tells whether a history is one that a script allows on the machine of the blocks.
 fn audit(script: &str, history: &str, flags: &[String], blocks: &[(Vec<u8>, Vec<Term>)]) -> io::Result<ExitCode> {
     let (script, text) = (std::fs::read(script)?, std::fs::read(history)?);
+    if flags == ["--cppc"] {
+        let space = Space::of(blocks).expect("no place is given twice");
+        let machine = machine::machine(&space).unwrap_or_else(|_| panic!("the objects make a machine"));
+        let status = cppc::audit_history(&space, &machine, &script, &text, io::stdout())?;
+        std::mem::forget(space);
+        return Ok(ExitCode::from(status));
+    }
     drive(blocks, Asked::History { script: &script, steps: !flags.is_empty(), text: &text })
 }
 

@@ -1,14 +1,11 @@
 -- The first line of a text.
 use Rattle.std.proofs.Common.{◌≡◌, ◌<◌, ◌≤◌, ◌+◌, ◌^◌, ◌∙◌, ℕ, length, length-take, List, ◌++◌, get_or, codes, decimal, ap, sym, arith, append_assoc, Option, Some, None}
 use Rattle.std.proofs.lemmas.List.{append_cancel_left}
-use Rattle.pw_plan.specs.declared.plan.Plan.{Plan}
-use Rattle.pw_model.specs.Operations.{opening_ops}
-use Rattle.pw_model.proofs.Bounds.{opening_ops-length}
 use Rattle.pw_text.specs.Lines.{with_feed}
 use Rattle.pw_text.specs.Openings.{opened, opening_line}
-use Rattle.pw_script.specs.Lawful.{Begins}
 use Rattle.acpi_values.specs.declared.operation.Op.{Op}
 use Rattle.pw_audit.specs.inner.Stopping.{WithinOpening}
+use Rattle.pw_history.specs.Asked.{Begins}
 
 abbrev lead : List ℕ
 lead = codes "open -> register fault after "
@@ -35,9 +32,3 @@ number_read text behind rest k e f = e ∙ ap (λ (l : List ℕ). lead ++ l) f �
 pub opened_few : (f : Option ℕ) (ops : List Op) → length (opened f ops) ≤ length ops
 opened_few None ops = omega arith
 opened_few (Some k) ops = let n = length-take k ops in omega arith
-
-pub opening_few : (P : Plan) → length (opening_ops P) + 1 < 2 ^ 32
-opening_few P =
-    let count = opening_ops-length P in
-    let bound = P.sound.domains.opening in
-    omega arith

@@ -2,11 +2,6 @@
 use Rattle.std.proofs.Common.{◌≡◌, ◌<◌, ◌≤◌, ◌+◌, ◌-◌, ◌∙◌, ℕ, suc, Bool, true, false, List, [], ◌∷◌, length, drop, get_or, cond, refl, ap, arith, zero-add, drop-cons, Vec, Global, Some}
 use Rattle.std.specs.HashMap.{HashMap, get_by}
 use Rattle.std.specs.Prelude.{bytes_eq, IfSome, Option, None}
-use Rattle.std.proofs.lemmas.List.{length-map}
-use Rattle.pw_text.specs.Text.{place_text}
-use Rattle.pw_plan.specs.declared.parts.CpuParts.{CpuParts}
-use Rattle.pw_plan.specs.declared.plan.Plan.{Plan}
-use Rattle.pw_script.specs.inner.Paths.{paths_of}
 use Rattle.pw_audit.specs.inner.Looking.{LeadsTo, cpu_by}
 
 pub leads_on : {S : Type 0} (paths : List (List ℕ)) (n : ℕ) (d : List ℕ) (key : Vec ℕ Global) (old new : HashMap (Vec ℕ Global) ℕ S)
@@ -33,7 +28,5 @@ from_below n (c ∷ cs) name = step (bytes_eq c name) (cpu_by (suc n) cs name) (
     step true o h = omega arith
     step false o h = later o h
 
-pub found_exists : (P : Plan) (name : List ℕ) → IfSome (cpu_by 0 (paths_of P) name) (λ p. p < length P.cpus)
-found_exists P name =
-    let size : length (paths_of P) ≡ length P.cpus = length-map P.cpus (λ (c : CpuParts). place_text c.path.segs) in
-    rw size at (rw zero-add at (from_below 0 (paths_of P) name))
+pub found_exists : (texts : List (List ℕ)) (n : ℕ) (name : List ℕ) → length texts ≡ n → IfSome (cpu_by 0 texts name) (λ p. p < n)
+found_exists texts n name size = rw size at (rw zero-add at (from_below 0 texts name))

@@ -5,7 +5,7 @@ use Rattle.std.proofs.lemmas.Bool.{cases_eq, cases_lt}
 use Rattle.std.proofs.lemmas.List.{nil_from_length}
 use Rattle.std.proofs.lemmas.List.Elements.{filter-append}
 use Rattle.acpi_values.specs.declared.operation.Op.{Op}
-use Rattle.pw_audit.specs.Traces.{AreSameOnEach, op_cpu, ops_on}
+use Rattle.pw_audit.specs.Tracing.{AreSameOnEach, op_cpu, ops_on}
 use Rattle.pw_audit.specs.inner.Queues.{AreWithin}
 
 nothing : {x : Op} {xs : List Op} → x ∷ xs ≡ [] → ⊥

@@ -3,9 +3,9 @@ use Rattle.std.proofs.Common.{◌≡◌, ◌<◌, ◌≤◌, ◌+◌, ◌∙◌,
 use Rattle.std.proofs.lemmas.Grind.{flat_map-append}
 use Rattle.std.proofs.lemmas.List.{get_or-map, length-append, length-drop, length-map, map-append, take-map, take_more}
 use Rattle.acpi_values.specs.declared.operation.Op.{Op}
-use Rattle.pw_plan.specs.declared.plan.Plan.{Plan}
 use Rattle.pw_text.specs.Lines.{text_of, with_feed}
-use Rattle.pw_script.specs.HistoryText.{op_line}
+use Rattle.pw_history.specs.Wording.{Wording}
+use Rattle.pw_history.specs.HistoryText.{op_line}
 use Rattle.pw_history.proofs.Nexts.{taken as next_of}
 use Rattle.pw_audit.specs.declared.answer.AuditFault.{AuditFault}
 use Rattle.pw_audit.specs.declared.answer.AuditFault.TheVariants.{TooLong, Wrong, Unfinished, Memory}
@@ -76,39 +76,40 @@ module _ {X : Type 0} (f : X → List ℕ) where
       stops_here (map f xs) n k left rest line fault (omega (arith, lt, length-map xs f))
       (is ∙ ap (λ (ls : List (List ℕ)). text_of ls ++ rest) (sym (take_mapped k xs))) (same ∙ ap with_feed (sym (get_or-map f xs k d [] lt))) h
 
--- # Operations that are passed over
-
--- in the order in which they are listed
-pub listed_read : (P : Plan) (ops : List Op) (left rest : List ℕ) → left ≡ text_of (map (op_line P) ops) ++ rest → OpsRead History P ops left rest
-listed_read P ops left rest is = record { lines = map (op_line P) ops; tells = refl; is = is }
-
 after_these : (ls : List (List ℕ)) (k : ℕ) (l : List ℕ) (more : List (List ℕ)) → k < length ls → take k ls ++ l ∷ more ≡ ls → l ≡ get_or ls k []
 after_these ls k l more lt same = next_of k ls [] l more lt (same ∙ sym (append-nil ls))
 
 left_over : (ls : List (List ℕ)) (k : ℕ) → k < length ls → 0 < length (drop k ls)
 left_over ls k lt = let n = length-drop k ls in omega arith
 
-pub listed_stops : (P : Plan) (ops : List Op) (n : ℕ) (left : List ℕ) (fault : AuditFault) → StopsIn (map (op_line P) ops) n left fault → StopsInOps History P ops n left fault
-listed_stops P ops n left (TooLong bound) stops = absurd stops
-listed_stops P ops n left (Wrong line) (k, breaks, at) =
-    let ls = map (op_line P) ops in
-    let size = length-take k ls in
-    let lt = breaks.within in (
-      record {
-        done = take k ls;
-        later = drop k ls;
-        tells = take-append-drop k ls;
-        lacks = left_over ls k lt;
-        rest = breaks.rest;
-        is = breaks.is;
-        some = breaks.some;
-        other = λ l more same b. breaks.other (record { rest = b.rest; is = b.is ∙ ap (λ (x : List ℕ). with_feed x ++ b.rest) (after_these ls k l more lt same) });
-      },
-      omega arith,
-    )
-listed_stops P ops n left (Unfinished lines) (k, ends, at) =
-    let ls = map (op_line P) ops in
-    let size = length-take k ls in
-    let lt = ends.within in
-    (record { done = take k ls; later = drop k ls; tells = take-append-drop k ls; lacks = left_over ls k lt; is = ends.is }, omega arith)
-listed_stops P ops n left Memory stops = tt
+-- # Operations that are passed over
+
+module _ {Plan Request Reply Entry State : Type 0} (W : Wording Plan Request Reply Entry State) where
+  -- in the order in which they are listed
+  pub listed_read : (plan : Plan) (ops : List Op) (left rest : List ℕ) → left ≡ text_of (map (op_line W plan) ops) ++ rest → OpsRead W History plan ops left rest
+  listed_read plan ops left rest is = record { lines = map (op_line W plan) ops; tells = refl; is = is }
+
+  pub listed_stops : (plan : Plan) (ops : List Op) (n : ℕ) (left : List ℕ) (fault : AuditFault) → StopsIn (map (op_line W plan) ops) n left fault → StopsInOps W History plan ops n left fault
+  listed_stops plan ops n left (TooLong bound) stops = absurd stops
+  listed_stops plan ops n left (Wrong line) (k, breaks, at) =
+      let ls = map (op_line W plan) ops in
+      let size = length-take k ls in
+      let lt = breaks.within in (
+        record {
+          done = take k ls;
+          later = drop k ls;
+          tells = take-append-drop k ls;
+          lacks = left_over ls k lt;
+          rest = breaks.rest;
+          is = breaks.is;
+          some = breaks.some;
+          other = λ l more same b. breaks.other (record { rest = b.rest; is = b.is ∙ ap (λ (x : List ℕ). with_feed x ++ b.rest) (after_these ls k l more lt same) });
+        },
+        omega arith,
+      )
+  listed_stops plan ops n left (Unfinished lines) (k, ends, at) =
+      let ls = map (op_line W plan) ops in
+      let size = length-take k ls in
+      let lt = ends.within in
+      (record { done = take k ls; later = drop k ls; tells = take-append-drop k ls; lacks = left_over ls k lt; is = ends.is }, omega arith)
+  listed_stops plan ops n left Memory stops = tt

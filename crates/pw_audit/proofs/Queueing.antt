@@ -7,12 +7,9 @@ use Rattle.std.proofs.lemmas.Bool.{eqb-false}
 use Rattle.std.proofs.lemmas.List.{get_or-map, get_or-set_same, get_or-set_other, length-map, map-append, map-set, replicate_more, reverse-append, reverse-reverse, take_more}
 use Rattle.std.proofs.lemmas.List.Elements.{filter-append}
 use Rattle.acpi_values.specs.declared.operation.Op.{Op}
-use Rattle.pw_plan.specs.declared.request.Request.{Request}
-use Rattle.pw_plan.specs.Requests.{cpu_of}
-use Rattle.pw_notice.specs.Limits.{is_of, own}
-use Rattle.pw_script.specs.declared.script.Line.{Line as line}
-use Rattle.pw_script.specs.Reading.{requests_of}
-use Rattle.pw_audit.specs.Traces.{op_cpu, ops_on}
+use Rattle.pw_history.specs.Wording.{Wording}
+use Rattle.pw_history.specs.Asked.{own}
+use Rattle.pw_audit.specs.Tracing.{op_cpu, ops_on}
 use Rattle.pw_audit.specs.inner.Queues.{Takes, left_of}
 
 abbrev pub queue_of : {X : Type 0} → Vec X Global → List X
@@ -77,26 +74,24 @@ take_told vs i n m v w (Some q) lt is items rest size = record {
   others = λ k ne. queue_other vs i k w ne;
 }
 
--- # Lines from the last one on
-
-abbrev one_own : ℕ → Request → List Request
-one_own p q = cond (cpu_of q == p) (q ∷ []) []
-
-own_last : (p : ℕ) (ls : List line) (l : line) → own p (requests_of (ls ++ l ∷ [])) ≡ own p (requests_of ls) ++ one_own p l.request
-own_last p ls l = ap (own p) (map-append (λ (x : line). x.request) ls (l ∷ [])) ∙ filter-append (is_of p) (requests_of ls) (l.request ∷ [])
-
 onto : {X : Type 0} (b : Bool) (q : X) (ys : List X) → cond b (q ∷ ys) ys ≡ cond b (q ∷ []) [] ++ ys
 onto true q ys = refl
 onto false q ys = refl
 
-pub line_put : (p n k : ℕ) (all : List line) (d : line) (old new : List Request) → n < length all → own p (requests_of (take (n + 1) all)) ++ old ≡ own p (requests_of all)
-    → k ≡ cpu_of (get_or all n d).request → new ≡ cond (k == p) ((get_or all n d).request ∷ old) old → own p (requests_of (take n all)) ++ new ≡ own p (requests_of all)
-line_put p n k all d old new lt was cpu more =
-    let l = get_or all n d in
-    let ls = take n all in
-    ap (λ (x : List Request). own p (requests_of ls) ++ x) (more ∙ ap (λ (c : ℕ). cond (c == p) (l.request ∷ old) old) cpu ∙ onto (cpu_of l.request == p) l.request old)
-    ∙ sym (append_assoc (own p (requests_of ls)) (one_own p l.request) old)
-    ∙ ap (λ (x : List Request). x ++ old) (sym (own_last p ls l) ∙ ap (λ (x : List line). own p (requests_of x)) (sym (take_more all n d lt))) ∙ was
+-- # Requests from the last one on
+
+module _ {Plan Request Reply Entry State : Type 0} (W : Wording Plan Request Reply Entry State) where
+  abbrev one_own : ℕ → Request → List Request
+  one_own p q = cond (W.cpu q == p) (q ∷ []) []
+
+  pub request_put : (p n k : ℕ) (all : List Request) (d : Request) (old new : List Request) → n < length all → own W p (take (n + 1) all) ++ old ≡ own W p all → k ≡ W.cpu (get_or all n d)
+      → new ≡ cond (k == p) (get_or all n d ∷ old) old → own W p (take n all) ++ new ≡ own W p all
+  request_put p n k all d old new lt was cpu more =
+      let q = get_or all n d in
+      let qs = take n all in
+      ap (λ (x : List Request). own W p qs ++ x) (more ∙ ap (λ (c : ℕ). cond (c == p) (q ∷ old) old) cpu ∙ onto (W.cpu q == p) q old)
+      ∙ sym (append_assoc (own W p qs) (one_own p q) old)
+      ∙ ap (λ (x : List Request). x ++ old) (sym (filter-append (λ r. W.cpu r == p) qs (q ∷ [])) ∙ ap (λ (x : List Request). own W p x) (sym (take_more all n d lt))) ∙ was
 
 -- # Operations from the last one on
 

@@ -6,7 +6,7 @@ use Rattle.std.proofs.Math.Seq.{get_or-append_seam, take-append_seam}
 use Rattle.std.proofs.lemmas.Bool.{cases_order}
 use Rattle.std.proofs.lemmas.List.{get_or_append_left, length-append}
 use Rattle.std.proofs.lemmas.Slice.Eq.{bytes_eq-Decides}
-use Rattle.pw_script.specs.Lawful.{Begins}
+use Rattle.pw_history.specs.Asked.{Begins}
 use Rattle.pw_audit.specs.inner.Looking.{IsWord}
 
 -- # Stripping

@@ -1,33 +1,23 @@
 -- Whether a text is a whole one of a script, and else which line can't be one of it.
-use Rattle.std.specs.Prelude.{◌≡◌, ◌<◌, ◌≤◌, ℕ, List, length, take}
-use Rattle.std.specs.List.{AllByRecursion}
+use Rattle.std.specs.Prelude.{ℕ, List}
 use Rattle.pw_plan.specs.declared.plan.Plan.{Plan}
 use Rattle.pw_plan.specs.declared.request.Request.{Request}
-use Rattle.pw_model.specs.declared.entry.HistoryEntry.{HistoryEntry}
-use Rattle.pw_script.specs.HistoryText.{history_text}
-use Rattle.pw_script.specs.Lawful.{Lawful}
-use Rattle.pw_script.specs.Wholes.{BeginsWhole, IsWhole, pieces_of}
+use Rattle.pw_script.specs.HistoryText.{power_words}
 use Rattle.pw_audit.specs.declared.answer.Audit.{Audit}
-use Rattle.pw_audit.specs.declared.answer.TheConstants.{MOST_BYTES}
+use Rattle.pw_audit.specs.Judging as any
 
 -- no more bytes than an audit reads
 abbrev pub IsShort : List ℕ → Type 0
-IsShort text = length text ≤ MOST_BYTES
+IsShort = any.IsShort
 
 -- Line k, counted from 1, is wrong: the first k lines aren't the first k lines of any whole text, and fewer of them are.
-pub record IsWrong (P : Plan) (asked : List Request) (text : List ℕ) (k : ℕ) : Type 0 where
-  pub some : 1 ≤ k
-  pub within : k ≤ length (pieces_of text)
-  pub wrong : BeginsWhole P asked (take k (pieces_of text)) → ⊥
-  pub least : (j : ℕ) → j < k → BeginsWhole P asked (take j (pieces_of text))
+abbrev pub IsWrong : Plan → List Request → List ℕ → ℕ → Type 0
+IsWrong = any.IsWrong power_words
 
 -- No line is wrong, and yet the text isn't whole.
-pub record IsUnfinished (P : Plan) (asked : List Request) (text : List ℕ) : Type 0 where
-  pub begins : BeginsWhole P asked (pieces_of text)
-  pub lacks : IsWhole P asked text → ⊥
+abbrev pub IsUnfinished : Plan → List Request → List ℕ → Type 0
+IsUnfinished = any.IsUnfinished power_words
 
 -- The text is that of this opening and these entries, which may come of the script; their seats are 0.
-pub record Shows (P : Plan) (asked : List Request) (text : List ℕ) (a : Audit) : Type 0 where
-  pub lawful : Lawful P asked a.opening a.entries
-  pub is : text ≡ history_text P a.opening a.entries
-  pub seats : AllByRecursion (λ (e : HistoryEntry). e.seat ≡ 0) a.entries
+abbrev pub Shows : Plan → List Request → List ℕ → Audit → Type 0
+Shows P asked text a = any.Shows power_words P asked text a.opening a.entries

@@ -1,119 +1,72 @@
--- What the text of a history and a trace of a running system have of a history.
-use Rattle.std.specs.Prelude.{◌≡◌, ◌==◌, ◌⊎◌, ◌+◌, ◌<◌, ◌≤◌, ◌++◌, ◌∷◌, ℕ, List, [], map, filter, take, length, codes, Option, Some, None}
-use Rattle.std.specs.List.{AllByRecursion}
+-- What the text of a history and a trace of a running system have of a history of processor power, by the words of `Tracing.antt`.
+use Rattle.std.specs.Prelude.{ℕ, List, Option}
 use Rattle.acpi_values.specs.declared.operation.Op.{Op}
-use Rattle.acpi_values.specs.declared.operation.Op.TheVariants.{Set, Enter}
 use Rattle.pw_plan.specs.declared.plan.Plan.{Plan}
 use Rattle.pw_plan.specs.declared.request.Request.{Request}
 use Rattle.pw_model.specs.declared.entry.HistoryEntry.{HistoryEntry}
 use Rattle.pw_model.specs.declared.state.State.{State}
-use Rattle.pw_model.specs.States.{opening}
-use Rattle.pw_model.specs.History.{after_entry, entry_ops}
-use Rattle.pw_text.specs.Lines.{text_of}
-use Rattle.pw_script.specs.HistoryText.{history_text, op_line, opening_lines}
-use Rattle.pw_script.specs.Lawful.{Lawful}
-use Rattle.pw_script.specs.Wholes.{entry_line, pieces_of}
+use Rattle.pw_script.specs.HistoryText.{power_words}
 use Rattle.pw_audit.specs.declared.answer.Audit.{Audit}
 use Rattle.pw_audit.specs.declared.form.Form.{Form}
-use Rattle.pw_audit.specs.declared.form.Form.TheVariants.{History, Trace}
+use Rattle.pw_audit.specs.Tracing as any
 
 -- # Operations
 
 -- the processor that an operation is on
 abbrev pub op_cpu : Op → ℕ
-op_cpu (Set p r v) = p
-op_cpu (Enter p composite) = p
+op_cpu = any.op_cpu
 
 -- the operations on processor p
 abbrev pub ops_on : ℕ → List Op → List Op
-ops_on p ops = filter (λ o. op_cpu o == p) ops
+ops_on = any.ops_on
 
 -- On each processor they are the same operations, in the same order.
 abbrev pub AreSameOnEach : List Op → List Op → Type 0
-AreSameOnEach xs ys = (p : ℕ) → ops_on p xs ≡ ops_on p ys
-
--- the lines of these operations, in any order of the processors
-pub record AreTraced (P : Plan) (ops : List Op) (ls : List (List ℕ)) : Type 0 where
-  pub done : List Op
-  pub same : AreSameOnEach done ops
-  pub is : ls ≡ map (op_line P) done
+AreSameOnEach = any.AreSameOnEach
 
 -- the lines of an entry's operations
 abbrev pub TellsOps : Form → Plan → List Op → List (List ℕ) → Type 0
-TellsOps History P ops ls = ls ≡ map (op_line P) ops
-TellsOps Trace P ops ls = AreTraced P ops ls
+TellsOps = any.TellsOps power_words
 
--- # Entries
+-- # Lines
 
--- the lines of entry n, asked in state S, and then some of which this holds
-pub record TellsFirst (form : Form) (P : Plan) (S : State) (n : ℕ) (e : HistoryEntry) (Later : List (List ℕ) → Type 0) (ls : List (List ℕ))
-    : Type 0 where
-  pub ops : List (List ℕ)
-  pub tells : TellsOps form P (entry_ops P S e) ops
-  pub later : List (List ℕ)
-  pub goes_on : Later later
-  pub is : ls ≡ entry_line P S n e ∷ ops ++ later
-
--- the lines of the entries from n on
+-- those of the entries from n on, asked in state S
 abbrev pub Tells : Form → Plan → State → ℕ → List HistoryEntry → List (List ℕ) → Type 0
-Tells form P S n [] ls = ls ≡ []
-Tells form P S n (e ∷ es) ls = TellsFirst form P S n e (λ later. Tells form P (after_entry P S e) (n + 1) es later) ls
+Tells = any.Tells power_words
 
--- # The opening
-
--- its lines; those of a trace may be the line `open` alone
+-- those of the opening; those of a trace may be the line `open` alone
 abbrev pub Opens : Form → Plan → Option ℕ → List (List ℕ) → Type 0
-Opens History P o ls = ls ≡ opening_lines P o
-Opens Trace P None ls = (ls ≡ codes "open" ∷ []) ⊎ (ls ≡ opening_lines P None)
-Opens Trace P (Some k) ls = ls ≡ opening_lines P (Some k)
+Opens = any.Opens power_words
 
 -- # Texts
 
 -- The text tells of an opening and these entries.
-pub record TextTells (form : Form) (P : Plan) (o : Option ℕ) (es : List HistoryEntry) (text : List ℕ) : Type 0 where
-  pub first : List (List ℕ)
-  pub later : List (List ℕ)
-  pub opens : Opens form P o first
-  pub tells : Tells form P (opening P) 1 es later
-  pub is : text ≡ text_of (first ++ later)
+abbrev pub TextTells : Form → Plan → Option ℕ → List HistoryEntry → List ℕ → Type 0
+TextTells = any.TextTells power_words
 
 -- The text is that of what may come of a script's lines.
-pub record IsWholeAs (form : Form) (P : Plan) (asked : List Request) (text : List ℕ) : Type 0 where
-  pub o : Option ℕ
-  pub entries : List HistoryEntry
-  pub lawful : Lawful P asked o entries
-  pub is : TextTells form P o entries text
+abbrev pub IsWholeAs : Form → Plan → List Request → List ℕ → Type 0
+IsWholeAs = any.IsWholeAs power_words
 
 -- These are the first lines of a whole text.
-pub record BeginsAs (form : Form) (P : Plan) (asked : List Request) (lines : List (List ℕ)) : Type 0 where
-  pub text : List ℕ
-  pub whole : IsWholeAs form P asked text
-  pub first : take (length lines) (pieces_of text) ≡ lines
+abbrev pub BeginsAs : Form → Plan → List Request → List (List ℕ) → Type 0
+BeginsAs = any.BeginsAs power_words
 
 -- Line k, counted from 1, is wrong: the first k lines aren't the first k lines of any whole text, and fewer of them are.
-pub record IsWrongAs (form : Form) (P : Plan) (asked : List Request) (text : List ℕ) (k : ℕ) : Type 0 where
-  pub some : 1 ≤ k
-  pub within : k ≤ length (pieces_of text)
-  pub wrong : BeginsAs form P asked (take k (pieces_of text)) → ⊥
-  pub least : (j : ℕ) → j < k → BeginsAs form P asked (take j (pieces_of text))
+abbrev pub IsWrongAs : Form → Plan → List Request → List ℕ → ℕ → Type 0
+IsWrongAs = any.IsWrongAs power_words
 
 -- No line is wrong, and yet the text isn't whole.
-pub record IsUnfinishedAs (form : Form) (P : Plan) (asked : List Request) (text : List ℕ) : Type 0 where
-  pub begins : BeginsAs form P asked (pieces_of text)
-  pub lacks : IsWholeAs form P asked text → ⊥
+abbrev pub IsUnfinishedAs : Form → Plan → List Request → List ℕ → Type 0
+IsUnfinishedAs = any.IsUnfinishedAs power_words
 
 -- The text tells of this opening and these entries, which may come of the script; their seats are 0.
-pub record ShowsAs (form : Form) (P : Plan) (asked : List Request) (text : List ℕ) (a : Audit) : Type 0 where
-  pub lawful : Lawful P asked a.opening a.entries
-  pub is : TextTells form P a.opening a.entries text
-  pub seats : AllByRecursion (λ (e : HistoryEntry). e.seat ≡ 0) a.entries
+abbrev pub ShowsAs : Form → Plan → List Request → List ℕ → Audit → Type 0
+ShowsAs form P asked text a = any.ShowsAs power_words form P asked text a.opening a.entries
 
 -- # What a trace is to a history
 
 -- The history's text has the entries of the trace, with the operations of the opening, and those of each entry in their
 -- order.
-pub record IsSortedFrom (P : Plan) (trace history : List ℕ) : Type 0 where
-  pub o : Option ℕ
-  pub entries : List HistoryEntry
-  pub tells : TextTells Trace P o entries trace
-  pub is : history ≡ history_text P o entries
+abbrev pub IsSortedFrom : Plan → List ℕ → List ℕ → Type 0
+IsSortedFrom = any.IsSortedFrom power_words

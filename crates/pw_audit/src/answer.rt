@@ -2,6 +2,7 @@ ghost use Rattle.std.specs.Prelude.{◌≡◌};
 ghost use Rattle.pw_audit.specs.declared.answer.AuditFault.TheVariants as faults;
 
 use pw_base::{List, Memory};
+use pw_cppc::CppcEntry;
 use pw_model::HistoryEntry;
 use std::alloc::AllocFailed;
 
@@ -15,6 +16,15 @@ pub struct Audit {
     pub opening: Option<u32>,
     /// The entries, each with the seat 0, since a text doesn't tell seats.
     pub entries: List<HistoryEntry>,
+}
+
+/// What a whole text of requests for performance shows.
+#[derive(Drop)]
+pub struct CppcAudit {
+    /// How many operations were done where the opening was ended by a fault.
+    pub opening: Option<u32>,
+    /// The entries, each with the seat 0, since a text doesn't tell seats.
+    pub entries: List<CppcEntry>,
 }
 
 /// Why a text isn't whole: the first of these that holds.

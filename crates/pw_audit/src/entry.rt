@@ -1,67 +1,25 @@
 //! The lines of an entry.
 ghost use Rattle.std.specs.Prelude.{◌≡◌, ◌<◌, ◌≤◌, ◌+◌, ◌^◌, length, take, IfErr, IfOk, if◌then◌else◌, ◌==◌, ◌-◌};
-ghost use Rattle.pw_model.specs.States.{IsState};
-ghost use Rattle.pw_script.specs.inner.Paths.{paths_of};
-ghost use Rattle.pw_script.specs.Telling.{HasSegments};
+ghost use Rattle.pw_audit.specs.inner.Heading.{AreAllPaths};
 ghost use Rattle.pw_audit.specs.inner.Looking.{LeadsTo};
+ghost use Rattle.pw_audit.specs.inner.Outcomes.{PlanTells};
 ghost use Rattle.pw_audit.specs.inner.Queues.{AreWithin, EachOwn};
-ghost use Rattle.pw_audit.specs.inner.Stopping.{OpsRead, StopsAtEntry, StopsInOps, entry_with};
+ghost use Rattle.pw_audit.specs.inner.Stopping.{OpsRead, StopsAtEntry, StopsInOps};
 ghost use Rattle.pw_audit.specs.inner.Walking.{Steps};
 
 use crate::answer::AuditFault;
 use crate::form::Form;
 use crate::head::read_head;
+use crate::kind::Audited;
 use crate::matching::pass_ops;
-use crate::names::Names;
 use crate::outcome::read_outcome;
 use crate::queues::Queues;
 use crate::traced::pass_traced;
 use acpi_values::Op;
-use pw_core::{Ops, State};
-use pw_model::HistoryEntry;
-use pw_plan::{ANY_LATENCY, Request};
+use pw_regs::Ops;
+use pw_text::PathTexts;
 use std::alloc::Global;
 use std::collections::HashMap;
-
-/// An entry of seat 0, of a processor.
-fn plain(cpu: u32, code: u32, argument: u32, tolerance: u32, fault: u32) -> HistoryEntry
-    ensures { result ≡ record {
-      seat = 0;
-      cpu = cpu;
-      code = code;
-      argument = argument;
-      tolerance = tolerance;
-      fault = fault;
-    } }
-{
-    HistoryEntry {
-        seat: 0,
-        cpu,
-        code,
-        argument,
-        tolerance,
-        fault,
-    }
-}
-
-/// The entry of a request, with this fault.
-#[tactic(auto, unfolding(pw_model::specs::States::any_latency))]
-fn entry_with(request: Request, fault: u32) -> HistoryEntry
-    ensures { result ≡ entry_with request fault }
-{
-    match request {
-        Request::Idle {
-            cpu,
-            state,
-            tolerance,
-        } => plain(cpu, 1, state, tolerance, fault),
-        Request::Wake { cpu } => plain(cpu, 2, 0, ANY_LATENCY, fault),
-        Request::Perf { cpu, index } => plain(cpu, 3, index, ANY_LATENCY, fault),
-        Request::Throttle { cpu, index } => plain(cpu, 4, index, ANY_LATENCY, fault),
-        Request::PerfLimit { cpu, n } => plain(cpu, 5, n, ANY_LATENCY, fault),
-        Request::ThrottleLimit { cpu, n } => plain(cpu, 6, n, ANY_LATENCY, fault),
-    }
-}
 
 /// The operations that were done before a fault, all where there is none.
 fn done_before(ops: &[Op], fault: u32) -> &[Op]
@@ -75,69 +33,84 @@ fn done_before(ops: &[Op], fault: u32) -> &[Op]
 }
 
 /// Passes over the lines of an entry's operations, which should come behind so many lines.
-fn pass_done<'a>(
+fn pass_done<'a, T: Audited>(
     form: Form,
     alloc: Global,
     line: &mut Vec<u8>,
-    names: &Names,
+    plan: &T::Plan,
+    paths: &PathTexts,
     index: &HashMap<Vec<u8>, u32>,
     done: &[Op],
     before: u32,
     left: &'a [u8],
 ) -> Result<&'a [u8], AuditFault>
-    requires segments { HasSegments names.now }
-    requires index { LeadsTo 0 (paths_of names.now) index.now }
-    requires within { AreWithin (length names.now.cpus) done.now }
+    requires laws { PlanTells T.words plan.now T.is_narrow T.is_narrow_request }
+    requires paths { AreAllPaths T.words plan.now paths.now }
+    requires index { LeadsTo 0 paths.now index.now }
+    requires within { AreWithin (T.words.cpus plan.now) done.now }
     requires short { before + length left.now < 2 ^ 32 }
-    ensures ok { IfOk result (λ rest. OpsRead form names.now done.now left.now rest.now) }
-    ensures stops { IfErr result (StopsInOps form names.now done.now before left.now) }
+    ensures ok { IfOk result (λ rest. OpsRead T.words form plan.now done.now left.now rest.now) }
+    ensures stops { IfErr result (StopsInOps T.words form plan.now done.now before left.now) }
 {
     match form {
-        Form::History => pass_ops(line, names, done, before, left),
-        Form::Trace => pass_traced(alloc, line, names, index, done, before, left),
+        Form::History => pass_ops(line, paths, done, before, left),
+        Form::Trace => pass_traced::<T>(alloc, line, plan, paths, index, done, before, left),
     }
 }
 
 /// The entry that comes next in a text, asked in this state, and what stands behind its lines and how many
 /// lines stand before that. Leaves the state after the entry.
-pub(crate) fn read_entry<'a>(
+pub(crate) fn read_entry<'a, T: Audited>(
     form: Form,
     alloc: Global,
     line: &mut Vec<u8>,
-    names: &Names,
+    plan: &T::Plan,
+    paths: &PathTexts,
     index: &HashMap<Vec<u8>, u32>,
-    asked: &mut Queues<Request>,
-    state: &mut State,
+    asked: &mut Queues<T::Request>,
+    state: &mut T::State,
     ops: &mut Ops,
     number: u64,
     before: u32,
     left: &'a [u8],
-) -> Result<(HistoryEntry, u32, &'a [u8]), AuditFault>
-    requires segments { HasSegments names.now }
-    requires index { LeadsTo 0 (paths_of names.now) index.now }
-    requires size { length asked.old ≡ length names.now.cpus }
-    requires own { EachOwn asked.old }
-    requires fits { IsState names.now state.old }
-    requires room { 256 ≤ ops.old.capacity }
+) -> Result<(T::Entry, u32, &'a [u8]), AuditFault>
+    requires laws { PlanTells T.words plan.now T.is_narrow T.is_narrow_request }
+    requires paths { AreAllPaths T.words plan.now paths.now }
+    requires index { LeadsTo 0 paths.now index.now }
+    requires size { length asked.old ≡ T.words.cpus plan.now }
+    requires own { EachOwn T.words asked.old }
+    requires fits { T.fits plan.now state.old }
+    requires room { T.most plan.now ≤ ops.old.capacity }
     requires some { 0 < length left.now }
     requires short { before + length left.now < 2 ^ 32 }
-    ensures steps { IfOk result (λ r. Steps form names.now state.old number asked.old before left.now
-        r.0 state.new asked.new r.1 r.2.now) }
+    ensures steps { IfOk result (λ r. Steps T.words T.fits form plan.now state.old number asked.old before
+        left.now r.0 state.new asked.new r.1 r.2.now) }
     ensures room { ops.new.capacity ≡ ops.old.capacity }
     ensures stops { IfErr result (
-        StopsAtEntry form names.now state.old number asked.old before left.now) }
+        StopsAtEntry T.words form plan.now state.old number asked.old before left.now) }
 {
     let wrong = AuditFault::Wrong { line: before + 1 };
-    let Some((request, behind)) = read_head(line, names, index, asked, number, left)? else {
+    let Some(head) = read_head::<T>(line, plan, paths, index, asked, number, left)? else {
         return Err(wrong);
     };
-    let Some((fault, rest)) = read_outcome(line, names.plan(), state, ops, request, behind)? else {
+    let request = head.0;
+    let Some((fault, rest)) = read_outcome::<T>(line, plan, state, ops, request, head.1)? else {
         return Err(wrong);
     };
     let done = done_before(ops.list(), fault);
-    let next = pass_done(form, alloc, line, names, index, done, before + 1, rest)?;
+    let next = pass_done::<T>(
+        form,
+        alloc,
+        line,
+        plan,
+        paths,
+        index,
+        done,
+        before + 1,
+        rest,
+    )?;
     Ok((
-        entry_with(request, fault),
+        T::entry(request, fault),
         before + 1 + done.len() as u32,
         next,
     ))

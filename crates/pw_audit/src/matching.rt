@@ -1,15 +1,16 @@
 //! Texts that begin with others.
 ghost use Rattle.std.specs.Prelude.{◌≡◌, ◌<◌, ◌+◌, ◌^◌, ◌∷◌, ◌++◌, ℕ, List, length, map, IfErr, IfOk, MatchOption};
 ghost use Rattle.pw_text.specs.Lines.{text_of};
-ghost use Rattle.pw_script.specs.HistoryText.{op_line};
-ghost use Rattle.pw_script.specs.Lawful.{Begins};
+ghost use Rattle.pw_text.specs.HistoryText.{op_line_by};
+ghost use Rattle.pw_text.specs.Paths.{text_at};
+ghost use Rattle.pw_history.specs.Asked.{Begins};
 ghost use Rattle.pw_audit.specs.inner.Looking.{IsWord};
 ghost use Rattle.pw_audit.specs.inner.Stopping.{MissesLine, StopsIn};
 
 use crate::answer::AuditFault;
-use crate::names::Names;
 use crate::operations::push_op_line;
 use acpi_values::Op;
+use pw_text::PathTexts;
 
 /// What follows a text at the start of another, if that begins with it.
 pub(crate) fn strip<'a>(left: &'a [u8], text: &[u8]) -> Option<&'a [u8]>
@@ -51,20 +52,21 @@ fn pass<'a>(line: &[u8], passed: u32, left: &'a [u8]) -> Result<&'a [u8], AuditF
 /// Passes over the lines of operations, which should come behind so many lines.
 pub(crate) fn pass_ops<'a>(
     line: &mut Vec<u8>,
-    names: &Names,
+    paths: &PathTexts,
     ops: &[Op],
     before: u32,
     left: &'a [u8],
 ) -> Result<&'a [u8], AuditFault>
     requires { before + length left.now < 2 ^ 32 }
-    ensures ok { IfOk result (λ rest. left.now ≡ text_of (map (op_line names.now) ops.now) ++ rest.now) }
-    ensures stops { IfErr result (StopsIn (map (op_line names.now) ops.now) before left.now) }
+    ensures ok { IfOk result (λ rest.
+        left.now ≡ text_of (map (op_line_by (text_at paths.now)) ops.now) ++ rest.now) }
+    ensures stops { IfErr result (StopsIn (map (op_line_by (text_at paths.now)) ops.now) before left.now) }
 {
     let mut rest = left;
     let mut passed = before;
     for op in ops {
         line.clear();
-        push_op_line(line, names, op)?;
+        push_op_line(line, paths, op)?;
         rest = pass(line.as_slice(), passed, rest)?;
         passed += 1;
     }

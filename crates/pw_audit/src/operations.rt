@@ -3,13 +3,13 @@ ghost use Rattle.std.specs.Prelude.{◌≡◌, ◌∷◌, ◌++◌, [], codes, d
 ghost use Rattle.std.specs.List.{join_with_byte};
 ghost use Rattle.pw_text.specs.Lines.{with_feed};
 ghost use Rattle.pw_text.specs.Text.{hex_text};
-ghost use Rattle.pw_text.specs.HistoryText.{register_text};
-ghost use Rattle.pw_script.specs.HistoryText.{op_line, path_of};
+ghost use Rattle.pw_text.specs.HistoryText.{op_line_by, register_text};
+ghost use Rattle.pw_text.specs.Paths.{text_at};
 
-use crate::names::Names;
 use crate::words::{push, push_decimal, push_hex, push_labelled};
 use acpi_values::{Op, Register};
 use pw_base::Memory;
+use pw_text::PathTexts;
 
 /// Puts the fields of a register, with commas between.
 fn push_fields(line: &mut Vec<u8>, register: &Register) -> Result<(), Memory>
@@ -38,16 +38,16 @@ fn push_register(line: &mut Vec<u8>, register: &Register) -> Result<(), Memory>
 /// Puts what is done to a register of a processor.
 fn push_target(
     line: &mut Vec<u8>,
-    names: &Names,
+    paths: &PathTexts,
     verb: &[u8],
     cpu: u32,
     register: &Register,
 ) -> Result<(), Memory>
     ensures { OnOk result (line.new.items ≡ line.old.items
-        ++ (verb.now ++ (path_of names.now cpu ++ (32 ∷ register_text register.now)))) }
+        ++ (verb.now ++ (text_at paths.now cpu ++ (32 ∷ register_text register.now)))) }
 {
     push(line, verb)?;
-    push(line, names.path(cpu))?;
+    push(line, paths.path(cpu))?;
     push(line, b" ")?;
     push_register(line, register)
 }
@@ -55,40 +55,41 @@ fn push_target(
 /// Puts that a value is set.
 fn push_set(
     line: &mut Vec<u8>,
-    names: &Names,
+    paths: &PathTexts,
     cpu: u32,
     register: &Register,
     value: u64,
 ) -> Result<(), Memory>
     ensures { OnOk result (line.new.items ≡ line.old.items
-        ++ ((codes "  set " ++ (path_of names.now cpu ++ (32 ∷ register_text register.now)))
+        ++ ((codes "  set " ++ (text_at paths.now cpu ++ (32 ∷ register_text register.now)))
         ++ (32 ∷ hex_text value))) }
 {
-    push_target(line, names, b"  set ", cpu, register)?;
+    push_target(line, paths, b"  set ", cpu, register)?;
     push(line, b" ")?;
     push_hex(line, value)
 }
 
 /// Puts an operation, without a line feed.
-fn push_op(line: &mut Vec<u8>, names: &Names, op: &Op) -> Result<(), Memory>
-    ensures { OnOk result (line.new.items ≡ line.old.items ++ op_line names.now op.now) }
+fn push_op(line: &mut Vec<u8>, paths: &PathTexts, op: &Op) -> Result<(), Memory>
+    ensures { OnOk result (line.new.items ≡ line.old.items ++ op_line_by (text_at paths.now) op.now) }
 {
     match op {
         Op::Set {
             cpu,
             register,
             value,
-        } => push_set(line, names, *cpu, register, *value),
+        } => push_set(line, paths, *cpu, register, *value),
         Op::Enter { cpu, composite } => {
-            push_target(line, names, b"  enter ", *cpu, &composite.register)
+            push_target(line, paths, b"  enter ", *cpu, &composite.register)
         }
     }
 }
 
 /// Puts the line of an operation.
-pub(crate) fn push_op_line(line: &mut Vec<u8>, names: &Names, op: &Op) -> Result<(), Memory>
-    ensures { OnOk result (line.new.items ≡ line.old.items ++ with_feed (op_line names.now op.now)) }
+pub(crate) fn push_op_line(line: &mut Vec<u8>, paths: &PathTexts, op: &Op) -> Result<(), Memory>
+    ensures { OnOk result
+        (line.new.items ≡ line.old.items ++ with_feed (op_line_by (text_at paths.now) op.now)) }
 {
-    push_op(line, names, op)?;
+    push_op(line, paths, op)?;
     push(line, b"\n")
 }

@@ -1,21 +1,16 @@
 //! What came of a request, as its line says it.
-ghost use Rattle.std.specs.Prelude.{◌≡◌, ◌<◌, ◌≤◌, ◌==◌, ◌-◌, ◌++◌, ◌∷◌, [], ℕ, decimal, IfOk, MatchOption, if◌then◌else◌};
+ghost use Rattle.std.specs.Prelude.{◌≡◌, ◌<◌, ◌≤◌, ◌==◌, ◌++◌, ◌∷◌, ℕ, [], decimal, IfOk, MatchOption, if◌then◌else◌};
 ghost use Rattle.pw_text.specs.Lines.{with_feed};
 ghost use Rattle.pw_text.specs.Behind.{behind};
-ghost use Rattle.pw_plan.specs.Requests.{Has};
-ghost use Rattle.pw_model.specs.States.{IsState};
-ghost use Rattle.pw_model.specs.Answers.{after};
-ghost use Rattle.pw_model.specs.Operations.{ops_of};
-ghost use Rattle.pw_script.specs.HistoryText.{reply_words};
-ghost use Rattle.pw_script.specs.Lawful.{Begins};
+ghost use Rattle.pw_history.specs.Asked.{Begins};
+ghost use Rattle.pw_audit.specs.inner.Outcomes.{PlanTells};
 ghost use Rattle.pw_audit.specs.inner.Stopping.{FitsAt, outcome_at};
 
+use crate::kind::Audited;
 use crate::matching::strip;
-use crate::words::{push, push_decimal, push_reply};
+use crate::words::{push, push_decimal};
 use pw_base::Memory;
-use pw_core::{Ops, State};
-use pw_model::Reply;
-use pw_plan::{Plan, Request};
+use pw_regs::Ops;
 
 /// Which number below `count` a text begins with, as a line, and what stands behind it.
 pub(crate) fn read_count<'a>(
@@ -39,54 +34,55 @@ pub(crate) fn read_count<'a>(
 }
 
 /// What stands behind a reply, where a text begins with it, as the end of a line.
-fn read_reply<'a>(
+fn read_reply<'a, T: Audited>(
     line: &mut Vec<u8>,
-    reply: Reply,
+    reply: T::Reply,
     left: &'a [u8],
 ) -> Result<Option<&'a [u8]>, Memory>
-    ensures { IfOk result (λ o. MatchOption o (Begins (with_feed (behind (reply_words reply))) left.now → ⊥)
-        (λ rest. left.now ≡ with_feed (behind (reply_words reply)) ++ rest.now)) }
+    ensures { IfOk result (λ o. MatchOption o
+        (Begins (with_feed (behind (T.words.reply_words reply))) left.now → ⊥)
+        (λ rest. left.now ≡ with_feed (behind (T.words.reply_words reply)) ++ rest.now)) }
 {
     line.clear();
-    push_reply(line, reply)?;
+    T::push_reply(line, reply)?;
     push(line, b"\n")?;
     Ok(strip(left, line.as_slice()))
 }
 
 /// Which fault, 0 for none, a text says of a request in this state, at the end of a line, and what stands
 /// behind it. Leaves the operations of the request, and the state after it.
-#[tactic(auto, using(pw_plan::proofs::RequestBounds::bound_small))]
-pub(crate) fn read_outcome<'a>(
+pub(crate) fn read_outcome<'a, T: Audited>(
     line: &mut Vec<u8>,
-    plan: &Plan,
-    state: &mut State,
+    plan: &T::Plan,
+    state: &mut T::State,
     ops: &mut Ops,
-    request: Request,
+    request: T::Request,
     left: &'a [u8],
 ) -> Result<Option<(u32, &'a [u8])>, Memory>
-    requires request { Has plan.now request }
-    requires fits { IsState plan.now state.old }
-    requires room { 256 ≤ ops.old.capacity }
-    ensures read { IfOk result (λ o. MatchOption o ((f : ℕ) → FitsAt plan.now state.old request f
-        → Begins (with_feed (behind (outcome_at plan.now state.old request f))) left.now → ⊥)
-        (λ r. FitsAt plan.now state.old request r.0
-        × (left.now ≡ with_feed (behind (outcome_at plan.now state.old request r.0)) ++ r.1.now)
-        × (state.new ≡ (if r.0 == 0 then after plan.now state.old request else state.old)))) }
-    ensures fits { IsState plan.now state.new }
-    ensures ops { ops.new.elements ≡ ops_of plan.now state.old request }
+    requires laws { PlanTells T.words plan.now T.is_narrow T.is_narrow_request }
+    requires request { T.words.cpu request < T.words.cpus plan.now }
+    requires fits { T.fits plan.now state.old }
+    requires room { T.most plan.now ≤ ops.old.capacity }
+    ensures read { IfOk result (λ o. MatchOption o ((f : ℕ) → FitsAt T.words plan.now state.old request f
+        → Begins (with_feed (behind (outcome_at T.words plan.now state.old request f))) left.now → ⊥)
+        (λ r. FitsAt T.words plan.now state.old request r.0
+        × (left.now ≡ with_feed (behind (outcome_at T.words plan.now state.old request r.0)) ++ r.1.now)
+        × (state.new ≡ (if r.0 == 0 then T.words.kind.after plan.now state.old request else state.old)))) }
+    ensures fits { T.fits plan.now state.new }
+    ensures ops { ops.new.elements ≡ T.words.kind.ops plan.now state.old request }
     ensures room { ops.new.capacity ≡ ops.old.capacity }
 {
     ops.clear();
     match strip(left, b" register fault after ") {
         None => {
-            let reply = state.step(plan, request, ops);
-            match read_reply(line, reply, left)? {
+            let reply = T::step(plan, state, request, ops);
+            match read_reply::<T>(line, reply, left)? {
                 None => Ok(None),
                 Some(rest) => Ok(Some((0, rest))),
             }
         }
         Some(behind) => {
-            state.operations(plan, request, ops);
+            T::operations(plan, state, request, ops);
             let count = ops.list().len() as u32;
             match read_count(line, count, behind)? {
                 None => Ok(None),

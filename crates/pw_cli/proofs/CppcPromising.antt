@@ -1,5 +1,6 @@
 -- What a run by `cppc` promises follows from how it ends.
 use Rattle.std.proofs.Common.{◌≡◌, ◌+◌, ◌++◌, ◌∷◌, ◌∙◌, ℕ, Bool, true, false, List, [], length, take, drop, Option, Some, None, refl, sym, ap, subst, arith, append_assoc, eq-eqb}
+use Rattle.std.specs.Prelude.{◌↔◌}
 use Rattle.std.proofs.lemmas.List.{take-append-drop}
 use Rattle.pw_base.specs.Seen.{Grew}
 use Rattle.pw_text.specs.HistoryText.{opened_lines}
@@ -45,16 +46,21 @@ use Rattle.pw_cppc_drive.specs.HistoryText.{entry_lines, history_lines, history_
 use Rattle.pw_cppc_drive.specs.Lawful.{TellSeats, telling}
 use Rattle.pw_cppc_drive.specs.Reading.{operations, requests_of}
 use Rattle.pw_words.specs.Words.{AskFor}
-use Rattle.pw_words.specs.Words.Asked.{cppc}
+use Rattle.pw_words.specs.Words.Asked.{audit, cppc}
+use Rattle.pw_words.specs.declared.command.Review.{Review}
+use Rattle.pw_cppc_drive.specs.Wholes.{IsWhole}
+use Rattle.pw_audit.specs.CppcAudited.{IsSortedFrom, IsWholeAs}
+use Rattle.pw_audit.specs.declared.form.Form.{Form}
+use Rattle.pw_audit.specs.declared.form.Form.TheVariants.{History, Trace}
 use Rattle.pw_load.specs.Seen.{Outputs, Seen}
 use Rattle.pw_runs.specs.CppcRuns.{AreGiven, IsSerialRun, PrintsRun}
 use Rattle.pw_runs.specs.CppcRuns.SteersSerially.{stopped, steered}
 use Rattle.pw_runs.specs.CppcRuns.PrintsRun.{whole, write_fault, failed, failed_write_fault, without_memory}
 use Rattle.pw_runs.specs.CppcWorkers.{IsRunBy}
 use Rattle.pw_runs.specs.CppcWorkers.Steers.{stopped as stopped_by, opened as opened_by, steered as steered_by}
-use Rattle.pw_cli.specs.Runs.{Ran, SteersBy}
-use Rattle.pw_cli.proofs.Promising.{never_stops, obeyed}
-use Rattle.pw_cli.specs.CppcPromises.{IsMet, KeepsCppc, OpensAtHighest, ProcessorsAreSteered}
+use Rattle.pw_cli.specs.Runs.{Ran, SteersBy, form_of, reviewing_by}
+use Rattle.pw_cli.proofs.Promising.{does_whole, never_stops, obeyed}
+use Rattle.pw_cli.specs.CppcPromises.{IsMet, KeepsCppc, KeepsCppcAudit, OpensAtHighest, ProcessorsAreSteered}
 use Rattle.pw_cli.specs.CppcPromises.{IsMet as came}
 
 -- # Where processors stand after a history without a fault
@@ -221,3 +227,27 @@ pub keeps_cppc : (words : List (List ℕ)) (serial : Bool) (script : List ℕ) (
     → AskFor words (cppc serial script names) → Ran words sealed before after 0 → KeepsCppc serial script names before after
 keeps_cppc words serial script names sealed before after asks ran =
     steers script names before after serial 0 ran.text ran.line (obeyed (cppc serial script names) asks ran.way refl).0 refl ran.on_out
+
+pub keeps_cppc_audit : ((P : CppcPlan) (asked : List CppcRequest) (text : List ℕ) → IsWholeAs History P asked text ↔ IsWhole P asked text)
+    → ((P : CppcPlan) (asked : List CppcRequest) (trace : List ℕ) → IsWholeAs Trace P asked trace
+    → (history : List ℕ) × IsWhole P asked history × IsSortedFrom P trace history)
+    → (words : List (List ℕ)) (review : Review) (script history : List ℕ) (names : List (List ℕ)) (sealed : Option Sealed) (before after : Seen)
+    → AskFor words (audit review script history names) → review.cppc ≡ true → Ran words sealed before after 0 → KeepsCppcAudit (form_of review) script history names before after
+keeps_cppc_audit plain sorts words review script history names sealed before after asks steers ran =
+    let o = obeyed (audit review script history names) asks ran.way refl in
+    let made = subst (λ (b : Bool). (reviewing_by b (form_of review) review.step script history names before.files after.files).text ran.text) steers
+    (does_whole (audit review script history names) before after 0 ran.text ran.line o.0 refl) in
+    let asked = requests_of made.lines in
+    let told : (form : Form) → form_of review ≡ form → IsWholeAs form made.plan asked made.held.bytes = λ form is.
+    subst (λ (f : Form). IsWholeAs f made.plan asked made.held.bytes) is made.held.is.whole in
+    record {
+      plan = made.plan;
+      lines = made.lines;
+      given = made.given;
+      entries = made.entries;
+      held = made.held;
+      plain = λ is. (plain made.plan asked made.held.bytes).0 (told History is);
+      sorts = λ is. sorts made.plan asked made.held.bytes (told Trace is);
+      printed = subst (Grew before.outputs.out after.outputs.out) made.says ran.on_out;
+      still = o.1;
+    }

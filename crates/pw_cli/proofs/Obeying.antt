@@ -10,7 +10,7 @@ use Rattle.pw_load.specs.Ends.{Does}
 use Rattle.pw_load.specs.Ends.Stops.{refused, read_fault, without_memory}
 use Rattle.pw_load.specs.Ends.Prints.{whole, write_fault, cut}
 use Rattle.pw_load.specs.Ends.Does.{stopped, printed}
-use Rattle.pw_load.proofs.Completeness.{IsJudged, judged_of}
+use Rattle.pw_load.proofs.Completeness.{IsJudged, IsOne, judged_of}
 use Rattle.pw_tasks.proofs.One.{never_read_fault, refusal_is_1, task_is_one}
 use Rattle.pw_turns.specs.declared.close.Sealed.{Sealed}
 use Rattle.pw_runs.proofs.One.{drive_is_one, refusal_is_1_or_7, working_apart, working_refuses_once}
@@ -19,11 +19,14 @@ use Rattle.pw_runs.proofs.TrialOne.{trying_is_one}
 use Rattle.pw_runs.proofs.TrialOne.{does_or_failed as tries_or_failed}
 use Rattle.pw_runs.proofs.AuditOne.{refusal_is_1_7_or_8, reviewing_is_one}
 use Rattle.pw_runs.proofs.AuditOne.{never_read_fault as never_unread_audit}
+use Rattle.pw_runs.proofs.CppcAuditOne.{refusal_is_1_7_or_8 as cppc_refusal_is_1_7_or_8, reviewing_is_one as reviewing_cppc_is_one}
+use Rattle.pw_runs.proofs.CppcAuditOne.{never_read_fault as never_unread_cppc_audit}
 use Rattle.pw_runs.proofs.CppcEnding.{Failed as LostBy, works_or_failed}
 use Rattle.pw_runs.proofs.CppcEnding.{does_or_failed as steers_or_failed}
 use Rattle.pw_runs.proofs.CppcOne.{steer_is_one, together_is_judged}
 use Rattle.pw_runs.proofs.CppcOne.{never_read_fault as never_unread_cppc, refusal_is_1_or_7 as cppc_refusal}
-use Rattle.pw_cli.specs.Runs.{DrivesBy, IsSettled, IsWithin, Obeys, RegistersHeld, SteersBy, driving_by, form_of, names_in, steering_by, work_of}
+use Rattle.pw_audit.specs.declared.form.Form.{Form}
+use Rattle.pw_cli.specs.Runs.{DrivesBy, IsSettled, IsWithin, Obeys, RegistersHeld, SteersBy, driving_by, form_of, names_in, reviewing_by, steering_by, work_of}
 use Rattle.pw_cli.proofs.Driving.{does_or_failed}
 use Rattle.pw_cli.proofs.Working.{does_or_failed as worked_or_failed}
 
@@ -48,11 +51,16 @@ judged_steering : (serial : Bool) (script : List ℕ) (names : List (List ℕ)) 
 judged_steering true script names before after tells = judged_of _ (steer_is_one script names before after tells)
 judged_steering false script names before after tells = together_is_judged script names before after tells
 
+review_is_one : (cppc : Bool) (form : Form) (step : Bool) (script history : List ℕ) (names : List (List ℕ)) (before after : FilesSeen) → before.told ≡ true
+    → IsOne (reviewing_by cppc form step script history names before after)
+review_is_one true form step script history names before after tells = reviewing_cppc_is_one form script history names before after tells
+review_is_one false form step script history names before after tells = reviewing_is_one form step script history names before after tells
+
 -- a command is refused in one way, and only where it has no text
 pub command_is_judged : (asked : Asked) (before after : FilesSeen) → before.told ≡ true → IsJudged (work_of asked before after)
 command_is_judged (on_blocks task names) before after tells = judged_of _ (task_is_one task names before after tells)
 command_is_judged (drive way script names) before after tells = judged_by way.serial way.step script names before after tells
-command_is_judged (audit review script history names) before after tells = judged_of _ (reviewing_is_one (form_of review) review.step script history names before after tells)
+command_is_judged (audit review script history names) before after tells = judged_of _ (review_is_one review.cppc (form_of review) review.step script history names before after tells)
 command_is_judged (cppc serial script names) before after tells = judged_steering serial script names before after tells
 command_is_judged (generate n) before after tells = judged_of _ (trying_is_one n)
 
@@ -71,7 +79,7 @@ pub settled_is_one : (asked : Asked) (before after : FilesSeen) → before.told 
     → (a b : List ℕ) → (work_of asked before after).text a → (work_of asked before after).text b → a ≡ b
 settled_is_one (on_blocks task names) before after tells is = (task_is_one task names before after tells).texts
 settled_is_one (drive way script names) before after tells is = one_by way.serial way.step script names before after tells is
-settled_is_one (audit review script history names) before after tells is = (reviewing_is_one (form_of review) review.step script history names before after tells).texts
+settled_is_one (audit review script history names) before after tells is = (review_is_one review.cppc (form_of review) review.step script history names before after tells).texts
 settled_is_one (cppc serial script names) before after tells is = one_steering serial script names before after tells is
 settled_is_one (generate n) before after tells is = (trying_is_one n).texts
 
@@ -85,10 +93,15 @@ unread_steering : (serial : Bool) (script : List ℕ) (names : List (List ℕ)) 
 unread_steering true script names before after none u = never_unread_cppc script names before after none u
 unread_steering false script names before after none u = never_unread_cppc script names before after none u
 
+unread_review : (cppc : Bool) (form : Form) (step : Bool) (script history : List ℕ) (names : List (List ℕ)) (before after : FilesSeen)
+    → NoneFailed (script ∷ history ∷ names) before after → (reviewing_by cppc form step script history names before after).read_fault → ⊥
+unread_review true form step script history names before after none u = never_unread_cppc_audit form script history names before after none u
+unread_review false form step script history names before after none u = never_unread_audit form step script history names before after none u
+
 pub none_unread : (asked : Asked) (before after : FilesSeen) → NoneFailed (names_in asked) before after → (work_of asked before after).read_fault → ⊥
 none_unread (on_blocks task names) before after none u = never_read_fault names before after none u
 none_unread (drive way script names) before after none u = unread_by way.serial way.step script names before after none u
-none_unread (audit review script history names) before after none u = never_unread_audit (form_of review) review.step script history names before after none u
+none_unread (audit review script history names) before after none u = unread_review review.cppc (form_of review) review.step script history names before after none u
 none_unread (cppc serial script names) before after none u = unread_steering serial script names before after none u
 none_unread (generate n) before after none u = u
 
@@ -152,6 +165,11 @@ status_steering : (serial : Bool) (script : List ℕ) (names : List (List ℕ)) 
 status_steering true script names before after status line refusal = cppc_refusal script names before status line refusal
 status_steering false script names before after status line refusal = cppc_refusal script names before status line refusal
 
+status_review : (cppc : Bool) (form : Form) (step : Bool) (script history : List ℕ) (names : List (List ℕ)) (before after : FilesSeen) (status : ℕ) (line : List ℕ)
+    → (reviewing_by cppc form step script history names before after).refusal status line → (status ≡ 1) ⊎ (status ≡ 7) ⊎ (status ≡ 8)
+status_review true form step script history names before after status line refusal = cppc_refusal_is_1_7_or_8 form script history names before status line refusal
+status_review false form step script history names before after status line refusal = refusal_is_1_7_or_8 form step script history names before status line refusal
+
 pub refusal_status : (asked : Asked) (before after : FilesSeen) (status : ℕ) (line : List ℕ) → (work_of asked before after).refusal status line
     → (status ≡ 1) ⊎ (status ≡ 7) ⊎ (status ≡ 8)
 refusal_status (on_blocks task names) before after status line refusal = inl (refusal_is_1 task names before status line refusal)
@@ -159,7 +177,8 @@ refusal_status (drive way script names) before after status line refusal = elim 
   | inl one ↦ inl one
   | inr seven ↦ inr (inl seven)
 ]
-refusal_status (audit review script history names) before after status line refusal = refusal_is_1_7_or_8 (form_of review) review.step script history names before status line refusal
+refusal_status (audit review script history names) before after status line refusal =
+    status_review review.cppc (form_of review) review.step script history names before after status line refusal
 refusal_status (cppc serial script names) before after status line refusal = elim (status_steering serial script names before after status line refusal) [
   | inl one ↦ inl one
   | inr seven ↦ inr (inl seven)

@@ -60,7 +60,7 @@ use Rattle.pw_runs.specs.Runs.DrivesSerially.{stopped, drove}
 use Rattle.pw_runs.specs.Runs.PrintsRun.{whole, write_fault, failed, failed_write_fault, without_memory}
 use Rattle.pw_runs.specs.Workers.Drives.{stopped as work_stopped, opened as work_opened, drove as workers_drove}
 use Rattle.pw_runs.proofs.Paths.{planned_segments}
-use Rattle.pw_cli.specs.Runs.{DrivesBy, EndsBy, Obeys, Ran, form_of, work_of}
+use Rattle.pw_cli.specs.Runs.{DrivesBy, EndsBy, Obeys, Ran, form_of, reviewing_by, work_of}
 use Rattle.pw_cli.specs.Runs.EndsBy.{misworded, commanded}
 use Rattle.pw_cli.specs.Runs.EndsBy.{without_memory as without_memory_of}
 use Rattle.pw_runs.specs.Trials.{Generates, IsMachine, PrintsSummary}
@@ -307,10 +307,11 @@ pub record TextLaws : Type 0 where
       → (history : List ℕ) × IsWhole P asked history × IsSortedFrom P trace history
 
 pub keeps_audit : ObjectLaws → ChoiceLaws → TextLaws → (words : List (List ℕ)) (review : Review) (script history : List ℕ) (names : List (List ℕ)) (sealed : Option Sealed) (before after : Seen)
-    → AskFor words (audit review script history names) → Ran words sealed before after 0 → KeepsAudit (form_of review) review.step script history names before after
-keeps_audit laws choices texts words review script history names sealed before after asks ran =
+    → AskFor words (audit review script history names) → review.cppc ≡ false → Ran words sealed before after 0 → KeepsAudit (form_of review) review.step script history names before after
+keeps_audit laws choices texts words review script history names sealed before after asks drives ran =
     let o = obeyed (audit review script history names) asks ran.way refl in
-    let made = does_whole (audit review script history names) before after 0 ran.text ran.line o.0 refl in
+    let made = subst (λ (b : Bool). (reviewing_by b (form_of review) review.step script history names before.files after.files).text ran.text) drives
+    (does_whole (audit review script history names) before after 0 ran.text ran.line o.0 refl) in
     let asked = requests_of made.lines in
     let told : (form : Form) → form_of review ≡ form → IsWholeAs form made.plan asked made.held.bytes = λ form is.
     subst (λ (f : Form). IsWholeAs f made.plan asked made.held.bytes) is made.held.is.whole in

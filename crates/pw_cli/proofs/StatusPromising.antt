@@ -42,7 +42,8 @@ use Rattle.pw_runs.specs.CppcRuns.{PrintsRun as StepsPrint}
 use Rattle.pw_runs.specs.CppcRuns.{PrintsRun as steers}
 use Rattle.pw_runs.specs.CppcRuns.{SteersSerially as steered_serially}
 use Rattle.pw_runs.specs.CppcWorkers.{Steers as steered_by}
-use Rattle.pw_cli.specs.Runs.{DrivesBy, EndsBy, IsComplete, Obeys, Ran, SteersBy, driving_by, names_in, steering_by, work_of}
+use Rattle.pw_audit.specs.declared.form.Form.{Form}
+use Rattle.pw_cli.specs.Runs.{DrivesBy, EndsBy, IsComplete, Obeys, Ran, SteersBy, driving_by, form_of, names_in, reviewing_by, steering_by, work_of}
 use Rattle.pw_cli.specs.Runs.EndsBy.{misworded, commanded}
 use Rattle.pw_cli.specs.Runs.EndsBy.{without_memory as without_memory_of}
 use Rattle.pw_cli.specs.StatusPromises.{EndsWith, KeepsStatus, Operates, Says}
@@ -84,12 +85,19 @@ module _ (before after : FilesSeen) where
   steering_unread false script names (inl u) = behind script names (in_blocks names u)
   steering_unread false script names (inr u) = in_front script names u.rose
 
+  reviewing_unread : (cppc : Bool) (form : Form) (step : Bool) (script history : List ℕ) (names : List (List ℕ))
+      → (reviewing_by cppc form step script history names before after).read_fault → Failing before after (script ∷ history ∷ names)
+  reviewing_unread true form step script history names (inl u) = behind script (history ∷ names) (behind history names (in_blocks names u))
+  reviewing_unread true form step script history names (inr (inl u)) = in_front script (history ∷ names) u.rose
+  reviewing_unread true form step script history names (inr (inr u)) = behind script (history ∷ names) (in_front history names u.rose)
+  reviewing_unread false form step script history names (inl u) = behind script (history ∷ names) (behind history names (in_blocks names u))
+  reviewing_unread false form step script history names (inr (inl u)) = in_front script (history ∷ names) u.rose
+  reviewing_unread false form step script history names (inr (inr u)) = behind script (history ∷ names) (in_front history names u.rose)
+
   unread : (asked : Asked) → (work_of asked before after).read_fault → Failing before after (names_in asked)
   unread (on_blocks task names) u = in_blocks names u
   unread (drive way script names) u = driving_unread way.serial way.step script names u
-  unread (audit review script history names) (inl u) = behind script (history ∷ names) (behind history names (in_blocks names u))
-  unread (audit review script history names) (inr (inl u)) = in_front script (history ∷ names) u.rose
-  unread (audit review script history names) (inr (inr u)) = behind script (history ∷ names) (in_front history names u.rose)
+  unread (audit review script history names) u = reviewing_unread review.cppc (form_of review) review.step script history names u
   unread (cppc serial script names) u = steering_unread serial script names u
   unread (generate n) u = absurd u
 

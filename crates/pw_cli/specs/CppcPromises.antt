@@ -33,11 +33,17 @@ use Rattle.pw_cppc.specs.Reasons.{IsReason}
 use Rattle.pw_cppc.specs.Requests.{cpu_of}
 use Rattle.pw_cppc.specs.States.{any_performance, ask_of, maximum_of, minimum_of, opening, standing}
 use Rattle.pw_cppc_drive.specs.declared.script.CppcLine.{CppcLine}
-use Rattle.pw_cppc_drive.specs.HistoryText.{history_lines, history_text, lines_from}
+use Rattle.pw_cppc_drive.specs.HistoryText.{history_lines, history_text, lines_from, performance_words}
 use Rattle.pw_cppc_drive.specs.Lawful.{TellSeats, telling}
 use Rattle.pw_cppc_drive.specs.Reading.{requests_of}
+use Rattle.pw_cppc_drive.specs.Wholes.{IsWhole}
+use Rattle.pw_audit.specs.CppcAudited.{IsSortedFrom}
+use Rattle.pw_audit.specs.declared.form.Form.{Form}
+use Rattle.pw_audit.specs.declared.form.Form.TheVariants.{History, Trace}
 use Rattle.pw_load.specs.Seen.{Seen}
 use Rattle.pw_runs.specs.CppcRuns.{AreGiven}
+use Rattle.pw_runs.specs.Histories.{lawful_line}
+use Rattle.pw_runs.specs.Texts.{HoldText}
 
 -- # Where processors stand
 
@@ -131,3 +137,20 @@ pub record KeepsCppc (serial : Bool) (script : List ℕ) (names : List (List ℕ
   pub stands : (k : ℕ) → ProcessorsAreSteered plan (take k entries)
   pub operated : Operated before.regs after.regs (opening_ops plan ++ history_ops plan entries)
   pub workers : serial ≡ false → TellSeats entries
+
+-- # An audit
+
+-- What `audit --cppc` promises where it ends with status 0, and files that tell, of a history and of a trace.
+pub record KeepsCppcAudit (form : Form) (script history : List ℕ) (names : List (List ℕ)) (before after : Seen) : Type 0 where
+  -- the plan is that of the blocks in the files, and the lines are the script's
+  pub plan : CppcPlan
+  pub lines : List CppcLine
+  pub given : AreGiven before.files script names plan lines
+  -- the history's file has the whole text of a run of this script, and this many entries are in it, which is what was printed
+  pub entries : ℕ
+  pub held : HoldText performance_words form before.files history plan (requests_of lines) entries
+  -- without `--trace` it is the text of a history, and with it the same once its operations are sorted
+  pub plain : form ≡ History → IsWhole plan (requests_of lines) held.bytes
+  pub sorts : form ≡ Trace → (text : List ℕ) × IsWhole plan (requests_of lines) text × IsSortedFrom plan held.bytes text
+  pub printed : Grew before.outputs.out after.outputs.out (lawful_line entries)
+  pub still : after.regs ≡ before.regs

@@ -18,6 +18,7 @@ use Rattle.pw_runs.specs.Runs.{DrivesSerially, driving}
 use Rattle.pw_runs.specs.Workers.{Drives, working}
 use Rattle.pw_runs.specs.Trials.{Generates, trying}
 use Rattle.pw_runs.specs.Reviews.{reviewing}
+use Rattle.pw_runs.specs.CppcReviews.{reviewing as reviewing_cppc}
 use Rattle.pw_runs.specs.CppcRuns.{SteersSerially, steering}
 use Rattle.pw_runs.specs.CppcWorkers.{Steers, steering_together}
 
@@ -37,11 +38,18 @@ steering_by false script names before after = steering_together script names bef
 abbrev pub form_of : Review → Form
 form_of review = if review.trace then Trace else History
 
+-- to audit a text of this form, of what `drive` prints, or with `--cppc` of what `cppc` does
+abbrev pub reviewing_by : (cppc : Bool) → Form → (step : Bool) → (script history : List ℕ) → (names : List (List ℕ)) → FilesSeen
+    → FilesSeen → Work
+reviewing_by true form step script history names before after = reviewing_cppc form script history names before after
+reviewing_by false form step script history names before after = reviewing form step script history names before after
+
 -- what a command does, which words ask for: of `drive`, `cppc` and `generate` what they do where no register fails
 abbrev pub work_of : Asked → FilesSeen → FilesSeen → Work
 work_of (on_blocks task names) before after = work_on task names before after
 work_of (drive way script names) before after = driving_by way.serial way.step script names before after
-work_of (audit review script history names) before after = reviewing (form_of review) review.step script history names before after
+work_of (audit review script history names) before after =
+    reviewing_by review.cppc (form_of review) review.step script history names before after
 work_of (cppc serial script names) before after = steering_by serial script names before after
 work_of (generate n) before after = trying n
 
@@ -90,7 +98,8 @@ Obeys (on_blocks task names) sealed before after status text line =
 Obeys (drive way script names) sealed before after status text line =
     DrivesBy way.serial way.step script names sealed before after status text line
 Obeys (audit review script history names) sealed before after status text line =
-    OnlyDoes (reviewing (form_of review) review.step script history names before.files after.files) sealed before after status text line
+    OnlyDoes (reviewing_by review.cppc (form_of review) review.step script history names before.files after.files) sealed before after
+    status text line
 Obeys (cppc serial script names) sealed before after status text line =
     SteersBy serial script names before after status text line × (sealed ≡ None)
 Obeys (generate n) sealed before after status text line =

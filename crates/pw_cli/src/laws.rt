@@ -10,7 +10,7 @@ ghost use Rattle.pw_load.specs.Seen.{Seen};
 ghost use Rattle.pw_turns.specs.declared.close.Sealed.{Sealed as sealed};
 ghost use Rattle.pw_cli.specs.Runs.{IsComplete, Ran, form_of};
 ghost use Rattle.pw_cli.specs.BlockPromises.{KeepsCheck, KeepsRewrite, KeepsShow};
-ghost use Rattle.pw_cli.specs.CppcPromises.{KeepsCppc};
+ghost use Rattle.pw_cli.specs.CppcPromises.{KeepsCppc, KeepsCppcAudit};
 ghost use Rattle.pw_cli.specs.Promises.{KeepsAudit, KeepsDrive, KeepsGenerate, KeepsTask};
 ghost use Rattle.pw_cli.specs.StatusPromises.{KeepsStatus};
 
@@ -18,7 +18,10 @@ use acpi_build::{
     notes_have_causes, parents_are_innermost, processors_and_containers, tables_are_meant,
 };
 use acpi_space::first_dsdt_tells_widths;
-use pw_audit::{histories_are_traces, traces_sort_to_histories};
+use pw_audit::{
+    cppc_histories_are_traces, cppc_traces_sort_to_histories, histories_are_traces,
+    traces_sort_to_histories,
+};
 use pw_governor::choices_are_deepest;
 
 /// Where `run` ends with status 0 on words that ask for a drive, on one thread or by workers, of files
@@ -58,12 +61,16 @@ pub fn loads_keep_their_promise()
 }
 
 /// So it is of `audit`: the file has a whole history that the script allows, or with `--trace` a whole
-/// trace of one.
+/// trace of one; with `--cppc` one of `cppc`.
 pub fn audits_keep_their_promise()
-    ensures { (words : List (List ℕ)) (how : review) (script history : List ℕ) (names : List (List ℕ))
+    ensures plain { (words : List (List ℕ)) (how : review) (script history : List ℕ) (names : List (List ℕ))
         (s : Option sealed) (before after : Seen) → AskFor words (audit how script history names)
-        → Ran words s before after 0
+        → how.cppc ≡ false → Ran words s before after 0
         → KeepsAudit (form_of how) how.step script history names before after }
+    ensures cppc { (words : List (List ℕ)) (how : review) (script history : List ℕ) (names : List (List ℕ))
+        (s : Option sealed) (before after : Seen) → AskFor words (audit how script history names)
+        → how.cppc ≡ true → Ran words s before after 0
+        → KeepsCppcAudit (form_of how) script history names before after }
 {
     processors_and_containers();
     parents_are_innermost();
@@ -72,6 +79,8 @@ pub fn audits_keep_their_promise()
     choices_are_deepest();
     histories_are_traces();
     traces_sort_to_histories();
+    cppc_histories_are_traces();
+    cppc_traces_sort_to_histories();
 }
 
 /// So it is of `show`, `rewrite`, `check` and `lint`: the one text of the only blocks that the files' bytes

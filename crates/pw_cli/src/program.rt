@@ -1,20 +1,20 @@
 ghost use Rattle.std.specs.Prelude.{◌≡◌, ◌≤◌, None, codes};
 ghost use Rattle.pw_base.specs.Outside.{KeepsFiles, KeepsSink};
-ghost use Rattle.pw_base.specs.Seen.{sink_seen, GrewByLine};
+ghost use Rattle.pw_base.specs.Seen.{files_seen, sink_seen, GrewByLine};
 ghost use Rattle.pw_text.specs.declared.script.TheConstants.{MOST_OPERATIONS};
 ghost use Rattle.pw_words.specs.Command.{asked_of};
 ghost use Rattle.pw_words.specs.Words.{texts};
 ghost use Rattle.aml_block.specs.Held.{names_of};
-ghost use Rattle.pw_load.specs.Ends.{Ended};
+ghost use Rattle.pw_load.specs.Ends.{Did, Ended};
 ghost use Rattle.pw_load.specs.Seen.{all_seen, outputs_seen};
 ghost use Rattle.pw_cli.specs.Runs.{DrivesBy, IsComplete, IsSpared, IsWithin, Obeys, Ran, SteersBy};
-ghost use Rattle.pw_cli.specs.Runs.{form_of, words_line, words_status};
+ghost use Rattle.pw_cli.specs.Runs.{form_of, reviewing_by, words_line, words_status};
 
 use pw_audit::Form;
 use pw_base::{Files, Gate, Sink};
 use pw_load::{say, without_memory};
 use pw_regs::Registers;
-use pw_runs::{Outcome, audit, cppc, cppc_serially, drive, drive_serially, generate};
+use pw_runs::{Outcome, audit, audit_cppc, cppc, cppc_serially, drive, drive_serially, generate};
 use pw_tasks::do_on_blocks;
 use pw_words::{Command, Review, Way, WordsFault, command_of};
 use std::alloc::Global;
@@ -89,6 +89,33 @@ fn form_of(review: Review) -> Form
     }
 }
 
+/// Does `audit`, of a history of `drive` or of `cppc`. Says the status.
+fn review_by<F: Files, K: Sink>(
+    alloc: Global,
+    review: Review,
+    script: &str,
+    history: &str,
+    blocks: &[&str],
+    files: &mut F,
+    out: &mut K,
+    err: &mut K,
+) -> u8
+    ensures keeps_files { KeepsFiles F.told F.holds F.faults files.old files.new }
+    ensures keeps_out { KeepsSink K.told K.faults out.old out.new }
+    ensures keeps_err { KeepsSink K.told K.faults err.old err.new }
+    ensures did { Did (reviewing_by review.cppc (form_of review) review.step script.now history.now
+        (names_of blocks.now) (files_seen F.Files files.old) (files_seen F.Files files.new))
+        (outputs_seen K.Sink out.old err.old) (outputs_seen K.Sink out.new err.new) result }
+{
+    let form = form_of(review);
+    if review.cppc {
+        audit_cppc(alloc, form, script, history, blocks, files, out, err)
+    } else {
+        let step = review.step;
+        audit(alloc, form, step, script, history, blocks, files, out, err)
+    }
+}
+
 /// How a command ended that had no coordinator of several callers.
 fn unsealed<R>(status: u8, regs: R) -> Outcome<R>
     ensures { result ≡ record { status = status; regs = regs; sealed = None } }
@@ -140,9 +167,7 @@ fn obey<T: Threads + Wait + Sync, F: Files, K: Sink, R: Registers + Send, G: Gat
             blocks,
         } => {
             let names = blocks.as_slice();
-            let form = form_of(*review);
-            let step = review.step;
-            let status = audit(alloc, form, step, script, history, names, files, out, err);
+            let status = review_by(alloc, *review, script, history, names, files, out, err);
             unsealed(status, regs)
         }
         Command::Cppc {

@@ -4,22 +4,16 @@ use Rattle.std.specs.Fmt.{digit_glyph, digits, digits_onto}
 use Rattle.std.proofs.lemmas.Bool.{lt-ltb}
 use Rattle.acpi_values.specs.declared.operation.Op.{Op}
 use Rattle.acpi_values.specs.declared.operation.Op.TheVariants.{Set, Enter}
-use Rattle.pw_plan.specs.declared.plan.Plan.{Plan}
-use Rattle.pw_plan.specs.declared.request.Request.{Request}
+use Rattle.pw_kind.specs.History.{after_entry, entry_ops}
 use Rattle.pw_plan.proofs.Lists.{each_append}
-use Rattle.pw_model.specs.declared.entry.HistoryEntry.{HistoryEntry}
-use Rattle.pw_model.specs.declared.state.State.{State}
-use Rattle.pw_model.specs.States.{opening}
-use Rattle.pw_model.specs.History.{after_entry, entry_ops, request_of}
-use Rattle.pw_model.specs.Operations.{opening_ops}
-use Rattle.pw_history.specs.Telling.{Over}
+use Rattle.pw_history.specs.Wording.{Wording}
+use Rattle.pw_history.specs.HistoryText.{op_line, opening_lines, outcome_words, request_line}
+use Rattle.pw_history.specs.Telling.{Over, TextsTell}
 use Rattle.pw_history.proofs.Cuts.{AllOver, ended-same}
 use Rattle.pw_history.proofs.Numbers.{decimal-over}
-use Rattle.pw_script.specs.HistoryText.{op_line, opening_lines, outcome_words, request_line}
-use Rattle.pw_script.specs.Telling.{HasSegments}
 use Rattle.pw_audit.specs.declared.form.Form.{Form}
 use Rattle.pw_audit.specs.declared.form.Form.TheVariants.{History, Trace}
-use Rattle.pw_audit.specs.Traces.{IsWholeAs, Opens, Tells, TellsOps}
+use Rattle.pw_audit.specs.Tracing.{IsWholeAs, Opens, Tells, TellsOps}
 use Rattle.pw_audit.proofs.Told.{opens_over, tells_over}
 
 -- # Lines that begin with a number
@@ -58,60 +52,62 @@ head_over : (w rest : List ℕ) → 0 < length w → Over 47 w → is_head (w ++
 head_over [] rest some over = absurd (omega (arith, some))
 head_over (b ∷ w) rest some over = let above = over.0 in lt-ltb 32 b (omega (arith, above))
 
--- # The lines of a history
+module _ {Plan Request Reply Entry State : Type 0} (W : Wording Plan Request Reply Entry State) where
+  -- # The lines of a history
 
-head_entry : (P : Plan) (n p : ℕ) (q : Request) (outcome : List (List ℕ)) → is_head (request_line P n p q outcome) ≡ true
-head_entry P n p q outcome = head_over (decimal n) _ (decimal_some n) (decimal-over n)
+  head_entry : (plan : Plan) (n p : ℕ) (q : Request) (outcome : List (List ℕ)) → is_head (request_line W plan n p q outcome) ≡ true
+  head_entry plan n p q outcome = head_over (decimal n) _ (decimal_some n) (decimal-over n)
 
-heads_ops : (P : Plan) (os : List Op) (lines : List (List ℕ)) → heads (map (op_line P) os ++ lines) ≡ heads lines
-heads_ops P [] lines = refl
-heads_ops P (Set p r v ∷ os) lines = heads_ops P os lines
-heads_ops P (Enter p composite ∷ os) lines = heads_ops P os lines
+  heads_ops : (plan : Plan) (os : List Op) (lines : List (List ℕ)) → heads (map (op_line W plan) os ++ lines) ≡ heads lines
+  heads_ops plan [] lines = refl
+  heads_ops plan (Set p r v ∷ os) lines = heads_ops plan os lines
+  heads_ops plan (Enter p composite ∷ os) lines = heads_ops plan os lines
 
-heads_told : (form : Form) (P : Plan) (os : List Op) (ls lines : List (List ℕ)) → TellsOps form P os ls → heads (ls ++ lines) ≡ heads lines
-heads_told History P os ls lines told = ap (λ (l : List (List ℕ)). heads (l ++ lines)) told ∙ heads_ops P os lines
-heads_told Trace P os ls lines told = ap (λ (l : List (List ℕ)). heads (l ++ lines)) told.is ∙ heads_ops P told.done lines
+  heads_told : (form : Form) (plan : Plan) (os : List Op) (ls lines : List (List ℕ)) → TellsOps W form plan os ls → heads (ls ++ lines) ≡ heads lines
+  heads_told History plan os ls lines told = ap (λ (l : List (List ℕ)). heads (l ++ lines)) told ∙ heads_ops plan os lines
+  heads_told Trace plan os ls lines told = ap (λ (l : List (List ℕ)). heads (l ++ lines)) told.is ∙ heads_ops plan told.done lines
 
-heads_from : (form : Form) (P : Plan) (es : List HistoryEntry) (S : State) (n : ℕ) (ls : List (List ℕ)) → Tells form P S n es ls → heads ls ≡ length es
-heads_from form P [] S n ls t = ap heads t
-heads_from form P (e ∷ es) S n ls t =
-    let head = head_entry P n e.cpu (request_of e) (outcome_words P S e) in
-    let ops = heads_told form P (entry_ops P S e) t.ops t.later t.tells in
-    let later = heads_from form P es (after_entry P S e) (n + 1) t.later t.goes_on in
-    ap heads t.is
-    ∙ ap (λ (b : Bool). cond b (suc (heads (t.ops ++ t.later))) (heads (t.ops ++ t.later))) head
-    ∙ ap (λ (k : ℕ). suc k) (ops ∙ later)
+  heads_from : (form : Form) (plan : Plan) (es : List Entry) (S : State) (n : ℕ) (ls : List (List ℕ)) → Tells W form plan S n es ls → heads ls ≡ length es
+  heads_from form plan [] S n ls t = ap heads t
+  heads_from form plan (e ∷ es) S n ls t =
+      let head = head_entry plan n (W.asker e) (W.kind.request e) (outcome_words W plan S e) in
+      let ops = heads_told form plan (entry_ops W.kind plan S e) t.ops t.later t.tells in
+      let later = heads_from form plan es (after_entry W.kind plan S e) (n + 1) t.later t.goes_on in
+      ap heads t.is
+      ∙ ap (λ (b : Bool). cond b (suc (heads (t.ops ++ t.later))) (heads (t.ops ++ t.later))) head
+      ∙ ap (λ (k : ℕ). suc k) (ops ∙ later)
 
--- # The lines of an opening
+  -- # The lines of an opening
 
-heads_opening : (P : Plan) (o : Option ℕ) (lines : List (List ℕ)) → heads (opening_lines P o ++ lines) ≡ suc (heads lines)
-heads_opening P None lines = ap (λ (k : ℕ). suc k) (heads_ops P (opening_ops P) lines)
-heads_opening P (Some k) lines = ap (λ (k : ℕ). suc k) (heads_ops P (take k (opening_ops P)) lines)
+  heads_opening : (plan : Plan) (o : Option ℕ) (lines : List (List ℕ)) → heads (opening_lines W plan o ++ lines) ≡ suc (heads lines)
+  heads_opening plan None lines = ap (λ (k : ℕ). suc k) (heads_ops plan (W.opening_ops plan) lines)
+  heads_opening plan (Some k) lines = ap (λ (k : ℕ). suc k) (heads_ops plan (take k (W.opening_ops plan)) lines)
 
-heads_opened : (form : Form) (P : Plan) (o : Option ℕ) (first lines : List (List ℕ)) → Opens form P o first → heads (first ++ lines) ≡ suc (heads lines)
-heads_opened History P o first lines is = ap (λ (l : List (List ℕ)). heads (l ++ lines)) is ∙ heads_opening P o lines
-heads_opened Trace P None first lines (inl is) = ap (λ (l : List (List ℕ)). heads (l ++ lines)) is
-heads_opened Trace P None first lines (inr is) = ap (λ (l : List (List ℕ)). heads (l ++ lines)) is ∙ heads_opening P None lines
-heads_opened Trace P (Some k) first lines is = ap (λ (l : List (List ℕ)). heads (l ++ lines)) is ∙ heads_opening P (Some k) lines
+  heads_opened : (form : Form) (plan : Plan) (o : Option ℕ) (first lines : List (List ℕ)) → Opens W form plan o first → heads (first ++ lines) ≡ suc (heads lines)
+  heads_opened History plan o first lines is = ap (λ (l : List (List ℕ)). heads (l ++ lines)) is ∙ heads_opening plan o lines
+  heads_opened Trace plan None first lines (inl is) = ap (λ (l : List (List ℕ)). heads (l ++ lines)) is
+  heads_opened Trace plan None first lines (inr is) = ap (λ (l : List (List ℕ)). heads (l ++ lines)) is ∙ heads_opening plan None lines
+  heads_opened Trace plan (Some k) first lines is = ap (λ (l : List (List ℕ)). heads (l ++ lines)) is ∙ heads_opening plan (Some k) lines
 
 -- # Texts
 
-module _ (form : Form) (P : Plan) (tell : HasSegments P) (asked : List Request) (text : List ℕ) where
-  abbrev lines : IsWholeAs form P asked text → List (List ℕ)
+module _ {Plan Request Reply Entry State : Type 0} {W : Wording Plan Request Reply Entry State} {plan : Plan} {IsNarrow : Entry → Type 0}
+    {IsNarrowRequest : Request → Type 0} (laws : TextsTell W plan IsNarrow IsNarrowRequest) (form : Form) (asked : List Request) (text : List ℕ) where
+  abbrev lines : IsWholeAs W form plan asked text → List (List ℕ)
   lines w = w.is.first ++ w.is.later
 
-  lines_over : (w : IsWholeAs form P asked text) → AllOver 10 (lines w)
+  lines_over : (w : IsWholeAs W form plan asked text) → AllOver 10 (lines w)
   lines_over w =
-      each_append (Over 10) w.is.first w.is.later (opens_over P tell form w.o w.is.first w.is.opens)
-      (tells_over P tell form w.entries (opening P) 1 w.is.later w.is.tells)
+      each_append (Over 10) w.is.first w.is.later (opens_over plan laws form w.o w.is.first w.is.opens)
+      (tells_over plan laws form w.entries (W.kind.opening plan) 1 w.is.later w.is.tells)
 
-  heads_text : (w : IsWholeAs form P asked text) → heads (lines w) ≡ suc (length w.entries)
+  heads_text : (w : IsWholeAs W form plan asked text) → heads (lines w) ≡ suc (length w.entries)
   heads_text w =
-      heads_opened form P w.o w.is.first w.is.later w.is.opens
-      ∙ ap (λ (k : ℕ). suc k) (heads_from form P w.entries (opening P) 1 w.is.later w.is.tells)
+      heads_opened W form plan w.o w.is.first w.is.later w.is.opens
+      ∙ ap (λ (k : ℕ). suc k) (heads_from W form plan w.entries (W.kind.opening plan) 1 w.is.later w.is.tells)
 
   -- as which histories a text is whole, they have as many entries
-  pub same_count : (a b : IsWholeAs form P asked text) → length a.entries ≡ length b.entries
+  pub same_count : (a b : IsWholeAs W form plan asked text) → length a.entries ≡ length b.entries
   same_count a b =
       let same = ended-same 10 (lines a) (lines b) (lines_over a) (lines_over b) (sym a.is.is ∙ b.is.is) in
       let counts = sym (heads_text a) ∙ ap heads same ∙ heads_text b in

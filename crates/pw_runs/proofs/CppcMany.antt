@@ -13,7 +13,6 @@ use Rattle.pw_cppc.specs.declared.plan.CppcPlan.{CppcPlan}
 use Rattle.pw_cppc.specs.declared.request.CppcRequest.{CppcRequest}
 use Rattle.pw_cppc.specs.declared.request.CppcRequest.TheVariants.{Desired, Minimum, Maximum}
 use Rattle.pw_cppc.specs.Requests.{Has, cpu_of}
-use Rattle.pw_cppc.specs.declared.entry.CppcEntry.{CppcEntry}
 use Rattle.pw_cppc.specs.History.{Faultless, IsSerialRunOf, StatesRequest, entry_of, performance, requests}
 use Rattle.pw_cppc.specs.History.{request_of as request_of_entry}
 use Rattle.pw_kind.proofs.Joining.{legal-faultless}

@@ -72,7 +72,7 @@ module _ (script : List ℕ) (names : List (List ℕ)) (files : FilesSeen) (tell
       one_plan (entries_in q.planned.blocks) q.machine P Q q.planned.distinct paths parts q.parts
 
   -- and the script has one list of lines
-  one_given : (P Q : CppcPlan) (ls ms : List CppcLine) → AreGiven files script names P ls → AreGiven files script names Q ms → (P ≡ Q) × (ls ≡ ms)
+  pub one_given : (P Q : CppcPlan) (ls ms : List CppcLine) → AreGiven files script names P ls → AreGiven files script names Q ms → (P ≡ Q) × (ls ≡ ms)
   one_given P Q ls ms p q =
       let same = one_steered P Q p.steered q.steered in
       let held = subst (λ (R : CppcPlan). HoldsScript (files.holds script) R ls) same (p.scripted tells) in

@@ -27,3 +27,4 @@ pub mod CppcOnePlan
 pub mod CppcOne
 pub mod CppcEnding
 pub mod CppcSpared
+pub mod CppcAuditOne

@@ -1,43 +1,32 @@
 -- The history or the trace in a file: a whole text that a script allows, or why it is none, and the line that says so.
-use Rattle.std.specs.Prelude.{◌≡◌, ◌<◌, ℕ, List, [], ◌∷◌, codes, decimal, length, Some}
-use Rattle.pw_base.specs.Seen.{FilesSeen, OfFiles}
+use Rattle.std.specs.Prelude.{ℕ, List, [], ◌∷◌, codes, decimal}
+use Rattle.pw_base.specs.Seen.{FilesSeen}
 use Rattle.pw_plan.specs.declared.plan.Plan.{Plan}
 use Rattle.pw_plan.specs.declared.request.Request.{Request}
 use Rattle.pw_text.specs.Lines.{line_of}
-use Rattle.pw_script.specs.Wholes.{pieces_of}
+use Rattle.pw_script.specs.HistoryText.{power_words}
 use Rattle.pw_audit.specs.declared.answer.AuditFault.{AuditFault}
 use Rattle.pw_audit.specs.declared.answer.AuditFault.TheVariants.{TooLong, Wrong, Unfinished, Memory}
-use Rattle.pw_audit.specs.declared.answer.TheConstants.{MOST_BYTES}
 use Rattle.pw_audit.specs.declared.form.Form.{Form}
-use Rattle.pw_audit.specs.Audited.{IsShort}
-use Rattle.pw_audit.specs.Traces.{IsUnfinishedAs, IsWholeAs, IsWrongAs}
+use Rattle.pw_runs.specs.Texts as any
 
 -- # What bytes are
 
 -- Bytes are the whole text of what may come of a script's lines, a history or a trace of it, with so many entries.
-pub record IsText (form : Form) (P : Plan) (asked : List Request) (bytes : List ℕ) (entries : ℕ) : Type 0 where
-  pub short : IsShort bytes
-  pub whole : IsWholeAs form P asked bytes
-  pub count : entries ≡ length whole.entries
+abbrev pub IsText : Form → Plan → List Request → List ℕ → ℕ → Type 0
+IsText = any.IsText power_words
 
 -- Bytes are no such text: they are too many, or a line is wrong, or they end before the text does.
-pub data IsNoText (form : Form) (P : Plan) (asked : List Request) (bytes : List ℕ) : AuditFault → Type 0 where
-  too_long : MOST_BYTES < length bytes → IsNoText form P asked bytes (TooLong MOST_BYTES)
-  wrong : {line : ℕ} → IsShort bytes → IsWrongAs form P asked bytes line → IsNoText form P asked bytes (Wrong line)
-  unfinished : IsShort bytes → IsUnfinishedAs form P asked bytes → IsNoText form P asked bytes (Unfinished (length (pieces_of bytes)))
+abbrev pub IsNoText : Form → Plan → List Request → List ℕ → AuditFault → Type 0
+IsNoText = any.IsNoText power_words
 
 -- # What is held under its name, where files tell
 
-pub record HoldText (form : Form) (files : FilesSeen) (name : List ℕ) (P : Plan) (asked : List Request) (entries : ℕ) : Type 0 where
-  pub bytes : List ℕ
-  pub held : OfFiles files (λ holds. holds name ≡ Some bytes)
-  pub is : IsText form P asked bytes entries
+abbrev pub HoldText : Form → FilesSeen → List ℕ → Plan → List Request → ℕ → Type 0
+HoldText = any.HoldText power_words
 
-pub record HoldNoText (form : Form) (files : FilesSeen) (name : List ℕ) (P : Plan) (asked : List Request) (fault : AuditFault)
-    : Type 0 where
-  pub bytes : List ℕ
-  pub held : OfFiles files (λ holds. holds name ≡ Some bytes)
-  pub fails : IsNoText form P asked bytes fault
+abbrev pub HoldNoText : Form → FilesSeen → List ℕ → Plan → List Request → AuditFault → Type 0
+HoldNoText = any.HoldNoText power_words
 
 -- # The lines
 

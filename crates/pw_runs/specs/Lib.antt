@@ -4,8 +4,11 @@ pub mod Failing
 pub mod Workers
 pub mod inner
 pub mod Trials
+pub mod Texts
 pub mod Histories
+pub mod Reviewing
 pub mod Reviews
 pub mod CppcScripts
 pub mod CppcRuns
 pub mod CppcWorkers
+pub mod CppcReviews

@@ -25,7 +25,7 @@ mod trial;
 mod trial_print;
 mod working;
 
-pub use auditing::audit;
+pub use auditing::{audit, audit_cppc};
 pub use cppc_running::cppc_serially;
 pub use cppc_working::cppc;
 pub use given::read_given;

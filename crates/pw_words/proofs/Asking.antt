@@ -53,10 +53,10 @@ is_way way rows said = ap₂ (λ (x y : Bool). (let w : Way = record { serial = 
 
 -- the review that is
 abbrev review_by : List Row → Review
-review_by rows = record { step = is_used (codes "step") rows; trace = is_used (codes "trace") rows }
+review_by rows = record { step = is_used (codes "step") rows; trace = is_used (codes "trace") rows; cppc = is_used (codes "cppc") rows }
 
 is_review : (review : Review) (rows : List Row) → SayReview rows review → review_by rows ≡ review
-is_review review rows said = ap₂ (λ (x y : Bool). (let r : Review = record { step = x; trace = y } in r)) said.0 said.1
+is_review review rows said = rw (said.0, said.1, said.2) refl
 
 one_said : (a b : Asked) (rows : List Row) → command_name a ≡ command_name b → Say rows a → Say rows b → a ≡ b
 one_said (on_blocks s us) (on_blocks t vs) rows same p q =

@@ -219,7 +219,7 @@ Gives x P id a most =
     bytes_eq id x ≡ true → (values : List Text) → range_kinds 1 most (length values) ≡ [] → P (values_or_missing a values)
 
 -- what `audit` keeps of an argument that is none of its flags
-module _ (x : Text) (P : List Text → Type 0) (step : bytes_eq (codes "step") x ≡ false) (trace : bytes_eq (codes "trace") x ≡ false) where
+module _ (x : Text) (P : List Text → Type 0) (step : bytes_eq (codes "step") x ≡ false) (trace : bytes_eq (codes "trace") x ≡ false) (cppc : bytes_eq (codes "cppc") x ≡ false) where
   audit_keeps : Gives x P (codes "script") (word_at (codes "script") 1) 1
       → Gives x P (codes "history") (word_at (codes "history") 2) 1 → Gives x P (codes "blocks") (blocks_at 3) 64
       → (words : List Text) → level_fault audit_leaf [] nothing_held words false [] ≡ [] → Has x P (rows_after audit_leaf.rules [] words)
@@ -228,32 +228,38 @@ module _ (x : Text) (P : List Text → Type 0) (step : bytes_eq (codes "step") x
         flag_keeps x P (codes "step") 1 step,
         (
           flag_keeps x P (codes "trace") 1 trace,
-          (word_keeps x P (codes "script") 1 script, (word_keeps x P (codes "history") 2 history, (blocks_keeps x P 3 blocks, tt))),
+          (
+            flag_keeps x P (codes "cppc") 1 cppc,
+            (word_keeps x P (codes "script") 1 script, (word_keeps x P (codes "history") 2 history, (blocks_keeps x P 3 blocks, tt))),
+          ),
         ),
       ) (
         flag_filled x P (codes "step") 1 step,
         (
           flag_filled x P (codes "trace") 1 trace,
           (
-            bare_filled x P (word_at (codes "script") 1) refl,
-            (bare_filled x P (word_at (codes "history") 2) refl, (bare_filled x P (blocks_at 3) refl, tt)),
+            flag_filled x P (codes "cppc") 1 cppc,
+            (
+              bare_filled x P (word_at (codes "script") 1) refl,
+              (bare_filled x P (word_at (codes "history") 2) refl, (bare_filled x P (blocks_at 3) refl, tt)),
+            ),
           ),
         ),
       ) tt free
 
 pub audit_bound : (words : List Text) → level_fault audit_leaf [] nothing_held words false [] ≡ []
     → blocks_in (rows_after audit_leaf.rules [] words)
-audit_bound words free = audit_keeps (codes "blocks") HasFew refl refl (λ e. never e) (λ e. never e) (λ _. few 3) words free
+audit_bound words free = audit_keeps (codes "blocks") HasFew refl refl refl (λ e. never e) (λ e. never e) (λ _. few 3) words free
 
 pub audited_bound : (words : List Text) → level_fault audit_leaf [] nothing_held words false [] ≡ []
     → script_in (rows_after audit_leaf.rules [] words)
 audited_bound words free =
-    audit_keeps (codes "script") HasSome refl refl (λ _. some (codes "script") 1) (λ e. never e) (λ e. never e) words free
+    audit_keeps (codes "script") HasSome refl refl refl (λ _. some (codes "script") 1) (λ e. never e) (λ e. never e) words free
 
 pub history_bound : (words : List Text) → level_fault audit_leaf [] nothing_held words false [] ≡ []
     → Has (codes "history") HasSome (rows_after audit_leaf.rules [] words)
 history_bound words free =
-    audit_keeps (codes "history") HasSome refl refl (λ e. never e) (λ _. some (codes "history") 2) (λ e. never e) words free
+    audit_keeps (codes "history") HasSome refl refl refl (λ e. never e) (λ _. some (codes "history") 2) (λ e. never e) words free
 
 -- what `cppc` keeps of one
 module _ (x : Text) (P : List Text → Type 0) (other : bytes_eq (codes "serial") x ≡ false) where

@@ -290,6 +290,15 @@ two_flags : (x y : Text) (a b : Bool) → cond a (x ∷ cond b (y ∷ []) []) (c
 two_flags x y true b = refl
 two_flags x y false b = refl
 
+-- and of three
+three_flags : (x y z : Text) (a b c : Bool)
+    → cond a (x ∷ cond b (y ∷ cond c (z ∷ []) []) (cond c (z ∷ []) [])) (cond b (y ∷ cond c (z ∷ []) []) (cond c (z ∷ []) []))
+    ≡ cond a (x ∷ []) [] ++ cond b (y ∷ []) [] ++ cond c (z ∷ []) []
+three_flags x y z true true c = refl
+three_flags x y z true false c = refl
+three_flags x y z false true c = refl
+three_flags x y z false false c = refl
+
 drive_flags : (flags : List Text) → IsDrive (codes "drive") flags
 drive_flags flags =
     let serial = is_among flags (codes "--serial") in
@@ -300,7 +309,8 @@ audit_flags : (flags : List Text) → IsAudit (codes "audit") flags
 audit_flags flags =
     let step = is_among flags (codes "--step") in
     let trace = is_among flags (codes "--trace") in
-    (record { step = step; trace = trace }, refl, two_flags (codes "--step") (codes "--trace") step trace)
+    let cppc = is_among flags (codes "--cppc") in
+    (record { step = step; trace = trace; cppc = cppc }, refl, three_flags (codes "--step") (codes "--trace") (codes "--cppc") step trace cppc)
 
 cppc_flags : (flags : List Text) → IsCppc (codes "cppc") flags
 cppc_flags flags = (is_among flags (codes "--serial"), refl, refl)

@@ -301,8 +301,8 @@ said_by name rows (inr (inl h)) =
     let way : Way = record { serial = is_used (codes "serial") rows; step = is_used (codes "step") rows } in
     inl (drive way h.1.0 h.2.0, sym h.0, ((refl, refl), h.1.1, h.2.1))
 said_by name rows (inr (inr (inl h))) =
-    let review : Review = record { step = is_used (codes "step") rows; trace = is_used (codes "trace") rows } in
-    inl (audit review h.1.0 h.2.0 h.3.0, sym h.0, ((refl, refl), h.1.1, h.2.1, h.3.1))
+    let review : Review = record { step = is_used (codes "step") rows; trace = is_used (codes "trace") rows; cppc = is_used (codes "cppc") rows } in
+    inl (audit review h.1.0 h.2.0 h.3.0, sym h.0, ((refl, refl, refl), h.1.1, h.2.1, h.3.1))
 said_by name rows (inr (inr (inr (inl h)))) = inl (cppc (is_used (codes "serial") rows) h.1.0 h.2.0, sym h.0, (refl, h.1.1, h.2.1))
 said_by name rows (inr (inr (inr (inr h)))) = said_count name rows h
 

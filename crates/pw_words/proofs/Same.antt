@@ -88,7 +88,7 @@ known_distinct word = go (bytes_eq word (codes "show")) (bytes_eq word (codes "d
   where
     go : (a b c d : Bool)
         → are_distinct (cond a (codes "--json" ∷ []) (cond b (codes "--serial" ∷ codes "--step" ∷ [])
-        (cond c (codes "--step" ∷ codes "--trace" ∷ []) (cond d (codes "--serial" ∷ []) [])))) ≡ true
+        (cond c (codes "--step" ∷ codes "--trace" ∷ codes "--cppc" ∷ []) (cond d (codes "--serial" ∷ []) [])))) ≡ true
     go true b c d = refl
     go false true c d = refl
     go false false true d = refl

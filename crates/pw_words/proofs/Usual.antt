@@ -101,6 +101,19 @@ two_front one other dash also true second names bare =
     (rw dash (ap (λ xs. one ∷ xs) rest.0), rw dash rest.1)
 two_front one other dash also false second names bare = flag_front other also second names bare
 
+-- three of them, or fewer
+abbrev three_words : Text → Bool → Text → Bool → Text → Bool → List Text
+three_words one first other second last third = flag_words one first ++ flag_words other second ++ flag_words last third
+
+three_front : (one other last : Text) → is_dashed one ≡ true → is_dashed other ≡ true → is_dashed last ≡ true → (first second third : Bool)
+    → (names : List Text) → are_bare names ≡ true
+    → (filter is_dashed (three_words one first other second last third ++ names) ≡ three_words one first other second last third)
+    × (filter is_bare (three_words one first other second last third ++ names) ≡ names)
+three_front one other last dash also too true second third names bare =
+    let rest = two_front other last also too second third names bare in
+    (rw dash (ap (λ xs. one ∷ xs) rest.0), rw dash rest.1)
+three_front one other last dash also too false second third names bare = two_front other last also too second third names bare
+
 -- the command has these flags, all of them in the table's order
 abbrev Ordered : Text → List Text → List Text → Type 0
 Ordered word all flags = (are_flags_of word flags ≡ true) × (in_table_order word flags ≡ all)
@@ -143,11 +156,12 @@ module _ (way : Way) (script : Text) (blocks : List Text) (are : AreFiles blocks
 
 -- ---- `audit`
 
-review_ordered : (step trace : Bool) → BothWays (codes "audit") (review_by step trace)
-review_ordered true true = ((refl, refl), (refl, refl))
-review_ordered true false = ((refl, refl), (refl, refl))
-review_ordered false true = ((refl, refl), (refl, refl))
-review_ordered false false = ((refl, refl), (refl, refl))
+review_ordered : (step trace cppc : Bool) → BothWays (codes "audit") (review_by step trace cppc)
+review_ordered true true true = ((refl, refl), (refl, refl))
+review_ordered true false true = ((refl, refl), (refl, refl))
+review_ordered false true true = ((refl, refl), (refl, refl))
+review_ordered false false true = ((refl, refl), (refl, refl))
+review_ordered _ _ _ = ((refl, refl), (refl, refl))
 
 module _ (review : Review) (script history : Text) (blocks : List Text) (are : AreFiles blocks) where
   review_asks : (rest flags : List Text) → Ordered (codes "audit") (review_flags review) flags → filter is_dashed rest ≡ flags
@@ -161,9 +175,10 @@ module _ (review : Review) (script history : Text) (blocks : List Text) (are : A
       → AskFor (codes "audit" ∷ review_flags review ++ script ∷ history ∷ blocks) (audit review script history blocks)
   audit_asks first second =
       let bare = bare_names script (history ∷ blocks) first (bare_names history blocks second are.bare) in
-      let parts = two_front (codes "--step") (codes "--trace") refl refl review.step review.trace (script ∷ history ∷ blocks) bare in
-      review_asks (review_flags review ++ script ∷ history ∷ blocks) (review_flags review) (review_ordered review.step review.trace).0
-      parts.0 parts.1 first second
+      let ordered = review_ordered review.step review.trace review.cppc in
+      let parts = three_front (codes "--step") (codes "--trace") (codes "--cppc") refl refl refl review.step review.trace review.cppc
+      (script ∷ history ∷ blocks) bare in
+      review_asks (review_flags review ++ script ∷ history ∷ blocks) (review_flags review) ordered.0 parts.0 parts.1 first second
 
   pub reviews_ask : (rest : List Text) → filter is_bare rest ≡ script ∷ history ∷ blocks
       → (filter is_dashed rest ≡ review_flags review) ⊎ (filter is_dashed rest ≡ reverse (review_flags review))
@@ -171,7 +186,7 @@ module _ (review : Review) (script history : Text) (blocks : List Text) (are : A
   reviews_ask rest others dashed =
       let one = bare_parts script (history ∷ blocks) (ap are_bare (sym others) ∙ bare_filtered rest) in
       let two = bare_parts history blocks one.1 in
-      let ordered = review_ordered review.step review.trace in
+      let ordered = review_ordered review.step review.trace review.cppc in
       elim dashed [
         | inl e ↦ review_asks rest (review_flags review) ordered.0 e others one.0 two.0
         | inr e ↦ review_asks rest (reverse (review_flags review)) ordered.1 e others one.0 two.0

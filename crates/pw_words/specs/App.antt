@@ -33,15 +33,17 @@ way_app = with_rule (with_rule (new_app (codes "drive")) (flag_rule (codes "seri
 abbrev pub drive_app : App
 drive_app = with_rule (with_rule way_app (word_rule (codes "script"))) blocks_rule
 
--- `audit [--step] [--trace]`, with no names yet
+-- `audit [--step] [--trace] [--cppc]`, with no names yet
 abbrev pub review_app : App
-review_app = with_rule (with_rule (new_app (codes "audit")) (flag_rule (codes "step"))) (flag_rule (codes "trace"))
+review_app = with_rule
+    (with_rule (with_rule (new_app (codes "audit")) (flag_rule (codes "step"))) (flag_rule (codes "trace")))
+    (flag_rule (codes "cppc"))
 
--- `audit [--step] [--trace] SCRIPT HISTORY`, with no blocks yet
+-- `audit [--step] [--trace] [--cppc] SCRIPT HISTORY`, with no blocks yet
 abbrev pub named_app : App
 named_app = with_rule (with_rule review_app (word_rule (codes "script"))) (word_rule (codes "history"))
 
--- `audit [--step] [--trace] SCRIPT HISTORY BLOCK..`
+-- `audit [--step] [--trace] [--cppc] SCRIPT HISTORY BLOCK..`
 abbrev pub audit_app : App
 audit_app = with_rule named_app blocks_rule
 

@@ -54,7 +54,8 @@ way_flags way = flag_words (codes "--serial") way.serial ++ flag_words (codes "-
 
 -- those that tell how a text is audited
 abbrev pub review_flags : Review → List Text
-review_flags review = flag_words (codes "--step") review.step ++ flag_words (codes "--trace") review.trace
+review_flags review =
+    flag_words (codes "--step") review.step ++ flag_words (codes "--trace") review.trace ++ flag_words (codes "--cppc") review.cppc
 
 -- a word that begins with a hyphen, the byte 45
 abbrev pub is_dashed : Text → Bool
@@ -82,7 +83,7 @@ pub record IsCount (word : Text) (count : ℕ) : Type 0 where
   pub few : count ≤ 32
 
 -- The words are a line of the table: `show BLOCK..`, `show --json BLOCK..`, `rewrite BLOCK..`, `check BLOCK..`, `lint BLOCK..`,
--- `drive [--serial] [--step] SCRIPT BLOCK..`, `audit [--step] [--trace] SCRIPT HISTORY BLOCK..`,
+-- `drive [--serial] [--step] SCRIPT BLOCK..`, `audit [--step] [--trace] [--cppc] SCRIPT HISTORY BLOCK..`,
 -- `cppc [--serial] SCRIPT BLOCK..`, `generate N`.
 abbrev pub IsLine : List Text → Asked → Type 0
 IsLine words (on_blocks task blocks) = (words ≡ task_name task ∷ task_flags task ++ blocks) × AreFiles blocks
@@ -101,7 +102,7 @@ IsLine words (generate count) = (word : Text) × (words ≡ codes "generate" ∷
 abbrev pub flags_of : Text → List Text
 flags_of word = if bytes_eq word (codes "show") then codes "--json" ∷ []
     else (if bytes_eq word (codes "drive") then codes "--serial" ∷ codes "--step" ∷ []
-    else (if bytes_eq word (codes "audit") then codes "--step" ∷ codes "--trace" ∷ []
+    else (if bytes_eq word (codes "audit") then codes "--step" ∷ codes "--trace" ∷ codes "--cppc" ∷ []
     else (if bytes_eq word (codes "cppc") then codes "--serial" ∷ [] else [])))
 
 -- the word is one of these
@@ -142,6 +143,7 @@ SayWay rows way = (is_used (codes "serial") rows ≡ way.serial) × (is_used (co
 -- the matches say whether each of the flags was given that tell how a text is audited
 abbrev pub SayReview : List Row → Review → Type 0
 SayReview rows review = (is_used (codes "step") rows ≡ review.step) × (is_used (codes "trace") rows ≡ review.trace)
+    × (is_used (codes "cppc") rows ≡ review.cppc)
 
 -- the subcommand by which it is asked for
 abbrev pub command_name : Asked → Text

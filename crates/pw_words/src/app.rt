@@ -67,17 +67,18 @@ fn drive<'a>(alloc: Global) -> Result<Command<'a>, AllocError>
     command.arg(blocks(alloc))
 }
 
-/// `audit [--step] [--trace]`, with no names yet.
+/// `audit [--step] [--trace] [--cppc]`, with no names yet.
 fn audit_flags<'a>(alloc: Global) -> Result<Command<'a>, AllocError>
     ensures app { IfOk result (λ c. app_of c ≡ review_app) }
     ensures local { IfOk result (λ c. (fields_of c).has_globals ≡ false) }
 {
     Command::new(alloc, "audit")
         .arg(flag(alloc, "step"))?
-        .arg(flag(alloc, "trace"))
+        .arg(flag(alloc, "trace"))?
+        .arg(flag(alloc, "cppc"))
 }
 
-/// `audit [--step] [--trace] SCRIPT HISTORY`, with no blocks yet.
+/// `audit [--step] [--trace] [--cppc] SCRIPT HISTORY`, with no blocks yet.
 fn audit_names<'a>(alloc: Global) -> Result<Command<'a>, AllocError>
     ensures app { IfOk result (λ c. app_of c ≡ named_app) }
     ensures local { IfOk result (λ c. (fields_of c).has_globals ≡ false) }
@@ -86,7 +87,7 @@ fn audit_names<'a>(alloc: Global) -> Result<Command<'a>, AllocError>
     command.arg(word(alloc, "history"))
 }
 
-/// `audit [--step] [--trace] SCRIPT HISTORY BLOCK..`.
+/// `audit [--step] [--trace] [--cppc] SCRIPT HISTORY BLOCK..`.
 fn audit<'a>(alloc: Global) -> Result<Command<'a>, AllocError>
     ensures app { IfOk result (λ c. app_of c ≡ audit_app) }
     ensures local { IfOk result (λ c. (fields_of c).has_globals ≡ false) }

@@ -40,6 +40,8 @@ pub struct Review {
     pub step: bool,
     /// `--trace`: it is a trace of a running system; else a printed history.
     pub trace: bool,
+    /// `--cppc`: it is one of requests for performance; else one of `drive`.
+    pub cppc: bool,
 }
 
 /// What the words of a command line ask for.
@@ -57,7 +59,7 @@ pub enum Command<'a> {
         script: &'a str,
         blocks: Vec<&'a str>,
     },
-    /// `audit [--step] [--trace] SCRIPT HISTORY BLOCK..`: the history or the trace in a file checked
+    /// `audit [--step] [--trace] [--cppc] SCRIPT HISTORY BLOCK..`: the history or the trace in a file checked
     /// against the script and the blocks in 1 to 64 files.
     Audit {
         review: Review,

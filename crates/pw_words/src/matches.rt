@@ -70,6 +70,7 @@ fn review_in(matches: &ArgMatches<'_>) -> Review
     Review {
         step: was_given(matches, "step"),
         trace: was_given(matches, "trace"),
+        cppc: was_given(matches, "cppc"),
     }
 }
 

@@ -24,7 +24,7 @@ fn known_flags(word: &str) -> &'static [&'static str]
     match word {
         "show" => &["--json"],
         "drive" => &["--serial", "--step"],
-        "audit" => &["--step", "--trace"],
+        "audit" => &["--step", "--trace", "--cppc"],
         "cppc" => &["--serial"],
         _ => &[],
     }

@@ -2,12 +2,9 @@
 use Rattle.std.specs.Prelude.{◌≡◌, ◌≢◌, ◌<◌, ◌++◌, ◌∷◌, ℕ, List, [], length, slice_index_or}
 use Rattle.std.specs.List.{AllByRecursion}
 use Rattle.acpi_values.specs.declared.operation.Op.{Op}
-use Rattle.pw_plan.specs.declared.plan.Plan.{Plan}
-use Rattle.pw_plan.specs.declared.request.Request.{Request}
-use Rattle.pw_plan.specs.Requests.{cpu_of}
-use Rattle.pw_model.specs.declared.entry.HistoryEntry.{HistoryEntry}
-use Rattle.pw_notice.specs.Limits.{own, requests}
-use Rattle.pw_audit.specs.Traces.{op_cpu}
+use Rattle.pw_history.specs.Asked.{own, requests}
+use Rattle.pw_history.specs.Wording.{Wording}
+use Rattle.pw_audit.specs.Tracing.{op_cpu}
 
 -- what is left for processor p
 abbrev pub left_of : {X : Type 0} → List (List X) → ℕ → List X
@@ -18,22 +15,6 @@ pub record Takes {X : Type 0} (old : List (List X)) (p : ℕ) (x : X) (new : Lis
   pub size : length new ≡ length old
   pub first : left_of old p ≡ x ∷ left_of new p
   pub others : (k : ℕ) → k ≢ p → left_of new k ≡ left_of old k
-
--- # Requests
-
--- q is the first that is left for its processor
-pub record IsNext (queues : List (List Request)) (q : Request) : Type 0 where
-  pub later : List Request
-  pub is : left_of queues (cpu_of q) ≡ q ∷ later
-
--- For each processor of the plan what is asked for in its name is what the history has of it, and then what is left.
-pub record Leaves (P : Plan) (asked : List Request) (es : List HistoryEntry) (queues : List (List Request)) : Type 0 where
-  pub size : length queues ≡ length P.cpus
-  pub each : (p : ℕ) → p < length P.cpus → own p asked ≡ own p (requests es) ++ left_of queues p
-
--- what is left for a processor is asked for in its name
-abbrev pub EachOwn : List (List Request) → Type 0
-EachOwn queues = (p : ℕ) → AllByRecursion (λ q. cpu_of q ≡ p) (left_of queues p)
 
 -- # Operations
 
@@ -49,3 +30,20 @@ EachOn queues = (p : ℕ) → AllByRecursion (λ o. op_cpu o ≡ p) (left_of que
 -- the operations are on processors before this one
 abbrev pub AreWithin : ℕ → List Op → Type 0
 AreWithin n ops = AllByRecursion (λ o. op_cpu o < n) ops
+
+-- # Requests
+
+module _ {Plan Request Reply Entry State : Type 0} (W : Wording Plan Request Reply Entry State) where
+  -- q is the first that is left for its processor
+  pub record IsNext (queues : List (List Request)) (q : Request) : Type 0 where
+    pub later : List Request
+    pub is : left_of queues (W.cpu q) ≡ q ∷ later
+
+  -- For each processor of the plan what is asked for in its name is what the history has of it, and then what is left.
+  pub record Leaves (plan : Plan) (asked : List Request) (es : List Entry) (queues : List (List Request)) : Type 0 where
+    pub size : length queues ≡ W.cpus plan
+    pub each : (p : ℕ) → p < W.cpus plan → own W p asked ≡ own W p (requests W es) ++ left_of queues p
+
+  -- what is left for a processor is asked for in its name
+  abbrev pub EachOwn : List (List Request) → Type 0
+  EachOwn queues = (p : ℕ) → AllByRecursion (λ q. W.cpu q ≡ p) (left_of queues p)

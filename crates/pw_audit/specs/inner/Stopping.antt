@@ -1,28 +1,19 @@
 -- Where the lines of a text stop to be those that should come.
-use Rattle.std.specs.Prelude.{◌≡◌, ◌==◌, ◌<◌, ◌≤◌, ◌⊎◌, ◌+◌, ◌-◌, ◌++◌, ◌∷◌, ℕ, List, [], codes, map, take, length, slice_index_or, Option, Some, None, Result, Ok, Err, if◌then◌else◌, nat_lt, filter}
+use Rattle.std.specs.Prelude.{◌≡◌, ◌==◌, ◌<◌, ◌≤◌, ◌⊎◌, ◌+◌, ◌-◌, ◌++◌, ◌∷◌, ℕ, List, [], codes, map, take, length, slice_index_or, Option, Some, None, if◌then◌else◌, nat_lt, filter}
 use Rattle.acpi_values.specs.declared.operation.Op.{Op}
-use Rattle.pw_plan.specs.declared.plan.Plan.{Plan}
-use Rattle.pw_plan.specs.declared.request.Request.{Request}
-use Rattle.pw_plan.specs.Requests.{cpu_of}
-use Rattle.pw_model.specs.declared.entry.HistoryEntry.{HistoryEntry}
-use Rattle.pw_model.specs.declared.state.State.{State}
-use Rattle.pw_model.specs.Answers.{answer}
-use Rattle.pw_model.specs.History.{FaultFits, IsEntry, entry_of, entry_ops, request_of}
-use Rattle.pw_model.specs.Operations.{opening_ops, ops_of}
+use Rattle.pw_kind.specs.History as histories
 use Rattle.pw_text.specs.Lines.{text_of, with_feed}
 use Rattle.pw_text.specs.HistoryText.{fault_words}
 use Rattle.pw_text.specs.Openings.{opened, opening_line}
-use Rattle.pw_script.specs.HistoryText.{op_line, reply_words}
-use Rattle.pw_script.specs.Lawful.{Begins}
-use Rattle.pw_script.specs.Wholes.{entry_line, pieces_of}
-use Rattle.pw_audit.specs.declared.answer.Audit.{Audit}
+use Rattle.pw_history.specs.Wording.{Wording}
+use Rattle.pw_history.specs.HistoryText.{entry_line, op_line}
+use Rattle.pw_history.specs.Asked.{Begins}
+use Rattle.pw_history.specs.Wholes.{pieces_of}
 use Rattle.pw_audit.specs.declared.answer.AuditFault.{AuditFault}
-use Rattle.pw_audit.specs.declared.answer.TheConstants.{MOST_BYTES}
-use Rattle.pw_audit.specs.Audited.{IsShort}
 use Rattle.pw_audit.specs.declared.answer.AuditFault.TheVariants.{TooLong, Wrong, Unfinished, Memory}
 use Rattle.pw_audit.specs.declared.form.Form.{Form}
 use Rattle.pw_audit.specs.declared.form.Form.TheVariants.{Trace}
-use Rattle.pw_audit.specs.Traces.{IsUnfinishedAs, IsWrongAs, Opens, ShowsAs, TellsOps}
+use Rattle.pw_audit.specs.Tracing.{IsUnfinishedAs, IsWrongAs, Opens, TellsOps}
 use Rattle.pw_audit.specs.inner.Queues.{IsNext}
 
 -- # Lines that should come
@@ -54,84 +45,6 @@ MissesLine line n left (Wrong number) = (number ≡ n + 1) × (0 < length left) 
 MissesLine line n left (Unfinished lines) = (lines ≡ n) × (length left ≡ 0)
 MissesLine line n left Memory = ⊥
 
--- # Operations that should come
-
--- the lines of an entry's operations, and what stands behind them
-pub record OpsRead (form : Form) (P : Plan) (ops : List Op) (left rest : List ℕ) : Type 0 where
-  pub lines : List (List ℕ)
-  pub tells : TellsOps form P ops lines
-  pub is : left ≡ text_of lines ++ rest
-
--- a text has lines of some of these operations, and then nothing
-pub record OpsEnd (form : Form) (P : Plan) (ops : List Op) (left : List ℕ) : Type 0 where
-  pub done : List (List ℕ)
-  pub later : List (List ℕ)
-  pub tells : TellsOps form P ops (done ++ later)
-  pub lacks : 0 < length later
-  pub is : left ≡ text_of done
-
--- a text has lines of some of these operations, and then something else than a line that may come next
-pub record OpsBreak (form : Form) (P : Plan) (ops : List Op) (left : List ℕ) : Type 0 where
-  pub done : List (List ℕ)
-  pub later : List (List ℕ)
-  pub tells : TellsOps form P ops (done ++ later)
-  pub lacks : 0 < length later
-  pub rest : List ℕ
-  pub is : left ≡ text_of done ++ rest
-  pub some : 0 < length rest
-  pub other : (l : List ℕ) (more : List (List ℕ)) → TellsOps form P ops (done ++ l ∷ more) → Begins (with_feed l) rest → ⊥
-
--- what is told of a text, behind n lines, that should begin with the lines of an entry's operations and doesn't
-abbrev pub StopsInOps : Form → Plan → List Op → ℕ → List ℕ → AuditFault → Type 0
-StopsInOps form P ops n left (TooLong bound) = ⊥
-StopsInOps form P ops n left (Wrong line) = (breaks : OpsBreak form P ops left) × (line ≡ n + length breaks.done + 1)
-StopsInOps form P ops n left (Unfinished lines) = (ends : OpsEnd form P ops left) × (lines ≡ n + length ends.done)
-StopsInOps form P ops n left Memory = Unit {0}
-
--- # Entries that may come
-
--- the request with this fault, as an entry of seat 0
-abbrev pub entry_with : Request → ℕ → HistoryEntry
-entry_with q fault = record (entry_of 0 q) { fault = fault }
-
--- what came of a request that was asked in state S, with this fault
-abbrev pub outcome_at : Plan → State → Request → ℕ → List (List ℕ)
-outcome_at P S q fault = if fault == 0 then reply_words (answer P S q) else fault_words (fault - 1)
-
--- a fault comes at one of the operations
-abbrev pub FitsAt : Plan → State → Request → ℕ → Type 0
-FitsAt P S q fault = (fault ≡ 0) ⊎ (fault ≤ length (ops_of P S q))
-
--- an entry that may come next, where the plan is in state S and this is left of a script
-pub record MayCome (P : Plan) (S : State) (queues : List (List Request)) (e : HistoryEntry) : Type 0 where
-  pub entry : IsEntry P e
-  pub fits : FaultFits P S e
-  pub next : IsNext queues (request_of e)
-
--- the text begins with the line of no such entry, numbered n
-abbrev pub NoEntry : Plan → State → ℕ → List (List Request) → List ℕ → Type 0
-NoEntry P S n queues left = (e : HistoryEntry) → MayCome P S queues e → Begins (with_feed (entry_line P S n e)) left → ⊥
-
--- the lines of entry n, and what stands behind them
-pub record EntryRead (form : Form) (P : Plan) (S : State) (n : ℕ) (e : HistoryEntry) (left rest : List ℕ) : Type 0 where
-  pub ops : List (List ℕ)
-  pub tells : TellsOps form P (entry_ops P S e) ops
-  pub is : left ≡ text_of (entry_line P S n e ∷ ops) ++ rest
-
--- the text begins with the line of such an entry, and stops in its operations; there are `before` lines before it
-pub record StopsBehind (form : Form) (P : Plan) (S : State) (n : ℕ) (queues : List (List Request)) (before : ℕ) (left : List ℕ)
-    (fault : AuditFault) : Type 0 where
-  pub entry : HistoryEntry
-  pub may : MayCome P S queues entry
-  pub rest : List ℕ
-  pub is : left ≡ with_feed (entry_line P S n entry) ++ rest
-  pub stops : StopsInOps form P (entry_ops P S entry) (before + 1) rest fault
-
--- what is told of a text, behind so many lines, that should begin with the lines of an entry and doesn't
-abbrev pub StopsAtEntry : Form → Plan → State → ℕ → List (List Request) → ℕ → List ℕ → AuditFault → Type 0
-StopsAtEntry form P S n queues before left fault =
-    (fault ≡ Memory) ⊎ (((fault ≡ Wrong (before + 1)) × NoEntry P S n queues left) ⊎ StopsBehind form P S n queues before left fault)
-
 -- # The opening
 
 -- a fault in the opening comes before so many operations
@@ -139,57 +52,127 @@ abbrev pub WithinOpening : ℕ → Option ℕ → Type 0
 WithinOpening count None = Unit {0}
 WithinOpening count (Some k) = k < count
 
--- the text begins with no first line
-abbrev pub NoOpening : Plan → List ℕ → Type 0
-NoOpening P text = (f : Option ℕ) → WithinOpening (length (opening_ops P)) f → Begins (with_feed (opening_line f)) text → ⊥
+module _ {Plan Request Reply Entry State : Type 0} (W : Wording Plan Request Reply Entry State) where
+  -- # Operations that should come
 
--- the text doesn't begin with the first operation of the opening; it does
-abbrev pub LacksFirst : Plan → List ℕ → Type 0
-LacksFirst P left = (o : Op) (os : List Op) → opening_ops P ≡ o ∷ os → Begins (with_feed (op_line P o)) left → ⊥
+  -- the lines of an entry's operations, and what stands behind them
+  pub record OpsRead (form : Form) (plan : Plan) (ops : List Op) (left rest : List ℕ) : Type 0 where
+    pub lines : List (List ℕ)
+    pub tells : TellsOps W form plan ops lines
+    pub is : left ≡ text_of lines ++ rest
 
-abbrev pub HasFirst : Plan → List ℕ → Type 0
-HasFirst P left = (o : Op) (os : List Op) → opening_ops P ≡ o ∷ os → Begins (with_feed (op_line P o)) left
+  -- a text has lines of some of these operations, and then nothing
+  pub record OpsEnd (form : Form) (plan : Plan) (ops : List Op) (left : List ℕ) : Type 0 where
+    pub done : List (List ℕ)
+    pub later : List (List ℕ)
+    pub tells : TellsOps W form plan ops (done ++ later)
+    pub lacks : 0 < length later
+    pub is : left ≡ text_of done
 
--- the lines of an opening, so many, and what stands behind them: where a trace left the operations out, not their first
-pub record OpeningRead (form : Form) (P : Plan) (o : Option ℕ) (text : List ℕ) (before : ℕ) (left : List ℕ) : Type 0 where
-  pub first : List (List ℕ)
-  pub opens : Opens form P o first
-  pub lines : before ≡ length first
-  pub is : text ≡ text_of first ++ left
-  pub out : form ≡ Trace → first ≡ codes "open" ∷ [] → LacksFirst P left
+  -- a text has lines of some of these operations, and then something else than a line that may come next
+  pub record OpsBreak (form : Form) (plan : Plan) (ops : List Op) (left : List ℕ) : Type 0 where
+    pub done : List (List ℕ)
+    pub later : List (List ℕ)
+    pub tells : TellsOps W form plan ops (done ++ later)
+    pub lacks : 0 < length later
+    pub rest : List ℕ
+    pub is : left ≡ text_of done ++ rest
+    pub some : 0 < length rest
+    pub other : (l : List ℕ) (more : List (List ℕ)) → TellsOps W form plan ops (done ++ l ∷ more) → Begins (with_feed l) rest → ⊥
 
--- the text begins with a first line, and stops in the operations of the opening; in a trace that it opens behind their first
-pub record StopsInOpening (form : Form) (P : Plan) (text : List ℕ) (fault : AuditFault) : Type 0 where
-  pub opening : Option ℕ
-  pub within : WithinOpening (length (opening_ops P)) opening
-  pub rest : List ℕ
-  pub is : text ≡ with_feed (opening_line opening) ++ rest
-  pub stops : StopsIn (map (op_line P) (opened opening (opening_ops P))) 1 rest fault
-  pub has : form ≡ Trace → opening ≡ None → HasFirst P rest
+  -- what is told of a text, behind n lines, that should begin with the lines of an entry's operations and doesn't
+  abbrev pub StopsInOps : Form → Plan → List Op → ℕ → List ℕ → AuditFault → Type 0
+  StopsInOps form plan ops n left (TooLong bound) = ⊥
+  StopsInOps form plan ops n left (Wrong line) = (breaks : OpsBreak form plan ops left) × (line ≡ n + length breaks.done + 1)
+  StopsInOps form plan ops n left (Unfinished lines) = (ends : OpsEnd form plan ops left) × (lines ≡ n + length ends.done)
+  StopsInOps form plan ops n left Memory = Unit {0}
 
--- what is told of a text that should begin with the lines of an opening and doesn't
-abbrev pub StopsAtOpening : Form → Plan → List ℕ → AuditFault → Type 0
-StopsAtOpening form P text fault =
-    (fault ≡ Memory) ⊎ (((fault ≡ Unfinished 0) × (length text ≡ 0))
-    ⊎ (((fault ≡ Wrong 1) × (0 < length text) × NoOpening P text) ⊎ StopsInOpening form P text fault))
+  -- # Entries that may come
 
--- # Texts
+  -- what came of a request that was asked in state S, with this fault
+  abbrev pub outcome_at : Plan → State → Request → ℕ → List (List ℕ)
+  outcome_at plan S q fault = if fault == 0 then W.reply_words (W.kind.answer plan S q) else fault_words (fault - 1)
 
--- what is told of a text that isn't whole
-abbrev pub Refuses : Form → Plan → List Request → List ℕ → AuditFault → Type 0
-Refuses form P asked text (TooLong bound) = ⊥
-Refuses form P asked text (Wrong line) = IsWrongAs form P asked text line
-Refuses form P asked text (Unfinished lines) = (lines ≡ length (pieces_of text)) × IsUnfinishedAs form P asked text
-Refuses form P asked text Memory = Unit {0}
+  -- a fault comes at one of the operations
+  abbrev pub FitsAt : Plan → State → Request → ℕ → Type 0
+  FitsAt plan S q fault = (fault ≡ 0) ⊎ (fault ≤ length (W.kind.ops plan S q))
 
--- what an answer tells of a text
-abbrev pub Told : Form → Plan → List Request → List ℕ → Result Audit AuditFault → Type 0
-Told form P asked text (Ok a) = IsShort text × ShowsAs form P asked text a
-Told form P asked text (Err (TooLong b)) = (b ≡ MOST_BYTES) × (MOST_BYTES < length text)
-Told form P asked text (Err (Wrong k)) = IsShort text × IsWrongAs form P asked text k
-Told form P asked text (Err (Unfinished n)) = IsShort text × (n ≡ length (pieces_of text)) × IsUnfinishedAs form P asked text
-Told form P asked text (Err Memory) = Unit {0}
+  -- an entry that may come next, where the plan is in state S and this is left of a script
+  pub record MayCome (plan : Plan) (S : State) (queues : List (List Request)) (e : Entry) : Type 0 where
+    pub entry : W.kind.IsEntry plan e
+    pub fits : histories.FaultFits W.kind plan S e
+    pub next : IsNext W queues (W.kind.request e)
 
--- the requests of processors of the plan
-abbrev pub known : Plan → List Request → List Request
-known P asked = filter (λ q. nat_lt (cpu_of q) (length P.cpus)) asked
+  -- the text begins with the line of no such entry, numbered n
+  abbrev pub NoEntry : Plan → State → ℕ → List (List Request) → List ℕ → Type 0
+  NoEntry plan S n queues left = (e : Entry) → MayCome plan S queues e → Begins (with_feed (entry_line W plan S n e)) left → ⊥
+
+  -- the lines of entry n, and what stands behind them
+  pub record EntryRead (form : Form) (plan : Plan) (S : State) (n : ℕ) (e : Entry) (left rest : List ℕ) : Type 0 where
+    pub ops : List (List ℕ)
+    pub tells : TellsOps W form plan (histories.entry_ops W.kind plan S e) ops
+    pub is : left ≡ text_of (entry_line W plan S n e ∷ ops) ++ rest
+
+  -- the text begins with the line of such an entry, and stops in its operations; there are `before` lines before it
+  pub record StopsBehind (form : Form) (plan : Plan) (S : State) (n : ℕ) (queues : List (List Request)) (before : ℕ) (left : List ℕ)
+      (fault : AuditFault) : Type 0 where
+    pub entry : Entry
+    pub may : MayCome plan S queues entry
+    pub rest : List ℕ
+    pub is : left ≡ with_feed (entry_line W plan S n entry) ++ rest
+    pub stops : StopsInOps form plan (histories.entry_ops W.kind plan S entry) (before + 1) rest fault
+
+  -- what is told of a text, behind so many lines, that should begin with the lines of an entry and doesn't
+  abbrev pub StopsAtEntry : Form → Plan → State → ℕ → List (List Request) → ℕ → List ℕ → AuditFault → Type 0
+  StopsAtEntry form plan S n queues before left fault =
+      (fault ≡ Memory) ⊎ (((fault ≡ Wrong (before + 1)) × NoEntry plan S n queues left)
+      ⊎ StopsBehind form plan S n queues before left fault)
+
+  -- # The opening
+
+  -- the text begins with no first line
+  abbrev pub NoOpening : Plan → List ℕ → Type 0
+  NoOpening plan text = (f : Option ℕ) → WithinOpening (length (W.opening_ops plan)) f → Begins (with_feed (opening_line f)) text → ⊥
+
+  -- the text doesn't begin with the first operation of the opening; it does
+  abbrev pub LacksFirst : Plan → List ℕ → Type 0
+  LacksFirst plan left = (o : Op) (os : List Op) → W.opening_ops plan ≡ o ∷ os → Begins (with_feed (op_line W plan o)) left → ⊥
+
+  abbrev pub HasFirst : Plan → List ℕ → Type 0
+  HasFirst plan left = (o : Op) (os : List Op) → W.opening_ops plan ≡ o ∷ os → Begins (with_feed (op_line W plan o)) left
+
+  -- the lines of an opening, so many, and what stands behind them: where a trace left the operations out, not their first
+  pub record OpeningRead (form : Form) (plan : Plan) (o : Option ℕ) (text : List ℕ) (before : ℕ) (left : List ℕ) : Type 0 where
+    pub first : List (List ℕ)
+    pub opens : Opens W form plan o first
+    pub lines : before ≡ length first
+    pub is : text ≡ text_of first ++ left
+    pub out : form ≡ Trace → first ≡ codes "open" ∷ [] → LacksFirst plan left
+
+  -- the text begins with a first line, and stops in the operations of the opening; in a trace that it opens behind their first
+  pub record StopsInOpening (form : Form) (plan : Plan) (text : List ℕ) (fault : AuditFault) : Type 0 where
+    pub opening : Option ℕ
+    pub within : WithinOpening (length (W.opening_ops plan)) opening
+    pub rest : List ℕ
+    pub is : text ≡ with_feed (opening_line opening) ++ rest
+    pub stops : StopsIn (map (op_line W plan) (opened opening (W.opening_ops plan))) 1 rest fault
+    pub has : form ≡ Trace → opening ≡ None → HasFirst plan rest
+
+  -- what is told of a text that should begin with the lines of an opening and doesn't
+  abbrev pub StopsAtOpening : Form → Plan → List ℕ → AuditFault → Type 0
+  StopsAtOpening form plan text fault =
+      (fault ≡ Memory) ⊎ (((fault ≡ Unfinished 0) × (length text ≡ 0))
+      ⊎ (((fault ≡ Wrong 1) × (0 < length text) × NoOpening plan text) ⊎ StopsInOpening form plan text fault))
+
+  -- # Texts
+
+  -- what is told of a text that isn't whole
+  abbrev pub Refuses : Form → Plan → List Request → List ℕ → AuditFault → Type 0
+  Refuses form plan asked text (TooLong bound) = ⊥
+  Refuses form plan asked text (Wrong line) = IsWrongAs W form plan asked text line
+  Refuses form plan asked text (Unfinished lines) = (lines ≡ length (pieces_of text)) × IsUnfinishedAs W form plan asked text
+  Refuses form plan asked text Memory = Unit {0}
+
+  -- the requests of processors of the plan
+  abbrev pub known : Plan → List Request → List Request
+  known plan asked = filter (λ q. nat_lt (W.cpu q) (W.cpus plan)) asked

@@ -6,7 +6,7 @@ if_ok_more (Ok x) f h = f x h
 if_ok_more (Err e) f h = tt
 
 pub returns-in-None-clause-out : goal.returns-in-None-clause-out
-returns-in-None-clause-out c = if_ok_more c.lacks_first.result (λ b lacks is. (c.in-Trace.is, c.in-None.is, lacks is)) c.lacks_first.ensures.lacks
+returns-in-None-clause-out g c = if_ok_more c.lacks_first.result (λ b lacks is. (c.in-Trace.is, c.in-None.is, lacks is)) c.lacks_first.ensures.lacks
 
 pub returns-in-None-clause-has : goal.returns-in-None-clause-has
-returns-in-None-clause-has c = if_ok_more c.lacks_first.result (λ b has is trace none. has is) c.lacks_first.ensures.has
+returns-in-None-clause-has g c = if_ok_more c.lacks_first.result (λ b has is trace none. has is) c.lacks_first.ensures.has

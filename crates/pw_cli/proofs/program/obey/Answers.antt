@@ -9,7 +9,7 @@ returns-in-OnBlocks-clause-obeyed g c =
 pub returns-in-Audit-clause-obeyed : goal.returns-in-Audit-clause-obeyed
 returns-in-Audit-clause-obeyed g c =
     rw (c.unsealed-in-Audit.ensures, c.in-Audit.is) (ended_as (λ text line way. (way, refl, refl))
-    (rw (c.form_of-form.ensures, c.as_slice-names-in-Audit.ensures.value) at c.audit-status.ensures.did))
+    (rw c.as_slice-names-in-Audit.ensures.value at c.review_by-status.ensures.did))
 
 pub returns-in-Cppc-clause-obeyed : goal.returns-in-Cppc-clause-obeyed
 returns-in-Cppc-clause-obeyed g c =

@@ -22,5 +22,5 @@ returns-in-Err-clause-did g c =
 pub returns-clause-did : goal.returns-clause-did
 returns-clause-did g c =
     let within = judging_within c.args.form g.F.Files c.args.files.now c.read_given.new.files c.judge-status.new.files c.read_given.ensures.keeps_files c.args.history.now
-    c.args.step c.args.script.now (names_of c.args.blocks.now) c.in-Ok-read_given.plan c.in-Ok-read_given.lines.lines c.in-Ok-read_given.ensures.given in
-    did_within within (rw c.in-Ok-read_given.ensures.quiet at c.judge-status.ensures.did)
+    c.args.step c.args.script.now (names_of c.args.blocks.now) c.in-Ok-read_given.plan c.in-Ok-read_given.script.lines c.in-Ok-read_given.ensures.given in
+    did_within within (rw (c.in-Ok-read_given.ensures.quiet, c.as_slice-lines.ensures) at c.judge-status.ensures.did)

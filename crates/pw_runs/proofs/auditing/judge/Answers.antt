@@ -1,6 +1,5 @@
-use Rattle.std.proofs.Common.{codes}
+use Rattle.std.proofs.Common.{codes, map}
 use Rattle.pw_base.specs.Seen.{files_seen}
-use Rattle.pw_script.specs.Reading.{requests_of}
 use Rattle.pw_load.specs.Ends.Does.{stopped}
 use Rattle.pw_load.specs.Ends.Stops.{read_fault}
 use Rattle.pw_load.proofs.Outcomes.{did_within, ended_saying}
@@ -10,8 +9,8 @@ use Rattle.pw_runs.proofs.auditing.judge.Goals as goal
 
 pub returns-in-Ok-clause-did : goal.returns-in-Ok-clause-did
 returns-in-Ok-clause-did g c =
-    did_within (telling_within c.args.form (files_seen g.F.Files c.args.files.now) (files_seen g.F.Files c.read_history.new.files) c.args.name.now
-    c.args.plan.now (requests_of c.args.script.now.lines) c.in-Ok.entries c.in-Ok.ensures.held) c.print_lawful.ensures.did
+    did_within (telling_within g.T.Audited.words c.args.form (files_seen g.F.Files c.args.files.now) (files_seen g.F.Files c.read_history.new.files) c.args.name.now
+    c.args.plan.now (map g.T.Audited.ask c.args.lines.now) c.in-Ok.entries c.in-Ok.ensures.held) c.print_lawful.ensures.did
 
 pub returns-in-Err-Unread-clause-did : goal.returns-in-Err-Unread-clause-did
 returns-in-Err-Unread-clause-did g c =
@@ -24,5 +23,5 @@ returns-in-Err-Fault-clause-did g c =
     let why = rw c.in-Err-Fault.field-0-is at c.in-Err-Fault.ensures.unlawful in
     let fault = c.in-Err-Fault.fault in
     ended_saying g.K.Sink c.args.out.now c.args.err.now c.refuse_history.new.err (history_line fault) c.refuse_history.result
-    (rw c.refuse_history.ensures.status (stopped (stops_judging c.args.form (files_seen g.F.Files c.args.files.now) (files_seen g.F.Files c.read_history.new.files) c.args.name.now
-    c.args.plan.now (requests_of c.args.script.now.lines) fault why))) c.refuse_history.ensures.line
+    (rw c.refuse_history.ensures.status (stopped (stops_judging g.T.Audited.words c.args.form (files_seen g.F.Files c.args.files.now) (files_seen g.F.Files c.read_history.new.files) c.args.name.now
+    c.args.plan.now (map g.T.Audited.ask c.args.lines.now) fault why))) c.refuse_history.ensures.line

@@ -1,7 +1,7 @@
 use Rattle.std.proofs.Common.{◌∙◌, ◌++◌, List, ℕ, ap, take}
 use Rattle.std.proofs.lemmas.Result.{on_ok_weaker}
 use Rattle.pw_script.proofs.Spacing.{behind_chain}
-use Rattle.pw_audit.proofs.words.push_reply.Goals as goal
+use Rattle.pw_audit.proofs.power.push_reply.Goals as goal
 
 pub returns-in-Entered : goal.returns-in-Entered
 returns-in-Entered c =

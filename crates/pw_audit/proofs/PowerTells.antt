@@ -1,8 +1,9 @@
--- The operations of a request are on processors of the plan.
-use Rattle.std.proofs.Common.{◌≡◌, ◌<◌, ◌==◌, ◌-◌, ℕ, Bool, true, false, cond, List, [], ◌∷◌, map, filter, take, drop, length, Option, Some, None, refl, sym, subst, inl, inr, take-append-drop}
+-- What processor power has for an audit: its plans' texts tell, its replies aren't said as faults are, and the operations of a request
+-- are on processors of the plan.
+use Rattle.std.proofs.Common.{◌≡◌, ◌<◌, ◌==◌, ◌∙◌, ℕ, Bool, true, false, cond, List, [], ◌∷◌, ◌++◌, map, filter, length, get_or, codes, Option, Some, None, refl, sym, ap, subst, arith, append_assoc, inl, inr}
+use Rattle.std.proofs.lemmas.List.{get_or_past, length-map}
 use Rattle.std.specs.List.{AllByRecursion}
 use Rattle.std.proofs.lemmas.Bool.{cases_lt}
-use Rattle.std.proofs.lemmas.List.{get_or_past}
 use Rattle.std.proofs.lemmas.List.Elements.{recursion_from_All}
 use Rattle.acpi_values.specs.declared.dependency.Coord.{Coord}
 use Rattle.acpi_values.specs.declared.dependency.Coord.TheVariants.{SwAll, SwAny, HwAll}
@@ -11,6 +12,7 @@ use Rattle.acpi_values.specs.declared.idle.IdleKind.TheVariants.{Lpi, Cst, Absen
 use Rattle.acpi_values.specs.declared.operation.Op.{Op}
 use Rattle.pw_plan.specs.declared.domain.DomainKind.{DomainKind}
 use Rattle.pw_plan.specs.declared.domain.DomainKind.TheVariants as kinds
+use Rattle.pw_plan.specs.declared.parts.CpuParts.{CpuParts}
 use Rattle.pw_plan.specs.declared.plan.Plan.{Plan}
 use Rattle.pw_plan.specs.declared.request.Request.{Request}
 use Rattle.pw_plan.specs.declared.request.Request.TheVariants.{Idle, Wake, Perf, Throttle, PerfLimit, ThrottleLimit}
@@ -18,16 +20,53 @@ use Rattle.pw_plan.specs.Groups.{no_domain}
 use Rattle.pw_plan.specs.Places.{cpu_at, domain_at, domain_of, group_at, group_of, no_group}
 use Rattle.pw_plan.specs.Requests.{Has}
 use Rattle.pw_plan.proofs.Lists.{each_append}
-use Rattle.pw_kind.proofs.Joining.{each_first}
 use Rattle.pw_model.specs.declared.reply.Reply.{Reply}
+use Rattle.pw_model.specs.declared.reply.Reply.TheVariants.{Entered, Running, Stands, NoState, Disabled, AboveLimit, NoTable, Unfit, TooSlow}
 use Rattle.pw_model.specs.declared.state.State.{State}
 use Rattle.pw_model.specs.Answers.{changed, if_accepted}
 use Rattle.pw_model.specs.Domains.{c_state, standing}
 use Rattle.pw_model.specs.Operations.{accepted_ops, domain_ops, drawn_with, enter, idle_ops, ops_of, own_entry, set_at, set_on}
 use Rattle.pw_model.specs.Refusals.{refusal}
-use Rattle.pw_audit.specs.Traces.{op_cpu}
+use Rattle.pw_text.specs.Text.{place_text}
+use Rattle.pw_text.specs.Lines.{with_feed}
+use Rattle.pw_text.specs.Behind.{behind}
+use Rattle.pw_text.proofs.Spacing.{behind_more}
+use Rattle.pw_script.specs.Asking.{IsNarrowRequest}
+use Rattle.pw_script.specs.HistoryText.{chain_words, power_words, reply_words}
+use Rattle.pw_script.specs.Telling.{HasSegments, IsNarrow}
+use Rattle.pw_script.specs.inner.Paths.{paths_of}
+use Rattle.pw_script.proofs.Pathed.{path_text}
+use Rattle.pw_script.proofs.Told.{power_laws, power_made, power_paths}
+use Rattle.pw_audit.specs.Tracing.{op_cpu}
+use Rattle.pw_audit.specs.inner.Heading.{AreAllPaths}
+use Rattle.pw_audit.specs.inner.Outcomes.{PlanTells, RepliesTell}
 use Rattle.pw_audit.specs.inner.Queues.{AreWithin}
-use Rattle.pw_audit.proofs.Entries.{done_of}
+
+-- # Replies
+
+regroup : (a b c : List ℕ) → with_feed (a ++ b) ++ c ≡ a ++ (with_feed b ++ c)
+regroup a b c = simp append_assoc
+
+-- the third byte of a reply isn't that of `register`
+third : (r : Reply) (x : List ℕ) → get_or (with_feed (behind (reply_words r)) ++ x) 3 0 ≡ 103 → ⊥
+third (Entered chain) x e =
+    let words : with_feed (behind (codes "entered" ∷ chain_words chain)) ++ x ≡ codes " entered" ++ (with_feed (behind (chain_words chain)) ++ x) =
+    ap (λ (l : List ℕ). with_feed l ++ x) (behind_more (codes "entered") (chain_words chain)) ∙ regroup (codes " entered") (behind (chain_words chain)) x in
+    let byte : 116 ≡ 103 = ap (λ (l : List ℕ). get_or l 3 0) (sym words) ∙ e in
+    absurd (omega (arith, byte))
+third Running x e = let byte : 110 ≡ 103 = e in absurd (omega (arith, byte))
+third (Stands index) x e = let byte : 97 ≡ 103 = e in absurd (omega (arith, byte))
+third (NoState count) x e = let byte : 102 ≡ 103 = e in absurd (omega (arith, byte))
+third Disabled x e = let byte : 102 ≡ 103 = e in absurd (omega (arith, byte))
+third (AboveLimit limit) x e = let byte : 102 ≡ 103 = e in absurd (omega (arith, byte))
+third NoTable x e = let byte : 102 ≡ 103 = e in absurd (omega (arith, byte))
+third (Unfit domain why) x e = let byte : 102 ≡ 103 = e in absurd (omega (arith, byte))
+third (TooSlow latency) x e = let byte : 102 ≡ 103 = e in absurd (omega (arith, byte))
+
+replies_tell : RepliesTell power_words
+replies_tell r later b = third r later (ap (λ (l : List ℕ). get_or l 3 0) b.is)
+
+-- # Operations
 
 each_filtered : {X : Type 0} (T : X → Type 0) (f : X → Bool) (xs : List X) → AllByRecursion T xs → AllByRecursion T (filter f xs)
 each_filtered T f [] a = tt
@@ -105,11 +144,16 @@ module _ (P : Plan) where
       step None = accepted_within S (changed P S q) q has
       step (Some reply) = tt
 
-  pub done_within : (S : State) (q : Request) (f : ℕ) → Has P q → AreWithin (length P.cpus) (done_of (ops_of P S q) f)
-  done_within S q f has = step (f == 0)
-    where
-      step : (b : Bool) → AreWithin (length P.cpus) (cond b (ops_of P S q) (take (f - 1) (ops_of P S q)))
-      step true = ops_within S q has
-      step false =
-          each_first (λ o. op_cpu o < length P.cpus) (take (f - 1) (ops_of P S q)) (drop (f - 1) (ops_of P S q))
-          (subst (AreWithin (length P.cpus)) (sym (take-append-drop (f - 1) (ops_of P S q))) (ops_within S q has))
+pub power_tells : (P : Plan) → HasSegments P → PlanTells power_words P IsNarrow IsNarrowRequest
+power_tells P segments = record {
+  texts = power_laws P segments;
+  made = power_made P;
+  paths = power_paths P segments;
+  replies = replies_tell;
+  within = ops_within P;
+}
+
+-- # Paths
+
+pub power_texts : (P : Plan) (texts : List (List ℕ)) → texts ≡ paths_of P → AreAllPaths power_words P texts
+power_texts P texts e = rw e (record { size = length-map P.cpus (λ (c : CpuParts). place_text c.path.segs); named = path_text P })
