@@ -7,8 +7,9 @@ use crate::replay::{Heard, all_agree};
 use crate::seats::{Shared, gathered};
 use crate::text::{put_entries, put_open_fault};
 use pw_machines::{plan_of, u32_at};
+use pw_plan::Plan;
 use pw_regs::FailingRegisters;
-use pw_turns::{Closed, Coordinator, Counted, Keeps, Seat};
+use pw_turns::{Closed, Coordinator, Counted, Keeps, OpenFault, Seat};
 use std::alloc::Global;
 use std::sync::Wait;
 use std::thread::Threads;
@@ -79,13 +80,18 @@ fn played<R: Threads + Wait + Sync, K: Keeps + Sync>(
     alloc: Global,
     heard: &mut Vec<Heard>,
     shared: &Shared<K>,
-    mut seats: Vec<Seat>,
+    seat: Seat,
     lines: &str,
 ) -> (Seat, Option<()>)
-    requires { AreSeats shared.now.table.shared.table_id seats.items 65536 }
+    requires owns { Owns shared.now.table.shared.table_id seat }
+    requires alone { parts_of seat ≡ 65536 }
     ensures owns { Owns shared.now.table.shared.table_id result.0 }
     ensures alone { parts_of result.0 ≡ 65536 }
 {
+    let Ok(mut seats) = Vec::with_capacity(alloc, MOST_SEATS) else {
+        return (seat, None);
+    };
+    seats.push_reserved(seat);
     let told = play_all(rt, text, alloc, heard, shared, &mut seats, lines);
     (gathered(shared, seats), told)
 }
@@ -96,16 +102,27 @@ fn played_to_close<R: Threads + Wait + Sync>(
     text: &mut String,
     alloc: Global,
     shared: Shared,
-    seats: Vec<Seat>,
+    seat: Seat,
     lines: &str,
 ) -> Option<()>
-    requires { AreSeats shared.table.shared.table_id seats.items 65536 }
+    requires owns { Owns shared.table.shared.table_id seat }
+    requires alone { parts_of seat ≡ 65536 }
 {
     let mut heard = Vec::new(alloc);
-    let (seat, told) = played(rt, text, alloc, &mut heard, &shared, seats, lines);
+    let (seat, told) = played(rt, text, alloc, &mut heard, &shared, seat, lines);
     let closed = shared.close(seat);
-    told?;
-    put_closed(text, alloc, &closed, heard.as_slice())
+    let rest = put_closed(text, alloc, &closed, heard.as_slice());
+    drop(closed);
+    told.and(rest)
+}
+
+/// What a released coordinator leaves.
+fn put_released(text: &mut String, seen: u64, ops: usize) -> Option<()> {
+    write!(text, "\n  release -> {seen} entries seen").ok()?;
+    if seen > MOST_ENTRIES as u64 {
+        return Some(());
+    }
+    write!(text, ", {ops} operations").ok()
 }
 
 /// Makes the calls of the lines, and takes the registers of the coordinator without end.
@@ -114,22 +131,37 @@ fn played_to_release<R: Threads + Wait + Sync>(
     text: &mut String,
     alloc: Global,
     shared: Shared<Counted>,
-    seats: Vec<Seat>,
+    seat: Seat,
     lines: &str,
 ) -> Option<()>
-    requires { AreSeats shared.table.shared.table_id seats.items 65536 }
+    requires owns { Owns shared.table.shared.table_id seat }
+    requires alone { parts_of seat ≡ 65536 }
 {
     let mut heard = Vec::new(alloc);
-    let (seat, told) = played(rt, text, alloc, &mut heard, &shared, seats, lines);
+    let (seat, told) = played(rt, text, alloc, &mut heard, &shared, seat, lines);
     let seen = seat.seen();
     let regs = shared.release(seat);
-    told?;
-    write!(text, "\n  release -> {seen} entries seen").ok()?;
-    if seen > MOST_ENTRIES as u64 {
-        return Some(());
+    let rest = put_released(text, seen, regs.log().len());
+    told.and(rest)
+}
+
+/// The plan of a machine, and the registers of an opening.
+fn prepared(alloc: Global, machine: &str, opening: &str) -> Option<(Plan, FailingRegisters)> {
+    let plan = plan_of(alloc, machine).ok()?;
+    match registers_of(alloc, opening) {
+        Some(regs) => Some((plan, regs)),
+        None => {
+            drop(plan);
+            None
+        }
     }
-    let ops = regs.log().len();
-    write!(text, ", {ops} operations").ok()
+}
+
+/// Why there is no coordinator.
+fn not_opened(text: &mut String, why: OpenFault<FailingRegisters>) -> Option<()> {
+    let told = put_open_fault(text, &why);
+    drop(why);
+    told
 }
 
 /// `open CAPACITY ROOM FAILS ..`, and lines of calls.
@@ -145,15 +177,12 @@ fn opened<R: Threads + Wait + Sync>(
     if capacity > 65536 {
         return None;
     }
-    let regs = registers_of(alloc, opening)?;
-    let plan = plan_of(alloc, machine).ok()?;
-    let mut seats = Vec::with_capacity(alloc, MOST_SEATS).ok()?;
+    let (plan, regs) = prepared(alloc, machine, opening)?;
     match Coordinator::open(alloc, plan, regs, capacity) {
-        Err(why) => put_open_fault(text, &why),
+        Err(why) => not_opened(text, why),
         Ok((shared, seat)) => {
-            seats.push_reserved(seat);
             let told = text.push_str("opened").ok();
-            let rest = played_to_close(rt, text, alloc, shared, seats, lines);
+            let rest = played_to_close(rt, text, alloc, shared, seat, lines);
             told.and(rest)
         }
     }
@@ -168,15 +197,12 @@ fn opened_endless<R: Threads + Wait + Sync>(
     opening: &str,
     lines: &str,
 ) -> Option<()> {
-    let regs = registers_of(alloc, opening)?;
-    let plan = plan_of(alloc, machine).ok()?;
-    let mut seats = Vec::with_capacity(alloc, MOST_SEATS).ok()?;
+    let (plan, regs) = prepared(alloc, machine, opening)?;
     match Coordinator::open_endless(alloc, plan, regs) {
-        Err(why) => put_open_fault(text, &why),
+        Err(why) => not_opened(text, why),
         Ok((shared, seat)) => {
-            seats.push_reserved(seat);
             let told = text.push_str("opened").ok();
-            let rest = played_to_release(rt, text, alloc, shared, seats, lines);
+            let rest = played_to_release(rt, text, alloc, shared, seat, lines);
             told.and(rest)
         }
     }

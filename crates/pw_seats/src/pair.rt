@@ -85,15 +85,21 @@ pub(crate) fn print_pair<T: Threads + Wait + Sync>(
         return println!(rt; "no memory");
     };
     match pair(threads, rt.alloc(), plan, regs) {
-        Ok(closed) => println!(rt;
-            "{} requests, {} operations",
-            closed.sealed().entries().len(),
-            closed.regs().log().len()
-        ),
-        Err(OpenFault::Memory { regs }) => println!(rt;
-            "no memory for a coordinator, {} operations",
-            regs.log().len()
-        ),
-        Err(OpenFault::RegisterFault { done, .. }) => println!(rt; "register fault after {done}"),
+        Ok(closed) => {
+            let requests = closed.sealed().entries().len();
+            let operations = closed.regs().log().len();
+            drop(closed);
+            println!(rt; "{requests} requests, {operations} operations")
+        }
+        Err(OpenFault::Memory { regs }) => {
+            let operations = regs.log().len();
+            drop(regs);
+            println!(rt; "no memory for a coordinator, {operations} operations")
+        }
+        Err(OpenFault::RegisterFault { done, plan, regs }) => {
+            drop(plan);
+            drop(regs);
+            println!(rt; "register fault after {done}")
+        }
     }
 }

@@ -269,10 +269,12 @@ fn released(text: &mut String, shared: Shared, seat: Seat) -> Option<()>
     requires { Owns shared.table.shared.table_id seat }
 {
     if !seat.alone() {
+        drop(shared);
+        drop(seat);
         return None;
     }
     let seen = seat.seen();
-    let _regs = shared.release(seat);
+    drop(shared.release(seat));
     write!(text, "\n  release -> {seen} entries seen").ok()
 }
 
@@ -287,10 +289,17 @@ fn played<W: Wait>(
 ) -> Option<()>
     requires { Owns shared.table.shared.table_id seat }
 {
-    let pair = steppers(alloc, &shared, seat)?;
-    let (seat, told) = play_all(rt, text, &shared, pair, lines);
-    let rest = released(text, shared, seat);
-    told.and(rest)
+    match steppers(alloc, &shared, seat) {
+        None => {
+            drop(shared);
+            None
+        }
+        Some(pair) => {
+            let (seat, told) = play_all(rt, text, &shared, pair, lines);
+            let rest = released(text, shared, seat);
+            told.and(rest)
+        }
+    }
 }
 
 /// `open endless`, and lines of calls.
@@ -302,7 +311,10 @@ fn opened<W: Wait>(
     lines: &str,
 ) -> Option<()> {
     match Coordinator::open_endless(alloc, plan, ReportedRegisters::new()) {
-        Err(_) => None,
+        Err(why) => {
+            drop(why);
+            None
+        }
         Ok((shared, seat)) => played(rt, text, alloc, shared, seat, lines),
     }
 }

@@ -70,8 +70,14 @@ fn put_read(text: &mut String, alloc: Global, kind: &str, bytes: &[u8]) -> Optio
         Width::W64
     };
     let object = object_of(alloc, bytes)?;
-    match put_object(text, alloc, kind, width, &object)? {
-        Some(written) => Some(Some(is_written(alloc, &written, bytes)?)),
+    let told = put_object(text, alloc, kind, width, &object);
+    drop(object);
+    match told? {
+        Some(written) => {
+            let again = is_written(alloc, &written, bytes);
+            drop(written);
+            Some(Some(again?))
+        }
         None => Some(None),
     }
 }

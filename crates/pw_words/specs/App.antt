@@ -33,11 +33,13 @@ way_app = with_rule (with_rule (new_app (codes "drive")) (flag_rule (codes "seri
 abbrev pub drive_app : App
 drive_app = with_rule (with_rule way_app (word_rule (codes "script"))) blocks_rule
 
+-- `audit [--step] [--trace]`, with no names yet
+abbrev pub trace_app : App
+trace_app = with_rule (with_rule (new_app (codes "audit")) (flag_rule (codes "step"))) (flag_rule (codes "trace"))
+
 -- `audit [--step] [--trace] [--cppc]`, with no names yet
 abbrev pub review_app : App
-review_app = with_rule
-    (with_rule (with_rule (new_app (codes "audit")) (flag_rule (codes "step"))) (flag_rule (codes "trace")))
-    (flag_rule (codes "cppc"))
+review_app = with_rule trace_app (flag_rule (codes "cppc"))
 
 -- `audit [--step] [--trace] [--cppc] SCRIPT HISTORY`, with no blocks yet
 abbrev pub named_app : App

@@ -3,7 +3,7 @@ ghost use Rattle.clap.specs.Words.{app_of, rule_of, with_subcommand};
 ghost use Rattle.clap.specs.declared.builder.command.Command.TheViews.{out-Command as fields_of};
 ghost use Rattle.pw_words.specs.App.{audit_app, bare_app, blocks_app, blocks_rule, cppc_app};
 ghost use Rattle.pw_words.specs.App.{drive_app, flag_rule, generate_app, line_app, review_app};
-ghost use Rattle.pw_words.specs.App.{named_app, reading_app, serial_app, show_app, way_app, word_rule};
+ghost use Rattle.pw_words.specs.App.{named_app, reading_app, serial_app, show_app, trace_app, way_app, word_rule};
 
 use clap::{Arg, ArgAction, Command};
 use std::alloc::{AllocError, Global};
@@ -53,9 +53,8 @@ fn drive_flags<'a>(alloc: Global) -> Result<Command<'a>, AllocError>
     ensures app { IfOk result (λ c. app_of c ≡ way_app) }
     ensures local { IfOk result (λ c. (fields_of c).has_globals ≡ false) }
 {
-    Command::new(alloc, "drive")
-        .arg(flag(alloc, "serial"))?
-        .arg(flag(alloc, "step"))
+    let command = Command::new(alloc, "drive").arg(flag(alloc, "serial"))?;
+    command.arg(flag(alloc, "step"))
 }
 
 /// `drive [--serial] [--step] SCRIPT BLOCK..`.
@@ -67,15 +66,21 @@ fn drive<'a>(alloc: Global) -> Result<Command<'a>, AllocError>
     command.arg(blocks(alloc))
 }
 
+/// `audit [--step] [--trace]`, with no names yet.
+fn trace_flags<'a>(alloc: Global) -> Result<Command<'a>, AllocError>
+    ensures app { IfOk result (λ c. app_of c ≡ trace_app) }
+    ensures local { IfOk result (λ c. (fields_of c).has_globals ≡ false) }
+{
+    let command = Command::new(alloc, "audit").arg(flag(alloc, "step"))?;
+    command.arg(flag(alloc, "trace"))
+}
+
 /// `audit [--step] [--trace] [--cppc]`, with no names yet.
 fn audit_flags<'a>(alloc: Global) -> Result<Command<'a>, AllocError>
     ensures app { IfOk result (λ c. app_of c ≡ review_app) }
     ensures local { IfOk result (λ c. (fields_of c).has_globals ≡ false) }
 {
-    Command::new(alloc, "audit")
-        .arg(flag(alloc, "step"))?
-        .arg(flag(alloc, "trace"))?
-        .arg(flag(alloc, "cppc"))
+    trace_flags(alloc)?.arg(flag(alloc, "cppc"))
 }
 
 /// `audit [--step] [--trace] [--cppc] SCRIPT HISTORY`, with no blocks yet.
@@ -144,8 +149,13 @@ fn with<'a>(
         (λ s. app_of c ≡ with_subcommand (app_of command.entry) (app_of s).top)) }
     ensures local { IfOk result (λ c. (fields_of c).has_globals ≡ false) }
 {
-    let sub = sub?;
-    command.subcommand(sub)
+    match sub {
+        Ok(sub) => command.subcommand(sub),
+        Err(error) => {
+            drop(command);
+            Err(error)
+        }
+    }
 }
 
 /// The command with those that run nothing.

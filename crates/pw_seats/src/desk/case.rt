@@ -1,10 +1,13 @@
-ghost use Rattle.pw_seats.specs.DeskSeats.{AreSeats};
+ghost use Rattle.std.specs.Prelude.{◌≡◌};
+ghost use Rattle.pw_cppc_desk.specs.Owning.{Owns};
+ghost use Rattle.pw_seats.specs.DeskSeats.{AreSeats, parts_of};
 
 use crate::desk::machine::plan_of;
 use crate::desk::play::play;
 use crate::desk::replay::{are_in_order, are_of};
 use crate::desk::seats::{Desk, gathered};
 use crate::desk::text::put_entry;
+use pw_cppc::CppcPlan;
 use pw_cppc_desk::{CppcClosed, CppcDesk, CppcOpenFault, CppcSeat};
 use pw_machines::u32_at;
 use pw_regs::FailingRegisters;
@@ -72,22 +75,45 @@ fn play_all<R: Threads + Wait + Sync>(
     Some(())
 }
 
+/// Makes the calls of the lines, and joins the seats.
+fn played_on<R: Threads + Wait + Sync>(
+    rt: &R,
+    text: &mut String,
+    alloc: Global,
+    desk: &Desk,
+    seat: CppcSeat,
+    lines: &str,
+) -> (CppcSeat, Option<()>)
+    requires owns { Owns desk.now.table.shared.table_id seat }
+    requires alone { parts_of seat ≡ 65536 }
+    ensures owns { Owns desk.now.table.shared.table_id result.0 }
+    ensures alone { parts_of result.0 ≡ 65536 }
+{
+    let Ok(mut seats) = Vec::with_capacity(alloc, MOST_SEATS) else {
+        return (seat, None);
+    };
+    seats.push_reserved(seat);
+    let told = play_all(rt, text, desk, &mut seats, lines);
+    (gathered(desk, seats), told)
+}
+
 /// Makes the calls of the lines, and closes the desk.
 fn played<R: Threads + Wait + Sync>(
     rt: &R,
     text: &mut String,
     alloc: Global,
     desk: Desk,
-    mut seats: Vec<CppcSeat>,
+    seat: CppcSeat,
     lines: &str,
 ) -> Option<()>
-    requires { AreSeats desk.table.shared.table_id seats.items 65536 }
+    requires owns { Owns desk.table.shared.table_id seat }
+    requires alone { parts_of seat ≡ 65536 }
 {
-    let told = play_all(rt, text, &desk, &mut seats, lines);
-    let seat = gathered(&desk, seats);
+    let (seat, told) = played_on(rt, text, alloc, &desk, seat, lines);
     let closed = desk.close(seat);
-    told?;
-    put_closed(text, alloc, &closed)
+    let rest = put_closed(text, alloc, &closed);
+    drop(closed);
+    told.and(rest)
 }
 
 /// Why there is no desk, with what is given back.
@@ -106,6 +132,18 @@ fn put_open_fault(text: &mut String, why: &CppcOpenFault<FailingRegisters>) -> O
     }
 }
 
+/// The plan of a machine, and the registers of an opening.
+fn prepared(alloc: Global, machine: &str, opening: &str) -> Option<(CppcPlan, FailingRegisters)> {
+    let plan = plan_of(alloc, machine)?;
+    match registers_of(alloc, opening) {
+        Some(regs) => Some((plan, regs)),
+        None => {
+            drop(plan);
+            None
+        }
+    }
+}
+
 /// `open CAPACITY ROOM FAILS ..`, and lines of calls.
 fn opened<R: Threads + Wait + Sync>(
     rt: &R,
@@ -120,15 +158,16 @@ fn opened<R: Threads + Wait + Sync>(
         return None;
     }
     write!(text, "  open {opening} -> ").ok()?;
-    let regs = registers_of(alloc, opening)?;
-    let plan = plan_of(alloc, machine)?;
-    let mut seats = Vec::with_capacity(alloc, MOST_SEATS).ok()?;
+    let (plan, regs) = prepared(alloc, machine, opening)?;
     match CppcDesk::open(alloc, plan, regs, capacity) {
-        Err(why) => put_open_fault(text, &why),
+        Err(why) => {
+            let told = put_open_fault(text, &why);
+            drop(why);
+            told
+        }
         Ok((desk, seat)) => {
-            seats.push_reserved(seat);
             let told = text.push_str("opened").ok();
-            let rest = played(rt, text, alloc, desk, seats, lines);
+            let rest = played(rt, text, alloc, desk, seat, lines);
             told.and(rest)
         }
     }

@@ -38,19 +38,40 @@ fn redo(
     all.extend_from_slice(list.get(..count)?).ok()
 }
 
-/// The operations of one caller alone who makes the requests of these entries.
-fn operations_of(alloc: Global, plan: &CppcPlan, entries: &[CppcEntry]) -> Option<Vec<Op>> {
-    let mut state = CppcState::open(alloc, plan).ok()?;
+/// The operations at the start.
+fn opening_of(alloc: Global, plan: &CppcPlan) -> Option<Vec<Op>> {
     let mut ops = Ops::new(alloc, ROOM).ok()?;
     if ops.spare() < plan.opening_bound() {
         return None;
     }
     open_all(plan, &mut ops);
-    let mut all = Vec::from_slice(alloc, ops.list()).ok()?;
+    Vec::from_slice(alloc, ops.list()).ok()
+}
+
+/// Appends those of one caller alone who makes the requests of these entries.
+fn redo_all(
+    all: &mut Vec<Op>,
+    alloc: Global,
+    plan: &CppcPlan,
+    state: &mut CppcState,
+    entries: &[CppcEntry],
+) -> Option<()>
+    requires { AreNumbers plan.now state.old }
+{
+    let mut ops = Ops::new(alloc, ROOM).ok()?;
     for entry in entries {
-        redo(&mut all, plan, &mut state, entry, &mut ops)?;
+        redo(all, plan, state, entry, &mut ops)?;
     }
-    Some(all)
+    Some(())
+}
+
+/// The operations of one caller alone who makes the requests of these entries.
+fn operations_of(alloc: Global, plan: &CppcPlan, entries: &[CppcEntry]) -> Option<Vec<Op>> {
+    let mut state = CppcState::open(alloc, plan).ok()?;
+    let mut all = opening_of(alloc, plan)?;
+    let told = redo_all(&mut all, alloc, plan, &mut state, entries);
+    drop(state);
+    told.and(Some(all))
 }
 
 /// Whether these operations are those of one caller alone who makes the requests of the entries.

@@ -26,6 +26,11 @@ fn block_of(alloc: Global, signature: &[u8], revision: u8, body: &[u8]) -> Optio
     parse(alloc, &bytes).ok()
 }
 
+/// The widths of integers in the first object and in the last.
+fn ends_of(space: &Space) -> Option<(Width, Width)> {
+    Some((space.placed().first()?.width, space.placed().last()?.width))
+}
+
 /// Whether integers have these widths in a block of this signature and revision, and in an SSDT of
 /// revision 2 behind it.
 fn have_widths(
@@ -36,10 +41,17 @@ fn have_widths(
     last: Width,
 ) -> Option<bool> {
     let one = block_of(alloc, signature, revision, b"\x08AAAA\xFF")?;
-    let other = block_of(alloc, b"SSDT", 2, b"\x08BBBB\xFF")?;
+    let Some(other) = block_of(alloc, b"SSDT", 2, b"\x08BBBB\xFF") else {
+        drop(one);
+        return None;
+    };
     let blocks = [one, other];
-    let space = Space::build(alloc, &blocks).ok()?;
-    let (before, behind) = (space.placed().first()?.width, space.placed().last()?.width);
+    let ends = match Space::build(alloc, &blocks) {
+        Ok(space) => ends_of(&space),
+        Err(_) => None,
+    };
+    drop(blocks);
+    let (before, behind) = ends?;
     Some(before == first && behind == last)
 }
 
@@ -81,10 +93,18 @@ fn is_longest(alloc: Global, space: &Space) -> Option<bool> {
     Some(path.as_slice().len() == 2 && space.longest_path() == 2)
 }
 
+fn are_right(alloc: Global, space: &Space) -> Option<bool> {
+    Some(are_found(alloc, space)? && is_longest(alloc, space)?)
+}
+
 /// Whether objects are found by path and by segment.
 pub(crate) fn objects(alloc: Global) -> Option<bool> {
     let body = b"\x08AAAA\x00\x5B\x82\x0BDEV0\x08BBBB\x01";
     let blocks = [block_of(alloc, b"SSDT", 2, body)?];
-    let space = Space::build(alloc, &blocks).ok()?;
-    Some(are_found(alloc, &space)? && is_longest(alloc, &space)?)
+    let told = match Space::build(alloc, &blocks) {
+        Ok(space) => are_right(alloc, &space),
+        Err(_) => None,
+    };
+    drop(blocks);
+    told
 }
