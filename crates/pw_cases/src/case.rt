@@ -1,8 +1,8 @@
 use crate::bytes::{put_block, put_bytes};
 use crate::outside::{Outside, SOUND};
+use crate::played::{Meeting, block_bytes};
 use pw_base::{Gate, Memory, MemoryFiles, MemorySink, OpenGate};
 use pw_cli::run;
-use pw_played::{Meeting, block_bytes};
 use pw_regs::FailingRegisters;
 use std::alloc::Global;
 use std::mem::replace;

@@ -6,6 +6,7 @@
 mod bytes;
 mod case;
 mod outside;
+mod played;
 mod races;
 
 use case::Case;

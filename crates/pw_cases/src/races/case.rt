@@ -1,7 +1,7 @@
+use crate::played::{Meeting, Played, play, play_alone};
 use crate::races::told::{put_audit, put_counts, put_text};
 use pw_base::{Gate, List, OpenGate};
 use pw_machines::{plan_of, request_of, u32_at, word_at};
-use pw_played::{Meeting, Played, play, play_alone};
 use pw_regs::FailingRegisters;
 use pw_script::{Line, Script};
 use std::alloc::Global;

@@ -1,9 +1,9 @@
+use crate::played::{Played, machine_of, play, play_alone};
 use crate::races::case::registers;
 use crate::races::told::{operations_in, put_text};
-use pw_audit::{Audit, AuditFault, audit};
+use pw_audit::{Audit, AuditFault, audit, audit_trace};
 use pw_base::OpenGate;
 use pw_plan::Plan;
-use pw_played::{Played, machine_of, play, play_alone};
 use pw_script::Script;
 use std::alloc::Global;
 use std::sync::Wait;
@@ -57,14 +57,17 @@ impl Trial {
         play_alone(alloc, plan, &self.script, regs)
     }
 
-    /// Whether the audit accepts the text of a run, with as many entries as it has, and with the
-    /// operations that the registers saw.
+    /// Whether the audit accepts the text of a run, as a history and as a trace, with as many entries as it
+    /// has, and with the operations that the registers saw.
     fn is_lawful(&self, alloc: Global, played: &Played) -> bool {
         let written = played.text.written();
         let answer = audit(alloc, &self.plan, &self.script, written);
         let has_all = has_entries(&answer, played.entries);
         drop(answer);
-        has_all && operations_in(written) == Some(played.operations)
+        let answer = audit_trace(alloc, &self.plan, &self.script, written);
+        let is_trace = has_entries(&answer, played.entries);
+        drop(answer);
+        has_all && is_trace && operations_in(written) == Some(played.operations)
     }
 }
 

@@ -1,6 +1,6 @@
+use crate::played::Played;
 use pw_audit::{Audit, AuditFault, audit};
 use pw_plan::Plan;
-use pw_played::Played;
 use pw_script::Script;
 use std::alloc::Global;
 use std::str::from_utf8;

@@ -17,15 +17,15 @@ const SUMMARY_ROOM: u32 = 1 << 12;
 
 /// What came of a run.
 #[derive(Drop)]
-pub struct Played {
+pub(crate) struct Played {
     /// The text of the history.
-    pub text: MemorySink,
+    pub(crate) text: MemorySink,
     /// Its summary, where no register failed.
-    pub summary: Option<MemorySink>,
+    pub(crate) summary: Option<MemorySink>,
     /// How many entries the history has.
-    pub entries: usize,
+    pub(crate) entries: usize,
     /// How many operations the registers saw.
-    pub operations: usize,
+    pub(crate) operations: usize,
 }
 
 fn sink(alloc: Global, room: u32) -> Option<MemorySink> {

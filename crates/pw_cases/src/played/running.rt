@@ -4,7 +4,7 @@ ghost use Rattle.pw_text.specs.declared.script.TheConstants.{MOST_LINES};
 ghost use Rattle.pw_plan.specs.Requests.{Has};
 ghost use Rattle.pw_script.specs.declared.script.Line.{Line as asked};
 
-use crate::telling::{Played, told};
+use super::telling::{Played, told};
 use pw_base::Gate;
 use pw_drive::{Drove, drive, serial};
 use pw_plan::Plan;
@@ -39,7 +39,7 @@ fn can_be_asked(plan: &Plan, lines: &[Line]) -> bool
 
 /// What comes of a script by one worker for each processor that it names. None where a line can't be asked of
 /// the plan, and for want of memory.
-pub fn play<T: Threads + Wait + Sync, G: Gate + Sync>(
+pub(crate) fn play<T: Threads + Wait + Sync, G: Gate + Sync>(
     rt: &T,
     alloc: Global,
     plan: Plan,
@@ -71,7 +71,7 @@ pub fn play<T: Threads + Wait + Sync, G: Gate + Sync>(
 }
 
 /// The same by one caller, in the order of the lines.
-pub fn play_alone(
+pub(crate) fn play_alone(
     alloc: Global,
     plan: Plan,
     script: &Script,

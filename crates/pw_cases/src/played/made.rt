@@ -55,7 +55,7 @@ fn plan_for(alloc: Global, n: u32) -> Option<Plan>
 
 /// The plan of the machine that is generated with so many containers, and the load for it. None where there
 /// are more than a machine may have, and for want of memory.
-pub fn machine_of(alloc: Global, n: u32) -> Option<(Plan, Script)>
+pub(crate) fn machine_of(alloc: Global, n: u32) -> Option<(Plan, Script)>
     ensures few { IfSome result (λ made. n ≤ MOST_CONTAINERS) }
     ensures load { IfSome result (λ made. made.1 ≡ machine_load n) }
 {
@@ -72,7 +72,7 @@ pub fn machine_of(alloc: Global, n: u32) -> Option<(Plan, Script)>
 
 /// The bytes of the block that is generated with so many containers. None where there are more than a
 /// machine may have, and for want of memory.
-pub fn block_bytes(alloc: Global, n: u32) -> Option<Vec<u8>>
+pub(crate) fn block_bytes(alloc: Global, n: u32) -> Option<Vec<u8>>
     ensures { IfSome result (λ bytes. bytes.items ≡ written_block (machine_block n)) }
 {
     if n > MOST_CONTAINERS {

@@ -10,7 +10,7 @@ const MOST_LOOKS: u32 = 10_000_000;
 /// A gate that holds requests, with their records held and the journal not taken, until so many others have
 /// come to a point.
 #[derive(Drop)]
-pub struct Meeting {
+pub(crate) struct Meeting {
     /// Whose requests are held, all without a number.
     held: Option<u32>,
     /// Whose requests are counted, all without a number.
@@ -45,7 +45,7 @@ impl Meeting {
     }
 
     /// Holds one processor's requests until another's has been answered.
-    pub fn of_two(held: u32, other: u32) -> Meeting
+    pub(crate) fn of_two(held: u32, other: u32) -> Meeting
         ensures holds { result.held ≡ Some held }
         ensures counts { (result.counted ≡ Some other) × (result.point ≡ 1) × (result.wanted ≡ 1) }
     {
@@ -53,7 +53,7 @@ impl Meeting {
     }
 
     /// Holds every request until so many are held.
-    pub fn of_all(wanted: u32) -> Meeting
+    pub(crate) fn of_all(wanted: u32) -> Meeting
         ensures holds { result.held ≡ None }
         ensures counts { (result.counted ≡ None) × (result.point ≡ 0) × (result.wanted ≡ wanted) }
     {
@@ -61,7 +61,7 @@ impl Meeting {
     }
 
     /// Whether a request was let go before the others came.
-    pub fn gave_up(&self) -> bool {
+    pub(crate) fn gave_up(&self) -> bool {
         self.gave_up.load(Ordering::SeqCst) != 0
     }
 
