@@ -20,6 +20,7 @@ use pw_walker::{
 
 /// Enters a request that has all its records: does the operations, appends the entry and keeps the reply. At
 /// a fault it answers how many of the operations were done.
+#[inline(always)]
 fn enter<R: Registers>(
     _plan: &Plan,
     _records: &Records,

@@ -26,6 +26,7 @@ pub(crate) enum Old {
 
 /// Makes a request on the record that comes next, which is in hand. Answers where the request then
 /// stands, and what it changed.
+#[inline(always)]
 pub(crate) fn step_content<R>(
     plan: &Plan,
     request: &Request,

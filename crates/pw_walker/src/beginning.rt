@@ -40,6 +40,7 @@ fn own_vote(_plan: &Plan, request: &Request) -> Vote
 
 /// Begins a vote, by the kind of the processor's table: upwards from its container, or at its group,
 /// where it has one.
+#[inline(always)]
 fn begin_vote(plan: &Plan, request: &Request, ops: &mut Ops) -> Place
     requires ready { IsReady plan.now request.now ops.old }
     requires accepted { fixed_refusal plan.now request.now ≡ None }
@@ -83,6 +84,7 @@ fn domain_of(plan: &Plan, kind: DomainKind, cpu: u32) -> u32
 }
 
 /// Where a request stands before any record is held.
+#[inline(always)]
 pub fn begin(plan: &Plan, request: &Request, ops: &mut Ops) -> Place
     requires has { Has plan.now request.now }
     requires none { ops.old.elements ≡ [] }

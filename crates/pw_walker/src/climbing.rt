@@ -24,6 +24,7 @@ use pw_model::{Reply, Vote};
 use pw_plan::{Child, Plan, Request};
 
 /// All records are held, and the request came to the states of this chain.
+#[inline(always)]
 pub fn climbed(plan: &Plan, request: &Request, chain: Chain, ops: &mut Ops) -> Place
     requires ready { IsReady plan.now request.now ops.old }
     requires chain { IsChain chain }
@@ -59,6 +60,7 @@ fn parent_of(plan: &Plan, child: Child) -> Option<u32>
 }
 
 /// On to the container around the climb's child, where there is one.
+#[inline(always)]
 pub fn climb_on(plan: &Plan, request: &Request, climb: Climb, ops: &mut Ops) -> Place
     requires ready { IsReady plan.now request.now ops.old }
     requires hands { HandsOn plan.now request.now climb }
@@ -74,6 +76,7 @@ pub fn climb_on(plan: &Plan, request: &Request, climb: Climb, ops: &mut Ops) -> 
 }
 
 /// On from a container that came to this.
+#[inline(always)]
 fn go_past(
     plan: &Plan,
     request: &Request,
@@ -108,6 +111,7 @@ fn go_past(
 }
 
 /// What a child votes, in the record of its container.
+#[inline(always)]
 fn vote_of(plan: &Plan, node: u32, child: Child, held: &NodeRec) -> OldVote
     requires node { node < length plan.now.containers }
     requires inside { IsIn plan.now child }
@@ -132,6 +136,7 @@ fn vote_of(plan: &Plan, node: u32, child: Child, held: &NodeRec) -> OldVote
 
 /// Hands the vote of the climb's child to the container that comes next, whose record this is. Answers
 /// where the request then stands, and what the child voted before.
+#[inline(always)]
 pub fn step_node(
     plan: &Plan,
     request: &Request,

@@ -16,6 +16,7 @@ use pw_model::Reply;
 use pw_plan::{DomainKind, Plan};
 
 /// Asks for a state on the record of the processor's domain, where the processor is this member.
+#[inline(always)]
 pub fn ask_domain(
     levels: &mut DomainRec,
     plan: &Plan,
@@ -52,6 +53,7 @@ pub fn ask_domain(
 }
 
 /// Sets a limit on the record of the processor's domain, where the processor is this member.
+#[inline(always)]
 pub fn limit_domain(
     levels: &mut DomainRec,
     plan: &Plan,

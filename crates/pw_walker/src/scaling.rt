@@ -31,6 +31,7 @@ fn member_of(plan: &Plan, kind: DomainKind, cpu: u32) -> u32
 }
 
 /// Asks for a state, and answers too what was asked for before.
+#[inline(always)]
 fn ask(
     plan: &Plan,
     kind: DomainKind,
@@ -68,6 +69,7 @@ fn ask(
 }
 
 /// Sets a limit, and answers too the one before.
+#[inline(always)]
 fn limit(
     plan: &Plan,
     kind: DomainKind,
@@ -104,6 +106,7 @@ fn limit(
 }
 
 /// Makes a request on the record of its domain.
+#[inline(always)]
 fn level(plan: &Plan, request: &Request, held: &mut DomainRec, ops: &mut Ops) -> (Reply, OldLevel)
     requires place { IsPlace plan.now request.now (Place.Scaled held.old.domain) ops.old.elements }
     requires of { IsDomainOf plan.now held.old }
@@ -132,6 +135,7 @@ fn level(plan: &Plan, request: &Request, held: &mut DomainRec, ops: &mut Ops) ->
 
 /// Makes a request on the record of its domain, which comes next. Answers the end of the walk, and what
 /// the processor asked for before, or its limit.
+#[inline(always)]
 pub fn step_domain(
     plan: &Plan,
     request: &Request,

@@ -47,6 +47,7 @@ pub struct Voted {
 }
 
 /// Sets the vote of a child in the record of its container.
+#[inline(always)]
 pub fn set_vote(held: &mut NodeRec, plan: &Plan, node: u32, child: Child, vote: Vote) -> Voted
     requires node { node < length plan.now.containers }
     requires inside { IsIn plan.now child }
