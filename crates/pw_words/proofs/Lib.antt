@@ -1,4 +1,3 @@
-pub mod Adding
 pub mod Walked
 pub mod Levels
 pub mod Driving

@@ -25,37 +25,31 @@ blocks_app name = with_rule (new_app name) blocks_rule
 abbrev pub show_app : App
 show_app = with_rule (blocks_app (codes "show")) (flag_rule (codes "json"))
 
--- `drive [--serial] [--step]`, with no names yet
-abbrev pub way_app : App
-way_app = with_rule (with_rule (new_app (codes "drive")) (flag_rule (codes "serial"))) (flag_rule (codes "step"))
-
 -- `drive [--serial] [--step] SCRIPT BLOCK..`
 abbrev pub drive_app : App
-drive_app = with_rule (with_rule way_app (word_rule (codes "script"))) blocks_rule
-
--- `audit [--step] [--trace]`, with no names yet
-abbrev pub trace_app : App
-trace_app = with_rule (with_rule (new_app (codes "audit")) (flag_rule (codes "step"))) (flag_rule (codes "trace"))
-
--- `audit [--step] [--trace] [--cppc]`, with no names yet
-abbrev pub review_app : App
-review_app = with_rule trace_app (flag_rule (codes "cppc"))
-
--- `audit [--step] [--trace] [--cppc] SCRIPT HISTORY`, with no blocks yet
-abbrev pub named_app : App
-named_app = with_rule (with_rule review_app (word_rule (codes "script"))) (word_rule (codes "history"))
+drive_app = with_rule
+    (with_rule
+    (with_rule (with_rule (new_app (codes "drive")) (flag_rule (codes "serial"))) (flag_rule (codes "step")))
+    (word_rule (codes "script")))
+    blocks_rule
 
 -- `audit [--step] [--trace] [--cppc] SCRIPT HISTORY BLOCK..`
 abbrev pub audit_app : App
-audit_app = with_rule named_app blocks_rule
-
--- `cppc [--serial]`, with no names yet
-abbrev pub serial_app : App
-serial_app = with_rule (new_app (codes "cppc")) (flag_rule (codes "serial"))
+audit_app = with_rule
+    (with_rule
+    (with_rule
+    (with_rule
+    (with_rule (with_rule (new_app (codes "audit")) (flag_rule (codes "step"))) (flag_rule (codes "trace")))
+    (flag_rule (codes "cppc")))
+    (word_rule (codes "script")))
+    (word_rule (codes "history")))
+    blocks_rule
 
 -- `cppc [--serial] SCRIPT BLOCK..`
 abbrev pub cppc_app : App
-cppc_app = with_rule (with_rule serial_app (word_rule (codes "script"))) blocks_rule
+cppc_app = with_rule
+    (with_rule (with_rule (new_app (codes "cppc")) (flag_rule (codes "serial"))) (word_rule (codes "script")))
+    blocks_rule
 
 -- `generate N`
 abbrev pub generate_app : App
@@ -74,16 +68,18 @@ bare_app = record {
   subs = [];
 }
 
--- those that run nothing
-abbrev pub reading_app : App
-reading_app = with_subcommand
-    (with_subcommand
-    (with_subcommand (with_subcommand bare_app show_app.top) (blocks_app (codes "rewrite")).top)
-    (blocks_app (codes "check")).top)
-    (blocks_app (codes "lint")).top
-
 -- all of it
 abbrev pub line_app : App
 line_app = with_subcommand
-    (with_subcommand (with_subcommand (with_subcommand reading_app drive_app.top) audit_app.top) cppc_app.top)
+    (with_subcommand
+    (with_subcommand
+    (with_subcommand
+    (with_subcommand
+    (with_subcommand
+    (with_subcommand (with_subcommand bare_app show_app.top) (blocks_app (codes "rewrite")).top)
+    (blocks_app (codes "check")).top)
+    (blocks_app (codes "lint")).top)
+    drive_app.top)
+    audit_app.top)
+    cppc_app.top)
     generate_app.top

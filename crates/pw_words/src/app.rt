@@ -1,181 +1,157 @@
-ghost use Rattle.std.specs.Prelude.{◌≡◌, IfOk, IsOkAnd, false};
-ghost use Rattle.clap.specs.Words.{app_of, rule_of, with_subcommand};
-ghost use Rattle.clap.specs.declared.builder.command.Command.TheViews.{out-Command as fields_of};
-ghost use Rattle.pw_words.specs.App.{audit_app, bare_app, blocks_app, blocks_rule, cppc_app};
-ghost use Rattle.pw_words.specs.App.{drive_app, flag_rule, generate_app, line_app, review_app};
-ghost use Rattle.pw_words.specs.App.{named_app, reading_app, serial_app, show_app, trace_app, way_app, word_rule};
+ghost use Rattle.std.specs.Prelude.{◌≡◌, IfOk};
+ghost use Rattle.clap.specs.Words.{App as app_type, Rule as rule_type};
+ghost use Rattle.clap.specs.Words.{app_of, new_app, with_rule, with_subcommand};
+ghost use Rattle.pw_words.specs.App.{audit_app, bare_app, blocks_app, blocks_rule, cppc_app, drive_app};
+ghost use Rattle.pw_words.specs.App.{flag_rule, generate_app, line_app, show_app, word_rule};
+ghost use Rattle.pw_words.specs.inner.Building.{IsArg, IsMade};
 
 use clap::{Arg, ArgAction, Command};
 use std::alloc::{AllocError, Global};
 
 /// `--NAME`.
 fn flag<'a>(alloc: Global, name: &'a str) -> Arg<'a>
-    ensures rule { rule_of result ≡ flag_rule name.now }
-    ensures local { result.global ≡ false }
+    ensures { IsArg result (flag_rule name.now) }
 {
     Arg::new(alloc, name).long(name).action(ArgAction::SetTrue)
 }
 
 /// An argument that must be there.
 fn word<'a>(alloc: Global, id: &'a str) -> Arg<'a>
-    ensures rule { rule_of result ≡ word_rule id.now }
-    ensures local { result.global ≡ false }
+    ensures { IsArg result (word_rule id.now) }
 {
     Arg::new(alloc, id).required(true)
 }
 
 /// `BLOCK..`. So many blocks at most are named in one command: this project's own limit.
 fn blocks<'a>(alloc: Global) -> Arg<'a>
-    ensures rule { rule_of result ≡ blocks_rule }
-    ensures local { result.global ≡ false }
+    ensures { IsArg result blocks_rule }
 {
     word(alloc, "blocks").num_args(1..=64)
 }
 
-/// `NAME BLOCK..`.
-fn on_blocks<'a>(alloc: Global, name: &'a str) -> Result<Command<'a>, AllocError>
-    ensures app { IfOk result (λ c. app_of c ≡ blocks_app name.now) }
-    ensures local { IfOk result (λ c. (fields_of c).has_globals ≡ false) }
+/// A command of this name, with no argument yet.
+fn named<'a>(alloc: Global, name: &'a str) -> Result<Command<'a>, AllocError>
+    ensures { IsMade result (new_app name.now) }
 {
-    Command::new(alloc, name).arg(blocks(alloc))
+    Ok(Command::new(alloc, name))
 }
 
-/// `show [--json] BLOCK..`.
-fn show<'a>(alloc: Global) -> Result<Command<'a>, AllocError>
-    ensures app { IfOk result (λ c. app_of c ≡ show_app) }
-    ensures local { IfOk result (λ c. (fields_of c).has_globals ≡ false) }
-{
-    on_blocks(alloc, "show")?.arg(flag(alloc, "json"))
-}
-
-/// `drive [--serial] [--step]`, with no names yet.
-fn drive_flags<'a>(alloc: Global) -> Result<Command<'a>, AllocError>
-    ensures app { IfOk result (λ c. app_of c ≡ way_app) }
-    ensures local { IfOk result (λ c. (fields_of c).has_globals ≡ false) }
-{
-    let command = Command::new(alloc, "drive").arg(flag(alloc, "serial"))?;
-    command.arg(flag(alloc, "step"))
-}
-
-/// `drive [--serial] [--step] SCRIPT BLOCK..`.
-fn drive<'a>(alloc: Global) -> Result<Command<'a>, AllocError>
-    ensures app { IfOk result (λ c. app_of c ≡ drive_app) }
-    ensures local { IfOk result (λ c. (fields_of c).has_globals ≡ false) }
-{
-    let command = drive_flags(alloc)?.arg(word(alloc, "script"))?;
-    command.arg(blocks(alloc))
-}
-
-/// `audit [--step] [--trace]`, with no names yet.
-fn trace_flags<'a>(alloc: Global) -> Result<Command<'a>, AllocError>
-    ensures app { IfOk result (λ c. app_of c ≡ trace_app) }
-    ensures local { IfOk result (λ c. (fields_of c).has_globals ≡ false) }
-{
-    let command = Command::new(alloc, "audit").arg(flag(alloc, "step"))?;
-    command.arg(flag(alloc, "trace"))
-}
-
-/// `audit [--step] [--trace] [--cppc]`, with no names yet.
-fn audit_flags<'a>(alloc: Global) -> Result<Command<'a>, AllocError>
-    ensures app { IfOk result (λ c. app_of c ≡ review_app) }
-    ensures local { IfOk result (λ c. (fields_of c).has_globals ≡ false) }
-{
-    trace_flags(alloc)?.arg(flag(alloc, "cppc"))
-}
-
-/// `audit [--step] [--trace] [--cppc] SCRIPT HISTORY`, with no blocks yet.
-fn audit_names<'a>(alloc: Global) -> Result<Command<'a>, AllocError>
-    ensures app { IfOk result (λ c. app_of c ≡ named_app) }
-    ensures local { IfOk result (λ c. (fields_of c).has_globals ≡ false) }
-{
-    let command = audit_flags(alloc)?.arg(word(alloc, "script"))?;
-    command.arg(word(alloc, "history"))
-}
-
-/// `audit [--step] [--trace] [--cppc] SCRIPT HISTORY BLOCK..`.
-fn audit<'a>(alloc: Global) -> Result<Command<'a>, AllocError>
-    ensures app { IfOk result (λ c. app_of c ≡ audit_app) }
-    ensures local { IfOk result (λ c. (fields_of c).has_globals ≡ false) }
-{
-    audit_names(alloc)?.arg(blocks(alloc))
-}
-
-/// `cppc [--serial]`, with no names yet.
-fn cppc_flag<'a>(alloc: Global) -> Result<Command<'a>, AllocError>
-    ensures app { IfOk result (λ c. app_of c ≡ serial_app) }
-    ensures local { IfOk result (λ c. (fields_of c).has_globals ≡ false) }
-{
-    Command::new(alloc, "cppc").arg(flag(alloc, "serial"))
-}
-
-/// `cppc [--serial] SCRIPT BLOCK..`.
-fn cppc<'a>(alloc: Global) -> Result<Command<'a>, AllocError>
-    ensures app { IfOk result (λ c. app_of c ≡ cppc_app) }
-    ensures local { IfOk result (λ c. (fields_of c).has_globals ≡ false) }
-{
-    let command = cppc_flag(alloc)?.arg(word(alloc, "script"))?;
-    command.arg(blocks(alloc))
-}
-
-/// `generate N`.
-fn generate<'a>(alloc: Global) -> Result<Command<'a>, AllocError>
-    ensures app { IfOk result (λ c. app_of c ≡ generate_app) }
-    ensures local { IfOk result (λ c. (fields_of c).has_globals ≡ false) }
-{
-    Command::new(alloc, "generate").arg(word(alloc, "count"))
-}
-
-/// The command with no subcommand yet.
-fn bare<'a>(alloc: Global) -> Command<'a>
-    ensures app { app_of result ≡ bare_app }
-    ensures local { (fields_of result).has_globals ≡ false }
-{
-    Command::new(alloc, "pw")
-        .no_binary_name(true)
-        .disable_help_flag(true)
-        .disable_help_subcommand(true)
-        .disable_version_flag(true)
-        .subcommand_required(true)
-}
-
-/// The command with one more subcommand, where that was made.
-fn with<'a>(
-    command: Command<'a>,
-    sub: Result<Command<'a>, AllocError>,
+/// The command with one more argument, where it was made. A failure is passed on, so that whoever builds a
+/// command has no way out of its own.
+fn put<'a>(
+    command: Result<Command<'a>, AllocError>,
+    arg: Arg<'a>,
 ) -> Result<Command<'a>, AllocError>
-    requires above { (fields_of command).has_globals ≡ false }
-    requires below { IfOk sub (λ s. (fields_of s).has_globals ≡ false) }
-    ensures app { IfOk result (λ c. IsOkAnd sub.entry
-        (λ s. app_of c ≡ with_subcommand (app_of command.entry) (app_of s).top)) }
-    ensures local { IfOk result (λ c. (fields_of c).has_globals ≡ false) }
+    ensures { (app : app_type) (rule : rule_type) → IsMade command.entry app → IsArg arg.entry rule
+        → IsMade result (with_rule app rule) }
 {
-    match sub {
-        Ok(sub) => command.subcommand(sub),
+    match command {
+        Ok(command) => command.arg(arg),
         Err(error) => {
-            drop(command);
+            drop(arg);
             Err(error)
         }
     }
 }
 
-/// The command with those that run nothing.
-fn reading<'a>(alloc: Global) -> Result<Command<'a>, AllocError>
-    ensures app { IfOk result (λ c. app_of c ≡ reading_app) }
-    ensures local { IfOk result (λ c. (fields_of c).has_globals ≡ false) }
+/// `NAME BLOCK..`.
+fn on_blocks<'a>(alloc: Global, name: &'a str) -> Result<Command<'a>, AllocError>
+    ensures { IsMade result (blocks_app name.now) }
 {
-    let command = with(bare(alloc), show(alloc))?;
-    let command = with(command, on_blocks(alloc, "rewrite"))?;
-    let command = with(command, on_blocks(alloc, "check"))?;
-    with(command, on_blocks(alloc, "lint"))
+    put(named(alloc, name), blocks(alloc))
+}
+
+/// `show [--json] BLOCK..`.
+fn show<'a>(alloc: Global) -> Result<Command<'a>, AllocError>
+    ensures { IsMade result show_app }
+{
+    put(on_blocks(alloc, "show"), flag(alloc, "json"))
+}
+
+/// `drive [--serial] [--step] SCRIPT BLOCK..`.
+fn drive<'a>(alloc: Global) -> Result<Command<'a>, AllocError>
+    ensures { IsMade result drive_app }
+{
+    let command = put(named(alloc, "drive"), flag(alloc, "serial"));
+    let command = put(command, flag(alloc, "step"));
+    let command = put(command, word(alloc, "script"));
+    put(command, blocks(alloc))
+}
+
+/// `audit [--step] [--trace] [--cppc] SCRIPT HISTORY BLOCK..`.
+fn audit<'a>(alloc: Global) -> Result<Command<'a>, AllocError>
+    ensures { IsMade result audit_app }
+{
+    let command = put(named(alloc, "audit"), flag(alloc, "step"));
+    let command = put(command, flag(alloc, "trace"));
+    let command = put(command, flag(alloc, "cppc"));
+    let command = put(command, word(alloc, "script"));
+    let command = put(command, word(alloc, "history"));
+    put(command, blocks(alloc))
+}
+
+/// `cppc [--serial] SCRIPT BLOCK..`.
+fn cppc<'a>(alloc: Global) -> Result<Command<'a>, AllocError>
+    ensures { IsMade result cppc_app }
+{
+    let command = put(named(alloc, "cppc"), flag(alloc, "serial"));
+    let command = put(command, word(alloc, "script"));
+    put(command, blocks(alloc))
+}
+
+/// `generate N`.
+fn generate<'a>(alloc: Global) -> Result<Command<'a>, AllocError>
+    ensures { IsMade result generate_app }
+{
+    put(named(alloc, "generate"), word(alloc, "count"))
+}
+
+/// The command with no subcommand yet.
+fn bare<'a>(alloc: Global) -> Result<Command<'a>, AllocError>
+    ensures { IsMade result bare_app }
+{
+    let command = Command::new(alloc, "pw")
+        .no_binary_name(true)
+        .disable_help_flag(true)
+        .disable_help_subcommand(true)
+        .disable_version_flag(true)
+        .subcommand_required(true);
+    Ok(command)
+}
+
+/// The command with one more subcommand, where both were made.
+fn with<'a>(
+    command: Result<Command<'a>, AllocError>,
+    sub: Result<Command<'a>, AllocError>,
+) -> Result<Command<'a>, AllocError>
+    ensures { (above below : app_type) → IsMade command.entry above → IsMade sub.entry below
+        → IsMade result (with_subcommand above below.top) }
+{
+    match command {
+        Ok(command) => match sub {
+            Ok(sub) => command.subcommand(sub),
+            Err(error) => {
+                drop(command);
+                Err(error)
+            }
+        },
+        Err(error) => {
+            drop(sub);
+            Err(error)
+        }
+    }
 }
 
 /// The command by which the words are read.
 pub(crate) fn line<'a>(alloc: Global) -> Result<Command<'a>, AllocError>
     ensures { IfOk result (λ c. app_of c ≡ line_app) }
 {
-    let command = reading(alloc)?;
-    let command = with(command, drive(alloc))?;
-    let command = with(command, audit(alloc))?;
-    let command = with(command, cppc(alloc))?;
+    let command = with(bare(alloc), show(alloc));
+    let command = with(command, on_blocks(alloc, "rewrite"));
+    let command = with(command, on_blocks(alloc, "check"));
+    let command = with(command, on_blocks(alloc, "lint"));
+    let command = with(command, drive(alloc));
+    let command = with(command, audit(alloc));
+    let command = with(command, cppc(alloc));
     with(command, generate(alloc))
 }
