@@ -111,7 +111,7 @@ fn run<T: Threads + Wait + Sync, R: Registers + Send, G: Gate + Sync>(
         drop(sealed);
         return Err(regs);
     }
-    work_all(rt, &coordinator, workers.as_mut_slice(), gate);
+    work_all(rt, &coordinator, gate, workers.as_mut_slice());
     Ok(end(coordinator, first, workers, each))
 }
 

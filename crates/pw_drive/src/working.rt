@@ -1,14 +1,14 @@
 //! A worker makes its processor's requests, and all workers do so side by side.
-ghost use Rattle.std.specs.Prelude.{◌≡◌, ◌∷◌, ◌<◌, ◌≤◌, [], ℕ, length, slice_index_or, vec_capacity};
+ghost use Rattle.std.specs.Prelude.{◌≡◌, ◌∷◌, ◌≤◌, [], length, vec_capacity};
 ghost use Rattle.std.specs.List.{AllByRecursion};
+ghost use denote.Param.Send.{IsSync, IsSend};
 ghost use Rattle.pw_plan.specs.Requests.{Has};
 ghost use Rattle.pw_books.specs.Books.{calls_of};
 ghost use Rattle.pw_rule.specs.Rule.{given_of};
 ghost use Rattle.pw_turns.specs.Owning.{Owns};
 ghost use Rattle.pw_turns.specs.Views.{view_in};
-ghost use Rattle.pw_drive.specs.declared.working.Worker.{Worker as worker};
 ghost use Rattle.pw_drive.specs.inner.Replying.{KeepsReplies, reply_in};
-ghost use Rattle.pw_drive.specs.inner.Workers.{HasEnded, IsReady, MadeLines};
+ghost use Rattle.pw_drive.specs.inner.Workers.{HasEnded, HaveEnded, IsReady, MadeLines};
 
 use pw_base::Gate;
 use pw_model::Reply;
@@ -16,7 +16,7 @@ use pw_plan::Request;
 use pw_regs::Registers;
 use pw_turns::{Coordinator, Done, Seat};
 use std::sync::Wait;
-use std::thread::{Threads, for_each_mut};
+use std::thread::{Threads, join_mut};
 
 /// A processor with its lines' requests, the seat that makes them, and the replies so far, with room for
 /// one to each request.
@@ -73,8 +73,8 @@ fn make_all<W: Wait, R: Registers, G: Gate>(
 fn work<W: Wait, R: Registers, G: Gate>(
     rt: &W,
     coordinator: &Coordinator<R>,
-    worker: &mut Worker,
     gate: &G,
+    worker: &mut Worker,
 )
     requires { IsReady coordinator.now.table.shared.table_id coordinator.now.plan worker.old }
     ensures { HasEnded coordinator.now.table.shared.table_id
@@ -90,26 +90,57 @@ fn work<W: Wait, R: Registers, G: Gate>(
     );
 }
 
-/// All workers make their processors' requests, side by side.
+/// A worker makes its requests on a thread of its own, and the others from here on.
+#[cycle(side_by_side)]
+fn work_beside<T: Threads + Wait + Sync, R: Registers + Send, G: Gate + Sync>(
+    rt: &T,
+    coordinator: &Coordinator<R>,
+    gate: &G,
+    first: &mut Worker,
+    others: &mut [Worker],
+)
+    requires first { IsReady coordinator.now.table.shared.table_id coordinator.now.plan first.old }
+    requires others { AllByRecursion (IsReady coordinator.now.table.shared.table_id coordinator.now.plan)
+        others.old }
+    ensures first { HasEnded coordinator.now.table.shared.table_id
+        (given_of R.Registers coordinator.now.table.shared.key) first.old first.new }
+    ensures others { HaveEnded coordinator.now.table.shared.table_id
+        (given_of R.Registers coordinator.now.table.shared.key) others.old others.new }
+{
+    let mut there = ||
+        requires { IsReady coordinator.now.table.shared.table_id coordinator.now.plan first.now }
+        ensures { HasEnded coordinator.entry.now.table.shared.table_id
+            (given_of R.Registers coordinator.entry.now.table.shared.key) first.entry.now first.exit.now }
+    { work(rt, coordinator, gate, first) };
+    let mut here = ||
+        requires { IsSync T.row × IsSend R.row × IsSync G.row
+            × AllByRecursion (IsReady coordinator.now.table.shared.table_id coordinator.now.plan) others.now }
+        ensures { HaveEnded coordinator.entry.now.table.shared.table_id
+            (given_of R.Registers coordinator.entry.now.table.shared.key) others.entry.now others.exit.now }
+    { work_all(rt, coordinator, gate, others) };
+    join_mut(rt, &mut there, &mut here);
+}
+
+/// All workers make their processors' requests, side by side. This thread starts that of each but the last,
+/// one after the other, so that many have ended before the last begins.
+#[cycle(side_by_side)]
 pub(crate) fn work_all<T: Threads + Wait + Sync, R: Registers + Send, G: Gate + Sync>(
     rt: &T,
     coordinator: &Coordinator<R>,
-    workers: &mut [Worker],
     gate: &G,
+    workers: &mut [Worker],
 )
     requires { AllByRecursion (IsReady coordinator.now.table.shared.table_id coordinator.now.plan)
         workers.old }
-    ensures size { length workers.new ≡ length workers.old }
-    ensures ended { (k : ℕ) (d : worker) → k < length workers.old
-        → HasEnded coordinator.now.table.shared.table_id
-        (given_of R.Registers coordinator.now.table.shared.key)
-        (slice_index_or workers.old k d) (slice_index_or workers.new k d) }
+    ensures { HaveEnded coordinator.now.table.shared.table_id
+        (given_of R.Registers coordinator.now.table.shared.key) workers.old workers.new }
 {
-    let count = workers.len().max(1);
-    for_each_mut(
-        rt,
-        workers,
-        count,
-        &|_, worker| { work(rt, coordinator, worker, gate) },
-    );
+    let Some((first, others)) = workers.split_first_mut() else {
+        return;
+    };
+    if others.is_empty() {
+        work(rt, coordinator, gate, first);
+        return;
+    }
+    work_beside(rt, coordinator, gate, first, others);
 }

@@ -1,5 +1,5 @@
 -- A worker before and after it makes its requests.
-use Rattle.std.specs.Prelude.{◌≡◌, ◌⊎◌, ◌∷◌, ℕ, Bool, true, false, List, []}
+use Rattle.std.specs.Prelude.{◌≡◌, ◌⊎◌, ◌∷◌, ◌<◌, ℕ, Bool, true, false, List, [], length, slice_index_or}
 use Rattle.std.specs.List.{AllByRecursion}
 use Rattle.atomic_table.specs.Seated.{TableId}
 use Rattle.pw_books.specs.declared.view.View.{View}
@@ -53,3 +53,8 @@ pub record HasEnded (id : TableId) (room : ℕ) (v w : Worker) : Type 0 where
   pub cpu : w.cpu ≡ v.cpu
   pub parts : (view_of w).parts ≡ (view_of v).parts
   pub made : MadeLines v.requests.items room (view_of w)
+
+-- each of them ended
+pub record HaveEnded (id : TableId) (room : ℕ) (vs ws : List Worker) : Type 0 where
+  pub size : length ws ≡ length vs
+  pub ended : (k : ℕ) (d : Worker) → k < length vs → HasEnded id room (slice_index_or vs k d) (slice_index_or ws k d)

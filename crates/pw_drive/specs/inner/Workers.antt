@@ -1,5 +1,5 @@
 -- A worker before and after it makes its requests.
-use Rattle.std.specs.Prelude.{◌≡◌, ◌⊎◌, ◌∷◌, ◌≤◌, ℕ, List, [], length, vec_capacity}
+use Rattle.std.specs.Prelude.{◌≡◌, ◌⊎◌, ◌∷◌, ◌<◌, ◌≤◌, ℕ, List, [], length, slice_index_or, vec_capacity}
 use Rattle.std.specs.List.{AllByRecursion}
 use Rattle.atomic_table.specs.Seated.{TableId}
 use Rattle.pw_plan.specs.declared.plan.Plan.{Plan}
@@ -54,3 +54,8 @@ pub record HasEnded (id : TableId) (given : Given) (v w : Worker) : Type 0 where
   pub parts : (view_of w).parts ≡ (view_of v).parts
   pub made : MadeLines v.requests.items given.capacity (view_of w)
   pub replied : KeepsReplies given.plan w.replies.items (view_of w)
+
+-- each of them ended
+pub record HaveEnded (id : TableId) (given : Given) (vs ws : List Worker) : Type 0 where
+  pub size : length ws ≡ length vs
+  pub ended : (k : ℕ) (d : Worker) → k < length vs → HasEnded id given (slice_index_or vs k d) (slice_index_or ws k d)
