@@ -2,7 +2,7 @@ ghost use Rattle.std.specs.Prelude.{◌≡◌};
 
 use crate::Term;
 use aml_data::Width;
-use pw_base::CompactList;
+use pw_base::List;
 
 /// Which table a block is.
 #[derive(Clone, Copy)]
@@ -29,7 +29,7 @@ pub struct Header {
 #[derive(Drop)]
 pub struct Block {
     pub header: Header,
-    pub terms: CompactList<Term>,
+    pub terms: List<Term>,
 }
 
 impl Block {

@@ -7,7 +7,7 @@ use crate::opcode::{DEVICE_OP, SCOPE_OP};
 use crate::parts::{read_double, read_named};
 use crate::term::Term;
 use aml_data::{DataFault, Path, byte_of, name_of};
-use pw_base::CompactList;
+use pw_base::{CompactList, List, Memory};
 use std::alloc::Global;
 
 /// What stands in front of the terms that a term holds.
@@ -29,24 +29,27 @@ pub(crate) enum Front {
 
 impl Front {
     /// The term that holds these terms.
-    pub(crate) fn holding(self, terms: CompactList<Term>) -> Term
-        ensures { result ≡ with_terms self terms }
+    pub(crate) fn holding(self, alloc: Global, terms: List<Term>) -> Result<Term, Memory>
+        ensures { IfOk result (λ term. term ≡ with_terms self terms) }
     {
         match self {
-            Front::Scope { path } => Term::Scope { path, terms },
-            Front::Device { path } => Term::Device { path, terms },
+            Front::Scope { path } => Ok(Term::Scope { path, terms }),
+            Front::Device { path } => Ok(Term::Device { path, terms }),
             Front::Processor {
                 path,
                 id,
                 block,
                 length,
-            } => Term::Processor {
-                path,
-                id,
-                block,
-                length,
-                terms,
-            },
+            } => {
+                let terms = CompactList::from_vec(alloc, terms.into_vec())?;
+                Ok(Term::Processor {
+                    path,
+                    id,
+                    block,
+                    length,
+                    terms,
+                })
+            }
         }
     }
 }

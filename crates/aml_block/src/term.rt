@@ -1,5 +1,5 @@
 use aml_data::{Data, Path};
-use pw_base::CompactList;
+use pw_base::{CompactList, List};
 
 /// How deep Scope, Device and Processor nest at most: a limit of this project's profile.
 pub(crate) const DEEPEST: u32 = 32;
@@ -15,12 +15,12 @@ pub enum Term {
     /// Terms whose names are read from a place on that is there already.
     Scope {
         path: Path,
-        terms: CompactList<Term>,
+        terms: List<Term>,
     },
     /// A device, and the terms in it.
     Device {
         path: Path,
-        terms: CompactList<Term>,
+        terms: List<Term>,
     },
     /// A processor declared by a term of its own, as editions before 6.0 had it. The block is the
     /// address and length of its registers.
@@ -64,3 +64,7 @@ pub enum Term {
         length: u64,
     },
 }
+
+// Most terms are names: a path and an object, two words each. Beside its registers a Processor has but one
+// word for its terms.
+const _: () = prove!(size_of::<Term>() == 48);

@@ -20,7 +20,7 @@ use crate::plain::{
 use crate::term::{DEEPEST, Term};
 use crate::term_fault::TermFault;
 use aml_data::{DataFault, window_of};
-use pw_base::CompactList;
+use pw_base::List;
 use std::alloc::Global;
 
 /// A term of this opcode, which holds terms, and the bytes after it. Its opcode stands at `at`, and
@@ -48,7 +48,7 @@ fn read_holder(
     let end = end - after.len();
     let (front, inside) = read_front(alloc, opcode, inside, end)?;
     let terms = read_terms(alloc, inside, end, depth - 1)?;
-    Ok((front.holding(terms), after))
+    Ok((front.holding(alloc, terms)?, after))
 }
 
 /// A term of this opcode, which stands at `at`, from the bytes behind the opcode, and the bytes after
@@ -106,12 +106,7 @@ fn read_term(
 
 /// Terms to the end of the bytes, each nesting at most so deep.
 #[cycle(terms)]
-fn read_terms(
-    alloc: Global,
-    bytes: &[u8],
-    end: usize,
-    depth: u32,
-) -> Result<CompactList<Term>, TermFault>
+fn read_terms(alloc: Global, bytes: &[u8], end: usize, depth: u32) -> Result<List<Term>, TermFault>
     requires within { length bytes.now ≤ end }
     requires small { end < 2 ^ 32 }
     ensures { Gives (λ x. x) result (terms_within depth end bytes.now) }
@@ -123,13 +118,14 @@ fn read_terms(
         terms.push(term)?;
         rest = after;
     }
-    Ok(CompactList::from_vec(alloc, terms)?)
+    terms.shrink_to_fit();
+    Ok(List::from_vec(terms))
 }
 
 /// The terms that the bytes spell, all of the bytes. `end` is the place where the bytes end
 /// (ACPI 6.5, 20.2.5).
 #[tactic(auto, unfolding(crate::specs::inner::TermReading::terms_at))]
-pub fn terms_of(alloc: Global, bytes: &[u8], end: usize) -> Result<CompactList<Term>, TermFault>
+pub fn terms_of(alloc: Global, bytes: &[u8], end: usize) -> Result<List<Term>, TermFault>
     requires within { length bytes.now ≤ end }
     requires small { end < 2 ^ 32 }
     // What is read is spelled by the bytes.

@@ -1,3 +1,4 @@
 pub mod boxed
 pub mod compact_list
+pub mod list
 pub mod thin

@@ -20,7 +20,7 @@ use acpi_perf::{write_control, write_dependency, write_pss};
 use acpi_values::Lpi;
 use aml_block::{Block, Term};
 use aml_data::{Data, Path, Seg};
-use pw_base::{CompactList, Memory};
+use pw_base::{CompactList, List, Memory};
 use std::alloc::Global;
 
 /// The path of one segment from where it stands.
@@ -58,9 +58,11 @@ fn text_of(alloc: Global, text: &[u8]) -> Result<Data, Memory>
 fn make_device(alloc: Global, seg: Seg, terms: Vec<Term>) -> Result<Term, Memory>
     ensures { IfOk result (λ term. term ≡ device (from_here seg) terms.items) }
 {
-    let terms = CompactList::from_vec(alloc, terms)?;
     let path = relative(alloc, seg)?;
-    Ok(Term::Device { path, terms })
+    Ok(Term::Device {
+        path,
+        terms: List::from_vec(terms),
+    })
 }
 
 /// Appends an object of this name.
@@ -148,7 +150,7 @@ fn make_container(alloc: Global, container: u32) -> Result<Term, Memory>
 }
 
 /// So many containers.
-fn make_containers(alloc: Global, n: u32) -> Result<CompactList<Term>, Memory>
+fn make_containers(alloc: Global, n: u32) -> Result<List<Term>, Memory>
     requires { n ≤ MOST_CONTAINERS }
     ensures { IfOk result (λ terms. terms ≡ map container_term (range_with_len 0 n)) }
 {
@@ -156,7 +158,7 @@ fn make_containers(alloc: Global, n: u32) -> Result<CompactList<Term>, Memory>
     for container in 0..n {
         terms.push(make_container(alloc, container)?)?;
     }
-    CompactList::from_vec(alloc, terms)
+    Ok(List::from_vec(terms))
 }
 
 /// The definition block of a machine of so many containers, each of eight processors, which can be
@@ -170,9 +172,8 @@ pub fn generate_block(alloc: Global, n: u32) -> Result<Block, Memory>
     let terms = make_containers(alloc, n)?;
     let path = absolute(alloc, Seg::of_segment(*b"_SB_"))?;
     let scope = Term::Scope { path, terms };
-    let terms = CompactList::from_vec(alloc, vec![in alloc; scope]?)?;
     Ok(Block {
         header: block_header(),
-        terms,
+        terms: List::from_vec(vec![in alloc; scope]?),
     })
 }
