@@ -196,11 +196,11 @@ impl Tree {
         requires { most < length self.now }
         ensures { MatchOption result (HasNoneFrom self.now seg 0 most) (IsLast self.now seg most) }
     {
-        let between = Reverse((seg, most))..=Reverse((seg, 0));
-        let mut known = self.numbers.range(between);
+        let mut known = self.numbers.range(Reverse((seg, most))..);
         match known.next() {
-            Some((key, number)) => Some((key.0.1, *number)),
             None => None,
+            Some((key, number)) if key.0.0 == seg => Some((key.0.1, *number)),
+            Some(_) => None,
         }
     }
 
