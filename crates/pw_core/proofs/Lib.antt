@@ -1,3 +1,4 @@
+pub mod Undrawn
 pub mod Voting
 pub mod Climbing
 pub mod Composing

@@ -9,10 +9,10 @@ ghost use Rattle.pw_model.specs.Composites.{composite_of};
 ghost use Rattle.pw_model.specs.Operations.{accepted_ops, enter, idle_ops};
 ghost use Rattle.pw_model.specs.Operations.{is_drawn};
 ghost use Rattle.pw_core.specs.Chains.{AreStatesOf, IsChain, states_in};
-ghost use Rattle.pw_core.specs.inner.Drawn.{drawn_among};
+ghost use Rattle.pw_core.specs.inner.Drawn.{ChangesVote, drawn_among};
 ghost use Rattle.pw_regs.specs.Rooms.{HasRoom};
 
-use crate::c_states::is_drawn;
+use crate::c_states::{brings_one, is_drawn};
 use crate::chain::chain_under;
 use crate::composite::chain_composite;
 use crate::setting::{set_domain, stands_after};
@@ -68,8 +68,11 @@ fn joins(plan: &Plan, state: &State, change: Change, cpu: u32, other: u32) -> bo
 }
 
 /// Those among these members, but for the requester, whose C state the change raises to one that a
-/// SW_ALL domain is about, enter it too.
+/// SW_ALL domain is about, enter it too. Nobody is looked at where the change brings no domain to be
+/// gathered.
 fn draw_along(plan: &Plan, state: &State, change: Change, cpu: u32, members: &[u32], ops: &mut Ops)
+    requires cpu { cpu < length plan.now.cpus }
+    requires alone { ChangesVote state.now (with_change state.now change) cpu }
     requires members { All (λ p. p < length plan.now.cpus) members.now }
     requires old { IsState plan.now state.now }
     requires fits { IsState plan.now (with_change state.now change) }
@@ -82,6 +85,9 @@ fn draw_along(plan: &Plan, state: &State, change: Change, cpu: u32, members: &[u
               (drawn_among plan.now state.now after cpu members.now);
         } }
 {
+    if !brings_one(plan, state, change, cpu) {
+        return;
+    }
     for member in members {
         if joins(plan, state, change, cpu, *member) {
             let chain = chain_under(plan, state, change, *member);
@@ -95,6 +101,7 @@ fn draw_along(plan: &Plan, state: &State, change: Change, cpu: u32, members: &[u
 pub fn idle(plan: &Plan, state: &State, change: Change, cpu: u32, ops: &mut Ops) -> Chain
     requires cpu { cpu < length plan.now.cpus }
     requires table { (cpu_at plan.now cpu).idle.kind ≢ IdleKind.Absent }
+    requires alone { ChangesVote state.now (with_change state.now change) cpu }
     requires idles { 0 < (vote_of (with_change state.now change) cpu).state }
     requires old { IsState plan.now state.now }
     requires fits { IsState plan.now (with_change state.now change) }

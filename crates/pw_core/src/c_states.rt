@@ -3,6 +3,7 @@ ghost use Rattle.std.specs.List.{list_any};
 ghost use Rattle.pw_plan.specs.declared.domain.DomainKind.TheVariants.{Idle};
 ghost use Rattle.pw_plan.specs.Covering.{covers};
 ghost use Rattle.pw_model.specs.States.{IsState, with_change};
+ghost use Rattle.pw_core.specs.inner.Drawn.{brought_by};
 ghost use Rattle.pw_model.specs.Domains.{c_state, governs};
 ghost use Rattle.pw_model.specs.Domains.{is_gathered, is_sw_all, may_enter};
 ghost use Rattle.pw_model.specs.Operations.{is_drawn};
@@ -61,6 +62,35 @@ pub fn c_state(plan: &Plan, state: &State, change: Change, cpu: u32) -> u8
         level -= 1;
     }
     0
+}
+
+/// Whether software coordinates the idle domain of this processor, and the change of its vote can bring it to
+/// be gathered.
+fn is_brought(state: &State, change: Change, domain: &Domain, cpu: u32) -> bool
+    requires cover { covers Idle cpu domain.now ≡ true }
+    requires cpu { cpu < length state.now.votes }
+    requires members { All (λ p. p < length state.now.votes) domain.now.members }
+    ensures { result ≡ brought_by state.now (with_change state.now change) cpu domain.now }
+{
+    !matches!(domain.coord, Coord::HwAll)
+        && u32::from(state.votes.as_slice()[cpu as usize].state) <= domain.index
+        && is_gathered(state, change, domain)
+}
+
+/// Whether the change of the processor's vote can bring one of its domains to be gathered.
+pub fn brings_one(plan: &Plan, state: &State, change: Change, cpu: u32) -> bool
+    requires cpu { cpu < length plan.now.cpus }
+    requires fits { IsState plan.now state.now }
+    ensures { result
+        ≡ list_any (brought_by state.now (with_change state.now change) cpu) plan.now.domains }
+{
+    for membership in plan.idle_domains_of(cpu) {
+        let domain = plan.domain(membership.place);
+        if is_brought(state, change, domain, cpu) {
+            return true;
+        }
+    }
+    false
 }
 
 /// Whether a SW_ALL domain of the processor is about this C state.

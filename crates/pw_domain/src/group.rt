@@ -14,6 +14,7 @@ ghost use Rattle.pw_model.specs.Holding.{HoldsStates, member_in};
 ghost use Rattle.pw_model.specs.Records.{group as joined};
 ghost use Rattle.pw_regs.specs.Rooms.{HasRoom};
 ghost use Rattle.pw_domain.specs.Groups.{IsGroupOf, group_part};
+ghost use Rattle.pw_domain.specs.inner.Brought.{brought_by};
 
 use crate::setting::enter_c;
 use acpi_values::{Coord, IdleKind, Op};
@@ -154,6 +155,39 @@ fn joins(
         && c_state_in(plan, members, states, place, states[place], other) < after
 }
 
+/// Whether software coordinates the idle domain of this processor, and the vote at this place, the
+/// processor's own, can bring it to be gathered.
+fn is_brought(
+    domain: &Domain,
+    members: &[u32],
+    states: &[u8],
+    place: usize,
+    own: u8,
+    _cpu: u32,
+) -> bool
+    requires cover { covers Idle _cpu domain.now ≡ true }
+    requires place { place < length states.now }
+    ensures { result ≡ brought_by members.now states.now place own _cpu domain.now }
+{
+    !matches!(domain.coord, Coord::HwAll)
+        && u32::from(states[place]) <= domain.index
+        && is_gathered(domain, members, states, place, own)
+}
+
+/// Whether the vote at this place, the processor's own, can bring one of its domains to be gathered.
+fn brings_one(plan: &Plan, members: &[u32], states: &[u8], place: usize, own: u8, cpu: u32) -> bool
+    requires { place < length states.now }
+    ensures { result ≡ list_any (brought_by members.now states.now place own cpu) plan.now.domains }
+{
+    for membership in plan.idle_domains_of(cpu) {
+        let domain = plan.domain(membership.place);
+        if is_brought(domain, members, states, place, own, cpu) {
+            return true;
+        }
+    }
+    false
+}
+
 /// A processor enters its C state, unless that is 0.
 fn enter_own(plan: &Plan, cpu: u32, level: u8, ops: &mut Ops)
     requires cpu { cpu < length plan.now.cpus }
@@ -169,7 +203,7 @@ fn enter_own(plan: &Plan, cpu: u32, level: u8, ops: &mut Ops)
 }
 
 /// Those among the members, but for the requester, whose C state the vote raises to one that a SW_ALL
-/// domain is about, enter it too.
+/// domain is about, enter it too. Nobody is looked at where the vote brings no domain to be gathered.
 fn draw_along(
     plan: &Plan,
     group: u32,
@@ -181,6 +215,8 @@ fn draw_along(
 )
     requires group { group < length plan.now.groups }
     requires place { place < length states.now }
+    requires own { cpu ≡ member_in (group_at plan.now group).members place }
+    requires before { HoldsStates plan.now group states.now }
     requires after { HoldsStates plan.now group (slice_set states.now place own) }
     requires room { HasRoom ops.old (length (filter
         (λ q. not (q == cpu) && drawn_by plan.now (group_at plan.now group).members states.now
@@ -193,6 +229,9 @@ fn draw_along(
     } }
 {
     let members = plan.group(group as usize).members.as_slice();
+    if !brings_one(plan, members, states, place, own, cpu) {
+        return;
+    }
     for member in members {
         if joins(plan, members, states, place, own, cpu, *member) {
             let level = c_state_in(plan, members, states, place, own, *member);

@@ -1,14 +1,31 @@
-use Rattle.std.proofs.Common.{◌≡◌, ◌<◌, ◌==◌, ◌&&◌, ◌++◌, ◌∷◌, [], ℕ, true, false, not, map, length, get_or, ap, sym, ◌∙◌}
+use Rattle.std.proofs.Common.{◌≡◌, ◌<◌, ◌==◌, ◌&&◌, ◌++◌, ◌∷◌, [], ℕ, true, false, not, List, map, length, get_or, ap, sym, ◌∙◌, append-nil}
+use Rattle.std.specs.List.{list_any}
+use Rattle.acpi_values.specs.declared.operation.Op.{Op}
 use Rattle.acpi_values.specs.declared.operation.Op.TheVariants as op
+use Rattle.pw_plan.specs.declared.domain.Domain.{Domain}
 use Rattle.pw_plan.proofs.Lists.{and_second}
-use Rattle.pw_model.specs.States.{with_change}
+use Rattle.pw_model.specs.declared.state.Vote.{Vote}
+use Rattle.pw_model.specs.States.{vote_of, with_change}
+use Rattle.pw_model.specs.Domains.{c_state, governs, is_sw_all}
 use Rattle.pw_model.specs.Composites.{composite_of}
 use Rattle.pw_model.specs.Operations.{enter, is_drawn}
 use Rattle.pw_core.specs.inner.Drawn.{drawn_among}
 use Rattle.pw_core.proofs.Climbing.{chain_fits}
+use Rattle.pw_core.proofs.Undrawn.{nobody_drawn}
 use Rattle.pw_core.proofs.Drawing.{drawn_above, passed, pushed, room_passed, room_pushed}
 use Rattle.pw_core.proofs.accepting.draw_along.Goals as goal
 use Rattle.pw_core.proofs.accepting.draw_along.Goals.{then-joins, else-joins}
+
+pub returns-then-not-brings_one : goal.returns-then-not-brings_one
+returns-then-not-brings_one c =
+    let P = c.args.plan.now in
+    let S = c.args.state.now in
+    let T = with_change S c.args.change in
+    let ops = c.args.ops.now in
+    let nobody : drawn_among P S T c.args.cpu c.args.members.now ≡ [] =
+    nobody_drawn P (λ q. (vote_of S q).state) (λ q. (vote_of T q).state) c.args.cpu (λ r other. ap (λ (v : Vote). v.state) (c.requires.alone r other))
+    (λ q. list_any (λ (d : Domain). governs q (c_state P T q) d && is_sw_all d.coord) P.domains) c.args.members.now (sym c.brings_one.ensures ∙ c.if-not-brings_one.true) in
+    rw nobody (ap (λ (es : List Op). record { elements = es; capacity = ops.capacity }) (sym (append-nil ops.elements)))
 
 pub enter-requires-clause-states : goal.enter-requires-clause-states
 enter-requires-clause-states c =

@@ -1,11 +1,30 @@
-use Rattle.std.proofs.Common.{◌≡◌, ◌<◌, ◌==◌, ◌&&◌, ◌∷◌, ◌++◌, [], ℕ, true, false, not, length, get_or, set, ap, sym, ◌∙◌}
+use Rattle.std.proofs.Common.{◌≡◌, ◌<◌, ◌==◌, ◌&&◌, ◌∷◌, ◌++◌, [], ℕ, true, false, not, List, length, get_or, set, ap, sym, ◌∙◌, append-nil}
+use Rattle.std.specs.List.{list_any}
+use Rattle.acpi_values.specs.declared.operation.Op.{Op}
+use Rattle.pw_base.proofs.Facts.{subst2}
 use Rattle.pw_plan.specs.declared.domain.Group.{Group}
 use Rattle.pw_plan.specs.Places.{group_at}
 use Rattle.pw_model.specs.Effects.{c_state_by, drawn_by, drawn_ops, enter_c}
 use Rattle.pw_core.proofs.Drawing.{passed, pushed, room_passed, room_pushed}
-use Rattle.pw_domain.proofs.Groups.{c_state_le}
+use Rattle.pw_domain.specs.inner.Brought.{brought_by}
+use Rattle.pw_domain.proofs.Groups.{c_state_le, nobody_drawn_by}
 use Rattle.pw_domain.proofs.group.draw_along.Goals as goal
 use Rattle.pw_domain.proofs.group.draw_along.Goals.{then-joins, else-joins}
+
+pub returns-then-not-brings_one : goal.returns-then-not-brings_one
+returns-then-not-brings_one c =
+    let P = c.args.plan.now in
+    let g = c.args.group in
+    let ss = c.args.states.now in
+    let k = c.args.place in
+    let s = c.args.own in
+    let ops = c.args.ops.now in
+    let are : c.as_slice-members.result.now ≡ (group_at P g).members = c.as_slice-members.ensures ∙ ap (λ (g : Group). g.members) c.group.ensures in
+    let none : list_any (brought_by c.as_slice-members.result.now ss k s c.args.cpu) P.domains ≡ false = sym c.brings_one.ensures ∙ c.if-not-brings_one.true in
+    let size : length ss ≡ length (group_at P g).members = c.requires.before.members in
+    let lt : k < length (group_at P g).members = rw (← size) c.requires.place in
+    let nobody = nobody_drawn_by P g ss k s c.requires.before lt (subst2 (λ ms p. list_any (brought_by ms ss k s p) P.domains ≡ false) are c.requires.own none) in
+    rw (c.requires.own, nobody) (ap (λ (es : List Op). record { elements = es; capacity = ops.capacity }) (sym (append-nil ops.elements)))
 
 pub enter_c-requires-clause-last : goal.enter_c-requires-clause-last
 enter_c-requires-clause-last c =
