@@ -19,8 +19,9 @@ use crate::replying::{in_order, rooms};
 use crate::seating::seat_all;
 use crate::working::{Worker, work_all};
 use pw_base::{Gate, List, Memory};
+use pw_core::Ops;
 use pw_model::Reply;
-use pw_plan::{Plan, Request};
+use pw_plan::{MOST_OF_A_REQUEST, Plan, Request};
 use pw_regs::Registers;
 use pw_script::{Line, Script};
 use pw_turns::{Closed, Coordinator, OpenFault, Seat};
@@ -111,6 +112,8 @@ fn run<T: Threads + Wait + Sync, R: Registers + Send, G: Gate + Sync>(
         drop(sealed);
         return Err(regs);
     }
+    // Room behind the seats', so that the end of the heap stays where it is while these are given back.
+    let _behind = Ops::new(alloc, MOST_OF_A_REQUEST);
     work_all(rt, &coordinator, gate, workers.as_mut_slice());
     Ok(end(coordinator, first, workers, each))
 }
