@@ -1,8 +1,9 @@
 """Measures the program, and ends with a table of what each work takes beside plain Rust.
 
-usage: measure_run.py PROGRAM PLAIN|- [PART..]
+usage: measure_run.py PROGRAM PLAIN|- [--runs N] [PART..]
 The parts are `blocks`, `drive`, `cppc`, `audit`, `generate` and `workers`; all of them where none is named. PLAIN is a program that does
-the same in plain Rust: it is measured beside each, and is to write the same bytes.
+the same in plain Rust: it is measured beside each, and is to write the same bytes. With --runs all is measured N times, and the table at
+the end has the medians.
 """
 
 import sys
@@ -27,10 +28,13 @@ PARTS = {
 
 def main():
     programs = [program for program in sys.argv[1:3] if program != "-"]
-    named = sys.argv[3:] or list(PARTS)
+    named, runs = sys.argv[3:], 1
+    if named[:1] == ["--runs"]:
+        runs, named = int(named[1]), named[2:]
+    named = named or list(PARTS)
     if unknown := [part for part in named if part not in PARTS]:
         raise SystemExit(f"bench/run: no part {unknown[0]}; there are {', '.join(PARTS)}")
-    for place, part in enumerate(named):
+    for place, part in enumerate(named * runs):
         if place:
             print()
         PARTS[part](programs)
