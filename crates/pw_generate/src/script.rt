@@ -68,7 +68,7 @@ pub fn generate_script(alloc: Global, n: u32) -> Result<Script, Memory>
     ensures { IfOk result (λ script. script ≡ machine_load n) }
 {
     let cpus = CPUS_EACH * n;
-    let mut lines = Vec::new(alloc);
+    let mut lines = Vec::with_capacity(alloc, (cpus * cpus) as usize)?;
     for round in 0..cpus {
         push_round(cpus, round, &mut lines)?;
     }
