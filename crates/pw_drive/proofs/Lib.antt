@@ -11,6 +11,7 @@ pub mod Handing
 pub mod InOrder
 pub mod ByProcessor
 pub mod Joining
+pub mod Beginning
 pub mod Ending
 pub mod Bounds
 pub mod Drawn

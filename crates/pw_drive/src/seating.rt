@@ -66,6 +66,7 @@ pub(crate) fn seat_all<R: Registers>(
     ensures owns { Owns coordinator.now.table.shared.table_id first.new }
     ensures book { (view_in first.new.badge.views).book ≡ (view_in first.old.badge.views).book }
     ensures parts { (view_in first.new.badge.views).parts + length workers.new.items ≡ 65536 }
+    ensures few { length workers.new.items ≤ length lists.items }
     ensures seated { AreSeated coordinator.now.table.shared.table_id lists.items workers.new.items }
     ensures all { OnOk result (AllSeated lists.items workers.new.items) }
     ensures empty { AreEmpty (length lists.items) each.new.items }

@@ -17,7 +17,7 @@ use crate::gathering::end;
 use crate::lists::lists_of;
 use crate::replying::{in_order, rooms};
 use crate::seating::seat_all;
-use crate::working::{Worker, work_all};
+use crate::working::{Begun, Worker, work_all};
 use pw_base::{Gate, List, Memory};
 use pw_core::Ops;
 use pw_model::Reply;
@@ -44,23 +44,28 @@ pub enum Drove<R> {
     },
 }
 
-/// What a run takes memory for: a list of requests for each processor, room for a worker for each and for
-/// its replies, and for all replies.
+/// What a run takes memory for: a list of requests for each processor, room for a worker for each before and
+/// after it makes them and for its replies, and for all replies.
 #[derive(Drop)]
-struct Prepared {
+struct Prepared<R: Registers> {
     lists: Vec<Vec<Request>>,
     workers: Vec<Worker>,
+    begun: Vec<Begun<R>>,
+    done: Vec<Worker>,
     each: Vec<Vec<Reply>>,
     all: Vec<Reply>,
 }
 
 /// The memory for a run of these lines.
-fn prepare(alloc: Global, plan: &Plan, lines: &[Line]) -> Result<Prepared, Memory>
+fn prepare<R: Registers>(alloc: Global, plan: &Plan, lines: &[Line]) -> Result<Prepared<R>, Memory>
     requires { AllByRecursion (λ (l : asked). Has plan.now l.request) lines.now }
     ensures lists { IfOk result
         (λ p. AreLists (requests_of lines.now) (length plan.now.cpus) p.lists.items) }
     ensures none { IfOk result (λ p. p.workers.items ≡ []) }
     ensures room { IfOk result (λ p. length p.lists.items ≤ vec_capacity p.workers) }
+    ensures undone { IfOk result (λ p. (p.begun.items ≡ []) × (p.done.items ≡ [])) }
+    ensures more { IfOk result (λ p. (length p.lists.items ≤ vec_capacity p.begun)
+        × (length p.lists.items ≤ vec_capacity p.done)) }
     ensures empty { IfOk result (λ p. AreEmpty (length p.lists.items) p.each.items) }
     ensures spare { IfOk result (λ p. HaveRoom (length p.lists.items) p.lists.items p.each.items) }
     ensures unanswered { IfOk result (λ p. p.all.items ≡ []) }
@@ -68,11 +73,15 @@ fn prepare(alloc: Global, plan: &Plan, lines: &[Line]) -> Result<Prepared, Memor
 {
     let lists = lists_of(alloc, plan, lines)?;
     let workers = Vec::with_capacity(alloc, lists.len())?;
+    let begun = Vec::with_capacity(alloc, lists.len())?;
+    let done = Vec::with_capacity(alloc, lists.len())?;
     let each = rooms(alloc, lists.as_slice())?;
     let all = Vec::with_capacity(alloc, lines.len())?;
     Ok(Prepared {
         lists,
         workers,
+        begun,
+        done,
         each,
         all,
     })
@@ -88,6 +97,8 @@ fn run<T: Threads + Wait + Sync, R: Registers + Send, G: Gate + Sync>(
     mut first: Seat,
     lists: Vec<Vec<Request>>,
     mut workers: Vec<Worker>,
+    begun: Vec<Begun<R>>,
+    done: Vec<Worker>,
     each: &mut Vec<Vec<Reply>>,
     gate: &G,
 ) -> Result<Closed<R>, R>
@@ -97,6 +108,8 @@ fn run<T: Threads + Wait + Sync, R: Registers + Send, G: Gate + Sync>(
     requires lists { AreListsFor coordinator.plan lists.items }
     requires none { workers.items ≡ [] }
     requires room { length lists.items ≤ vec_capacity workers }
+    requires undone { (begun.items ≡ []) × (done.items ≡ []) }
+    requires more { (length lists.items ≤ vec_capacity begun) × (length lists.items ≤ vec_capacity done) }
     requires unseen { (view_in first.badge.views).seen ≡ [] }
     requires empty { AreEmpty (length lists.items) each.old.items }
     requires spare { HaveRoom (length lists.items) lists.items each.old.items }
@@ -114,13 +127,14 @@ fn run<T: Threads + Wait + Sync, R: Registers + Send, G: Gate + Sync>(
     }
     // Room behind the seats', so that the end of the heap stays where it is while these are given back.
     let _behind = Ops::new(alloc, MOST_OF_A_REQUEST);
-    work_all(rt, &coordinator, gate, workers.as_mut_slice());
-    Ok(end(coordinator, first, workers, each))
+    let done = work_all(rt, &coordinator, gate, workers, begun, done);
+    Ok(end(coordinator, first, done, each))
 }
 
 /// Runs a script on registers by one worker for each processor that it names, side by side over one
 /// shared coordinator: each makes its processor's lines in their order, up to a fault, and keeps their
-/// replies. The memory of the seats alone is taken after the operations at the start.
+/// replies. The memory of the seats alone is taken after the operations at the start. A worker's thread has a
+/// stack of 128 KiB, on which the registers' operations and the gate run.
 pub fn drive<T: Threads + Wait + Sync, R: Registers + Send, G: Gate + Sync>(
     rt: &T,
     alloc: Global,
@@ -144,6 +158,8 @@ pub fn drive<T: Threads + Wait + Sync, R: Registers + Send, G: Gate + Sync>(
     let Prepared {
         lists,
         workers,
+        begun,
+        done,
         mut each,
         all,
     } = prepared;
@@ -156,6 +172,8 @@ pub fn drive<T: Threads + Wait + Sync, R: Registers + Send, G: Gate + Sync>(
                 first,
                 lists,
                 workers,
+                begun,
+                done,
                 &mut each,
                 gate,
             ) {

@@ -1,5 +1,5 @@
 //! A worker makes its processor's requests, and all workers do so side by side.
-ghost use Rattle.std.specs.Prelude.{◌≡◌, ◌∷◌, ◌≤◌, [], length, vec_capacity};
+ghost use Rattle.std.specs.Prelude.{◌≡◌, ◌∷◌, ◌≤◌, [], List as list, length, vec_capacity};
 ghost use Rattle.std.specs.List.{AllByRecursion};
 ghost use denote.Param.Send.{IsSync, IsSend};
 ghost use Rattle.pw_plan.specs.Requests.{Has};
@@ -8,15 +8,26 @@ ghost use Rattle.pw_rule.specs.Rule.{given_of};
 ghost use Rattle.pw_turns.specs.Owning.{Owns};
 ghost use Rattle.pw_turns.specs.Views.{view_in};
 ghost use Rattle.pw_drive.specs.inner.Replying.{KeepsReplies, reply_in};
+ghost use Rattle.atomic_table.specs.Seated.{TableId};
+ghost use Rattle.pw_machine.specs.Machine.{Given};
+ghost use Rattle.pw_drive.specs.declared.working.Worker.{Worker as worker};
+ghost use Rattle.pw_drive.specs.inner.Begun.{AllWillEnd, WillEnd};
 ghost use Rattle.pw_drive.specs.inner.Workers.{HasEnded, HaveEnded, IsReady, MadeLines};
 
+use core::thread::Stack;
 use pw_base::Gate;
 use pw_model::Reply;
 use pw_plan::Request;
 use pw_regs::Registers;
 use pw_turns::{Coordinator, Done, Seat};
+use std::snapshot::Snapshot;
 use std::sync::Wait;
-use std::thread::{Threads, join_mut};
+use std::thread;
+use std::thread::{Promise, PromisedHandle, Scope, Threads};
+
+/// The stack of a worker's thread, in bytes: of this size the C library keeps those of 256 threads, and
+/// gives none back to the system before the program ends.
+const STACK: usize = 128 * 1024;
 
 /// A processor with its lines' requests, the seat that makes them, and the replies so far, with room for
 /// one to each request.
@@ -69,16 +80,16 @@ fn make_all<W: Wait, R: Registers, G: Gate>(
     }
 }
 
-/// A worker makes its processor's requests.
-fn work<W: Wait, R: Registers, G: Gate>(
+/// A worker that makes its processor's requests.
+fn worked<W: Wait, R: Registers, G: Gate>(
     rt: &W,
     coordinator: &Coordinator<R>,
     gate: &G,
-    worker: &mut Worker,
-)
-    requires { IsReady coordinator.now.table.shared.table_id coordinator.now.plan worker.old }
+    mut worker: Worker,
+) -> Worker
+    requires { IsReady coordinator.now.table.shared.table_id coordinator.now.plan worker }
     ensures { HasEnded coordinator.now.table.shared.table_id
-        (given_of R.Registers coordinator.now.table.shared.key) worker.old worker.new }
+        (given_of R.Registers coordinator.now.table.shared.key) worker result }
 {
     make_all(
         rt,
@@ -88,59 +99,139 @@ fn work<W: Wait, R: Registers, G: Gate>(
         &mut worker.replies,
         gate,
     );
+    worker
 }
 
-/// A worker makes its requests on a thread of its own, and the others from here on.
-#[cycle(side_by_side)]
-fn work_beside<T: Threads + Wait + Sync, R: Registers + Send, G: Gate + Sync>(
-    rt: &T,
-    coordinator: &Coordinator<R>,
-    gate: &G,
-    first: &mut Worker,
-    others: &mut [Worker],
-)
-    requires first { IsReady coordinator.now.table.shared.table_id coordinator.now.plan first.old }
-    requires others { AllByRecursion (IsReady coordinator.now.table.shared.table_id coordinator.now.plan)
-        others.old }
-    ensures first { HasEnded coordinator.now.table.shared.table_id
-        (given_of R.Registers coordinator.now.table.shared.key) first.old first.new }
-    ensures others { HaveEnded coordinator.now.table.shared.table_id
-        (given_of R.Registers coordinator.now.table.shared.key) others.old others.new }
+/// What a worker's thread promises: the worker, when it has made its requests.
+#[derive(Drop)]
+pub(crate) struct Ends<R: Registers> {
+    pub(crate) coordinator: Snapshot<Coordinator<R>>,
+    pub(crate) worker: Snapshot<Worker>,
+}
+
+impl<R: Registers> Promise<Worker> for Ends<R> {
+    ghost kept_by = { λ p w. HasEnded p.coordinator.value.table.shared.table_id
+        (given_of R.Registers p.coordinator.value.table.shared.key) p.worker.value w };
+}
+
+/// A worker that makes its requests on a thread of its own, or that made them on this one.
+#[derive(Drop)]
+pub(crate) enum Begun<R: Registers> {
+    There(PromisedHandle<Worker, Ends<R>>),
+    Here(Worker),
+}
+
+/// The worker, when it has made its requests.
+fn ended<T: Threads, R: Registers>(rt: &T, begun: Begun<R>) -> Worker
+    ensures { (id : TableId) (given : Given) (v : worker) → WillEnd R.Registers id given v begun
+        → HasEnded id given v result }
 {
-    let mut there = ||
-        requires { IsReady coordinator.now.table.shared.table_id coordinator.now.plan first.now }
-        ensures { HasEnded coordinator.entry.now.table.shared.table_id
-            (given_of R.Registers coordinator.entry.now.table.shared.key) first.entry.now first.exit.now }
-    { work(rt, coordinator, gate, first) };
-    let mut here = ||
-        requires { IsSync T.row × IsSend R.row × IsSync G.row
-            × AllByRecursion (IsReady coordinator.now.table.shared.table_id coordinator.now.plan) others.now }
-        ensures { HaveEnded coordinator.entry.now.table.shared.table_id
-            (given_of R.Registers coordinator.entry.now.table.shared.key) others.entry.now others.exit.now }
-    { work_all(rt, coordinator, gate, others) };
-    join_mut(rt, &mut there, &mut here);
+    match begun {
+        Begun::There(handle) => handle.join(rt),
+        Begun::Here(worker) => worker,
+    }
 }
 
-/// All workers make their processors' requests, side by side. This thread starts that of each but the last,
-/// one after the other, so that many have ended before the last begins.
-#[cycle(side_by_side)]
+/// Lets a worker make its requests on a thread of its own, or on this one where none can be made.
+fn begin<'s, E, T: Threads + Wait + Sync, R: Registers + Send, G: Gate + Sync>(
+    scope: &Scope<'s, E>,
+    rt: &'s T,
+    coordinator: &'s Coordinator<R>,
+    gate: &'s G,
+    worker: Worker,
+) -> Begun<R>
+    requires { IsReady coordinator.now.table.shared.table_id coordinator.now.plan worker }
+    ensures { WillEnd R.Registers coordinator.now.table.shared.table_id
+        (given_of R.Registers coordinator.now.table.shared.key) worker result }
+{
+    let promise = Ends {
+        coordinator: Snapshot::of(coordinator),
+        worker: Snapshot::of(&worker),
+    };
+    let there = move || -> Worker
+        requires { IsReady coordinator.now.table.shared.table_id coordinator.now.plan worker }
+        ensures { HasEnded coordinator.entry.now.table.shared.table_id
+            (given_of R.Registers coordinator.entry.now.table.shared.key) worker result }
+    { worked(rt, coordinator, gate, worker) };
+    let stack = Stack::new().stack_size(STACK);
+    match stack.spawn_scoped_with(scope, promise, there) {
+        Ok(handle) => Begun::There(handle),
+        Err(refused) => Begun::Here((refused.value)()),
+    }
+}
+
+/// All workers begin, in their order. They stand where there is room for them.
+fn begin_all<'s, E, T: Threads + Wait + Sync, R: Registers + Send, G: Gate + Sync>(
+    scope: &Scope<'s, E>,
+    rt: &'s T,
+    coordinator: &'s Coordinator<R>,
+    gate: &'s G,
+    workers: Vec<Worker>,
+    mut begun: Vec<Begun<R>>,
+) -> Vec<Begun<R>>
+    requires ready { AllByRecursion (IsReady coordinator.now.table.shared.table_id coordinator.now.plan)
+        workers.items }
+    requires none { begun.items ≡ [] }
+    requires room { length workers.items ≤ vec_capacity begun }
+    ensures { AllWillEnd R.Registers coordinator.now.table.shared.table_id
+        (given_of R.Registers coordinator.now.table.shared.key) workers.items result.items }
+{
+    for worker in workers {
+        begun.push_reserved(begin(scope, rt, coordinator, gate, worker));
+    }
+    begun
+}
+
+/// All workers, when they have made their requests.
+fn end_all<T: Threads, R: Registers>(
+    rt: &T,
+    begun: Vec<Begun<R>>,
+    mut done: Vec<Worker>,
+) -> Vec<Worker>
+    requires none { done.items ≡ [] }
+    requires room { length begun.items ≤ vec_capacity done }
+    ensures { (id : TableId) (given : Given) (vs : list worker) → AllWillEnd R.Registers id given vs begun.items
+        → HaveEnded id given vs result.items }
+{
+    for one in begun {
+        done.push_reserved(ended(rt, one));
+    }
+    done
+}
+
+/// All workers make their processors' requests, side by side. This thread starts that of each, one after the
+/// other, so that many have ended before the last begins.
 pub(crate) fn work_all<T: Threads + Wait + Sync, R: Registers + Send, G: Gate + Sync>(
     rt: &T,
     coordinator: &Coordinator<R>,
     gate: &G,
-    workers: &mut [Worker],
-)
-    requires { AllByRecursion (IsReady coordinator.now.table.shared.table_id coordinator.now.plan)
-        workers.old }
+    workers: Vec<Worker>,
+    begun: Vec<Begun<R>>,
+    done: Vec<Worker>,
+) -> Vec<Worker>
+    requires ready { AllByRecursion (IsReady coordinator.now.table.shared.table_id coordinator.now.plan)
+        workers.items }
+    requires none { (begun.items ≡ []) × (done.items ≡ []) }
+    requires room { (length workers.items ≤ vec_capacity begun)
+        × (length workers.items ≤ vec_capacity done) }
     ensures { HaveEnded coordinator.now.table.shared.table_id
-        (given_of R.Registers coordinator.now.table.shared.key) workers.old workers.new }
+        (given_of R.Registers coordinator.now.table.shared.key) workers.items result.items }
 {
-    let Some((first, others)) = workers.split_first_mut() else {
-        return;
-    };
-    if others.is_empty() {
-        work(rt, coordinator, gate, first);
-        return;
-    }
-    work_beside(rt, coordinator, gate, first, others);
+    thread::scope(
+        thread::scope_env(),
+        rt,
+        |scope| -> Vec<Worker>
+            requires { IsSync T.row × IsSend R.row × IsSync G.row
+                × AllByRecursion (IsReady coordinator.now.table.shared.table_id coordinator.now.plan)
+                workers.items
+                × (begun.items ≡ []) × (done.items ≡ [])
+                × (length workers.items ≤ vec_capacity begun)
+                × (length workers.items ≤ vec_capacity done) }
+            ensures { HaveEnded coordinator.entry.now.table.shared.table_id
+                (given_of R.Registers coordinator.entry.now.table.shared.key) workers.items result.items }
+        {
+            let begun = begin_all(scope, rt, coordinator, gate, workers, begun);
+            end_all(rt, begun, done)
+        },
+    )
 }

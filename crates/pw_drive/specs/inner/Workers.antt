@@ -1,5 +1,5 @@
 -- A worker before and after it makes its requests.
-use Rattle.std.specs.Prelude.{◌≡◌, ◌⊎◌, ◌∷◌, ◌<◌, ◌≤◌, ℕ, List, [], length, slice_index_or, vec_capacity}
+use Rattle.std.specs.Prelude.{◌≡◌, ◌⊎◌, ◌∷◌, ◌≤◌, ℕ, List, [], length, vec_capacity}
 use Rattle.std.specs.List.{AllByRecursion}
 use Rattle.atomic_table.specs.Seated.{TableId}
 use Rattle.pw_plan.specs.declared.plan.Plan.{Plan}
@@ -56,6 +56,8 @@ pub record HasEnded (id : TableId) (given : Given) (v w : Worker) : Type 0 where
   pub replied : KeepsReplies given.plan w.replies.items (view_of w)
 
 -- each of them ended
-pub record HaveEnded (id : TableId) (given : Given) (vs ws : List Worker) : Type 0 where
-  pub size : length ws ≡ length vs
-  pub ended : (k : ℕ) (d : Worker) → k < length vs → HasEnded id given (slice_index_or vs k d) (slice_index_or ws k d)
+abbrev pub HaveEnded : TableId → Given → List Worker → List Worker → Type 0
+HaveEnded id given [] [] = Unit {0}
+HaveEnded id given [] (w ∷ ws) = ⊥
+HaveEnded id given (v ∷ vs) [] = ⊥
+HaveEnded id given (v ∷ vs) (w ∷ ws) = HasEnded id given v w × HaveEnded id given vs ws
