@@ -8,7 +8,7 @@ ghost use Rattle.acpi_idle.specs.Written.{lpi_object};
 ghost use Rattle.acpi_perf.specs.Written.{control_object, domain_object, pss_object};
 ghost use Rattle.pw_generate.specs.Machines.{container_objects, container_term, cpu_objects, cpu_term};
 ghost use Rattle.pw_generate.specs.Machines.{from_here, from_root, machine_block, named};
-ghost use Rattle.pw_generate.specs.Tables.{cpu_control, cpu_domain, cpu_perf};
+ghost use Rattle.pw_generate.specs.Tables.{cpu_control, cpu_domain, cpu_idle, cpu_perf};
 
 use crate::names::{container_seg, cpu_seg};
 use crate::tables::{
@@ -103,14 +103,14 @@ fn push_perf(alloc: Global, terms: &mut Vec<Term>, container: u32) -> Result<(),
     push_named(alloc, terms, *b"_PSD", domain)
 }
 
-/// The objects of a processor of this container.
+/// The objects of a processor of this container, with these idle states.
 #[tactic(auto, unfolding(crate::specs::Tables::cpu_idle))]
-fn tables_of_cpu(alloc: Global, container: u32) -> Result<Vec<Term>, Memory>
+fn tables_of_cpu(alloc: Global, container: u32, idle: &Lpi) -> Result<Vec<Term>, Memory>
+    requires { idle.now ≡ cpu_idle }
     ensures { IfOk result (λ terms. terms.items ≡ cpu_objects container) }
 {
-    let idle = cpu_lpi(alloc)?;
-    let mut terms = Vec::new(alloc);
-    push_idle(alloc, &mut terms, b"ACPI0007", &idle)?;
+    let mut terms = Vec::with_capacity(alloc, 5)?;
+    push_idle(alloc, &mut terms, b"ACPI0007", idle)?;
     push_perf(alloc, &mut terms, container)?;
     Ok(terms)
 }
@@ -128,23 +128,25 @@ fn tables_of_container(alloc: Global) -> Result<Vec<Term>, Memory>
 
 /// A processor of a container.
 #[tactic(auto, unfolding(crate::specs::Machines::cpu_term))]
-fn make_cpu(alloc: Global, container: u32, cpu: u32) -> Result<Term, Memory>
+fn make_cpu(alloc: Global, container: u32, cpu: u32, idle: &Lpi) -> Result<Term, Memory>
+    requires { idle.now ≡ cpu_idle }
     ensures { IfOk result (λ term. term ≡ cpu_term container cpu) }
 {
-    let terms = tables_of_cpu(alloc, container)?;
+    let terms = tables_of_cpu(alloc, container, idle)?;
     make_device(alloc, cpu_seg(cpu), terms)
 }
 
 /// A container, with its processors.
 #[tactic(auto, unfolding(crate::specs::Machines::container_term))]
-fn make_container(alloc: Global, container: u32) -> Result<Term, Memory>
-    requires { container < MOST_CONTAINERS }
+fn make_container(alloc: Global, container: u32, idle: &Lpi) -> Result<Term, Memory>
+    requires few { container < MOST_CONTAINERS }
+    requires idle { idle.now ≡ cpu_idle }
     ensures { IfOk result (λ term. term ≡ container_term container) }
 {
     let mut terms = tables_of_container(alloc)?;
     let first = CPUS_EACH * container;
     for cpu in first..first + CPUS_EACH {
-        terms.push(make_cpu(alloc, container, cpu)?)?;
+        terms.push(make_cpu(alloc, container, cpu, idle)?)?;
     }
     make_device(alloc, container_seg(container), terms)
 }
@@ -154,9 +156,10 @@ fn make_containers(alloc: Global, n: u32) -> Result<List<Term>, Memory>
     requires { n ≤ MOST_CONTAINERS }
     ensures { IfOk result (λ terms. terms ≡ map container_term (range_with_len 0 n)) }
 {
+    let idle = cpu_lpi(alloc)?;
     let mut terms = Vec::new(alloc);
     for container in 0..n {
-        terms.push(make_container(alloc, container)?)?;
+        terms.push(make_container(alloc, container, &idle)?)?;
     }
     Ok(List::from_vec(terms))
 }
