@@ -190,8 +190,8 @@ fn end_all<T: Threads, R: Registers>(
 ) -> Vec<Worker>
     requires none { done.items ≡ [] }
     requires room { length begun.items ≤ vec_capacity done }
-    ensures { (id : TableId) (given : Given) (vs : list worker) → AllWillEnd R.Registers id given vs begun.items
-        → HaveEnded id given vs result.items }
+    ensures { (id : TableId) (given : Given) (vs : list worker)
+        → AllWillEnd R.Registers id given vs begun.items → HaveEnded id given vs result.items }
 {
     for one in begun {
         done.push_reserved(ended(rt, one));
