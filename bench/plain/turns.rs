@@ -5,12 +5,13 @@ use crate::drive::{Levels, Node};
 use crate::script::{Op, Request, Scale};
 use crate::shared::{Climb, Journal, Kept, Plan, Shared, Told};
 use std::cell::UnsafeCell;
-use std::hint::spin_loop;
 use std::sync::atomic::{AtomicU32, AtomicU64, Ordering};
 use std::sync::{Condvar, Mutex};
+use std::thread::yield_now;
 use std::time::Duration;
 
-const LOOKS: u32 = 100;
+const LOOKS: u32 = 25;
+const YIELDS: u32 = 4;
 const NAP: Duration = Duration::from_millis(10);
 
 enum Held<E> {
@@ -46,7 +47,9 @@ impl<E: Kept, const APART: usize> EachTurn<E, APART> {
             if self.word(turn).load(Ordering::SeqCst) != found {
                 return;
             }
-            spin_loop();
+            for _ in 0..YIELDS {
+                yield_now();
+            }
         }
         let bed = &self.beds[turn];
         bed.sleepers.fetch_add(1, Ordering::SeqCst);
