@@ -7,7 +7,7 @@ ghost use Rattle.pw_cppc_drive.specs.Forms.{control_named, request_by, request_i
 use crate::index::find;
 use pw_base::Memory;
 use pw_cppc::{Control, CppcPlan, CppcRequest};
-use pw_text::{LineWhy, PathIndex, first_field, is_number, value_of};
+use pw_text::{LineWhy, PathIndex, Spelled, first_field, is_number, value_of};
 
 /// Whether bytes are this text.
 fn is(bytes: &[u8], text: &str) -> bool
@@ -60,11 +60,11 @@ fn request_by(control: Control, cpu: u32, value: u32) -> CppcRequest
     }
 }
 
-/// What a line asks for, if anything, or why it is bad. `name` is room for its path.
+/// What a line asks for, if anything, or why it is bad. `room` is room for its path.
 pub(crate) fn request_in(
     plan: &CppcPlan,
     index: &PathIndex,
-    name: &mut Vec<u8>,
+    room: &mut Spelled,
     line: &[u8],
 ) -> Result<Result<Option<CppcRequest>, LineWhy>, Memory>
     requires { IsIndexOf segs_of plan.now.paths index.now }
@@ -75,7 +75,7 @@ pub(crate) fn request_in(
     if path.is_empty() || path[0] == b'#' {
         return Ok(Ok(None));
     }
-    let Some(found) = find(plan, index, name, path)? else {
+    let Some(found) = find(plan, index, room, path)? else {
         return Ok(Err(LineWhy::Grammar));
     };
     let Some((control, value)) = said(rest) else {

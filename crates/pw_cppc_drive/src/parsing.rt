@@ -14,7 +14,7 @@ use crate::line::request_in;
 use crate::script::{CppcLine, CppcScript};
 use pw_base::List;
 use pw_cppc::CppcPlan;
-use pw_text::{MOST_OPERATIONS, PathIndex, ScriptFault, first_line, too_long};
+use pw_text::{MOST_OPERATIONS, PathIndex, ScriptFault, Spelled, first_line, too_long};
 use std::alloc::Global;
 
 /// Whether the lines have too many operations, with those at the start.
@@ -33,11 +33,11 @@ fn has_too_many(plan: &CppcPlan, lines: &[CppcLine]) -> bool
     bound > u64::from(MOST_OPERATIONS)
 }
 
-/// Reads lines, and puts those that ask for something into a list. `name` is room for a path.
+/// Reads lines, and puts those that ask for something into a list. `room` is room for a path.
 fn read_into(
     plan: &CppcPlan,
     index: &PathIndex,
-    name: &mut Vec<u8>,
+    room: &mut Spelled,
     bytes: &[u8],
     lines: &mut Vec<CppcLine>,
 ) -> Result<(), ScriptFault>
@@ -56,7 +56,7 @@ fn read_into(
     while !left.is_empty() {
         let (text, rest) = first_line(left);
         number += 1;
-        match request_in(plan, index, name, text)? {
+        match request_in(plan, index, room, text)? {
             Err(why) => return Err(ScriptFault::Line { number, why }),
             Ok(None) => {}
             Ok(Some(request)) => lines.push(CppcLine { number, request })?,
@@ -78,9 +78,11 @@ fn read_lines(alloc: Global, bytes: &[u8], plan: &CppcPlan) -> Result<Vec<CppcLi
         first_bad_by (request_in plan.now) 1 (lines_of bytes.now) ≡ Some fault) }
 {
     let index = index_of(alloc, plan)?;
-    let mut name = Vec::new(alloc);
+    let mut room = Spelled {
+        bytes: Vec::new(alloc),
+    };
     let mut lines = Vec::new(alloc);
-    read_into(plan, &index, &mut name, bytes, &mut lines)?;
+    read_into(plan, &index, &mut room, bytes, &mut lines)?;
     Ok(lines)
 }
 

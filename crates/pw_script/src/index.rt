@@ -6,7 +6,7 @@ ghost use Rattle.pw_script.specs.Forms.{cpu_named, segs_of};
 use crate::paths::path_texts;
 use pw_base::Memory;
 use pw_plan::Plan;
-use pw_text::{PathIndex, index_path};
+use pw_text::{PathIndex, Spelled, index_path};
 use std::alloc::Global;
 use std::collections::HashMap;
 
@@ -32,11 +32,11 @@ pub(crate) fn index_of(alloc: Global, plan: &Plan) -> Result<PathIndex, Memory>
     PathIndex::new(alloc, names, &path_texts(alloc, plan)?)
 }
 
-/// The processor that a path leads to, if any; nothing where the text is no path. `name` is room for it.
+/// The processor that a path leads to, if any; nothing where the text is no path. `room` is room for it.
 pub(crate) fn find(
     plan: &Plan,
     index: &PathIndex,
-    name: &mut Vec<u8>,
+    room: &mut Spelled,
     path: &[u8],
 ) -> Result<Option<Option<u32>>, Memory>
     requires { IsIndexOf segs_of plan.now.cpus index.now }
@@ -44,5 +44,5 @@ pub(crate) fn find(
     ensures exists { IfOk result
         (λ found. IfSome found (λ some. IfSome some (λ cpu. cpu < length plan.now.cpus))) }
 {
-    index.find(name, path)
+    index.find(room, path)
 }

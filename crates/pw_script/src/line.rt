@@ -9,7 +9,7 @@ use crate::wish::{Verb, Wish};
 use pw_base::Memory;
 use pw_model::ScaleKind;
 use pw_plan::{ANY_LATENCY, Plan, Request};
-use pw_text::{LineWhy, PathIndex, first_field, is_number, value_of};
+use pw_text::{LineWhy, PathIndex, Spelled, first_field, is_number, value_of};
 
 /// Whether bytes are this text.
 fn is(bytes: &[u8], text: &str) -> bool
@@ -135,11 +135,11 @@ fn wish_by(verb: Verb, cpu: u32, n: u32, m: u32) -> Option<Wish>
     }
 }
 
-/// What a line asks for, if anything, or why it is bad. `name` is room for its path.
+/// What a line asks for, if anything, or why it is bad. `room` is room for its path.
 pub(crate) fn wish_in(
     plan: &Plan,
     index: &PathIndex,
-    name: &mut Vec<u8>,
+    room: &mut Spelled,
     line: &[u8],
 ) -> Result<Result<Option<Wish>, LineWhy>, Memory>
     requires { IsIndexOf segs_of plan.now.cpus index.now }
@@ -151,7 +151,7 @@ pub(crate) fn wish_in(
     if path.is_empty() || path[0] == b'#' {
         return Ok(Ok(None));
     }
-    let Some(found) = find(plan, index, name, path)? else {
+    let Some(found) = find(plan, index, room, path)? else {
         return Ok(Err(LineWhy::Grammar));
     };
     let Some((verb, first, second)) = said(rest) else {

@@ -25,7 +25,7 @@ use pw_core::State;
 use pw_governor::Governor;
 use pw_notice::Handlers;
 use pw_plan::Plan;
-use pw_text::{MOST_OPERATIONS, PathIndex, ScriptFault, first_line, too_long};
+use pw_text::{MOST_OPERATIONS, PathIndex, ScriptFault, Spelled, first_line, too_long};
 use std::alloc::Global;
 
 /// Whether the lines have too many operations, with those at the start.
@@ -45,7 +45,7 @@ fn has_too_many(plan: &Plan, lines: &[Line]) -> bool
 }
 
 /// Reads lines, of which the first is asked in this state, and puts those that ask for something into a
-/// list. `name` is room for a path.
+/// list. `room` is room for a path.
 fn read_into<
     F: Fn(&IdleTable, u32, u32) -> u32,
     P: Fn(u32, u32, u32) -> u32,
@@ -55,7 +55,7 @@ fn read_into<
     governor: &Governor<F>,
     handlers: &Handlers<P, T>,
     index: &PathIndex,
-    name: &mut Vec<u8>,
+    room: &mut Spelled,
     state: &mut State,
     bytes: &[u8],
     lines: &mut Vec<Line>,
@@ -80,7 +80,7 @@ fn read_into<
     while !left.is_empty() {
         let (text, rest) = first_line(left);
         number += 1;
-        match wish_in(plan, index, name, text)? {
+        match wish_in(plan, index, room, text)? {
             Err(why) => return Err(ScriptFault::Line { number, why }),
             Ok(None) => {}
             Ok(Some(wish)) => {
@@ -118,10 +118,12 @@ fn read_lines<
 {
     let mut state = State::open(alloc, plan)?;
     let index = index_of(alloc, plan)?;
-    let mut name = Vec::new(alloc);
+    let mut room = Spelled {
+        bytes: Vec::new(alloc),
+    };
     let mut lines = Vec::new(alloc);
     let read = read_into(
-        plan, governor, handlers, &index, &mut name, &mut state, bytes, &mut lines,
+        plan, governor, handlers, &index, &mut room, &mut state, bytes, &mut lines,
     );
     drop(state);
     read?;

@@ -4,6 +4,7 @@ use Rattle.std.specs.declared.alloc.Global.{Global}
 use Rattle.std.specs.HashMap.{HashMap, get_by}
 use Rattle.aml_data.specs.Segment.{joined}
 use Rattle.pw_text.specs.declared.path_index.PathIndex.{PathIndex}
+use Rattle.pw_text.specs.declared.path_index.Spelled.{Spelled}
 use Rattle.pw_text.specs.Forms.{name_of, named_from}
 
 -- the number that a map has for segments, one behind the other
@@ -24,6 +25,14 @@ LeadsAlso segs n old new = KeyLeadsAlso (joined segs) n old new
 
 -- # Paths as they are spelled
 
+-- the number that a map has for a text
+abbrev pub spelled_by : {S : Type 0} → HashMap Spelled ℕ S → Spelled → Option ℕ
+spelled_by m text = get_by (λ k. bytes_eq text.bytes.items k.bytes.items) m
+
+-- The new map leads from this text to n, and from all others to where the old one leads.
+abbrev pub TextLeadsAlso : {S : Type 0} → List ℕ → ℕ → HashMap Spelled ℕ S → HashMap Spelled ℕ S → Type 0
+TextLeadsAlso text n old new = (q : Spelled) → spelled_by new q ≡ (if bytes_eq text q.bytes.items then Some n else spelled_by old q)
+
 -- The text is a path, and its segments lead there, or nowhere.
 pub record Leads (I : PathIndex) (text : List ℕ) (found : Option ℕ) : Type 0 where
   pub name : Vec ℕ Global
@@ -32,7 +41,7 @@ pub record Leads (I : PathIndex) (text : List ℕ) (found : Option ℕ) : Type 0
 
 -- Each text that leads somewhere leads where its segments do.
 abbrev pub AreSpelled : PathIndex → Type 0
-AreSpelled I = (q : Vec ℕ Global) → IfSome (led_by I.texts q) (λ n. Leads I q.items (Some n))
+AreSpelled I = (q : Spelled) → IfSome (spelled_by I.texts q) (λ n. Leads I q.bytes.items (Some n))
 
 -- where a text leads as a path, if it is one
 abbrev pub IsFound : PathIndex → List ℕ → Option (Option ℕ) → Type 0

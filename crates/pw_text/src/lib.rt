@@ -30,7 +30,7 @@ pub use numbers::{hex_digit, put_hex, put_number, write_hex};
 pub use openings::{first_of, opened, put_open_line, put_opened};
 pub use operations::put_ops;
 pub use page::Page;
-pub use path_index::PathIndex;
+pub use path_index::{PathIndex, Spelled};
 pub use path_texts::PathTexts;
 pub use paths::{put_path, put_place};
 pub use script::{LineWhy, MOST_BYTES, MOST_LINES, MOST_OPERATIONS, ScriptFault, too_long};

@@ -9,7 +9,7 @@ returns-in_ok-from_slice-in-Some-clause-spelled c =
     let text = c.args.text.now in
     let leads = rw c.in-Some.is at (taken_apart I text c.write_name.new.name c.in_ok-write_name.field-0 c.find_path.result c.if-not-branch.false
     c.in_ok-write_name.ensures c.find_path.ensures) in
-    on_ok_weaker c.index_key.result
-    (λ also. spelled_too I (record { names = I.names; texts = c.index_key.new.index }) c.in_ok-from_slice-in-Some.field-0.items text c.in-Some.number c.requires refl
+    on_ok_weaker c.index_text.result
+    (λ also. spelled_too I (record { names = I.names; texts = c.index_text.new.index }) c.in_ok-from_slice-in-Some.field-0.items text c.in-Some.number c.requires refl
     c.in_ok-from_slice-in-Some.ensures.items leads also)
-    c.index_key.ensures
+    c.index_text.ensures

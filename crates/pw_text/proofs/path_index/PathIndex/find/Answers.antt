@@ -4,8 +4,8 @@ use Rattle.pw_text.proofs.path_index.PathIndex.find.Goals as goal
 
 pub returns-then-is_some : goal.returns-then-is_some
 returns-then-is_some c =
-    found_spelled c.args.self.now c.extend_from_slice.new.self c.args.text.now c.find_path-spelled.result c.requires
-    (rw c.clear.ensures.items at c.in_ok-extend_from_slice.ensures.items) c.find_path-spelled.ensures (sym c.is_some.ensures ∙ c.if-is_some.true)
+    found_spelled c.args.self.now (record { bytes = c.extend_from_slice.new.self }) c.args.text.now c.find_text-spelled.result c.requires
+    (rw c.clear.ensures.items at c.in_ok-extend_from_slice.ensures.items) c.find_text-spelled.ensures (sym c.is_some.ensures ∙ c.if-is_some.true)
 
 pub returns : goal.returns
 returns c =
