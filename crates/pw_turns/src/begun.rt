@@ -170,6 +170,7 @@ impl<R: Registers, K: Keeps> Coordinator<R, K> {
     }
 
     /// Takes the journal for a request whose records are held; or gives up.
+    #[inline(always)]
     pub(crate) fn lead<T: Taking>(
         &self,
         taking: &T,

@@ -116,6 +116,7 @@ impl Taking for Silent {
         told
     }
 
+    #[inline(always)]
     fn obtain_record<R: Registers, K: Keeps>(
         &self,
         coordinator: &Coordinator<R, K>,
@@ -134,6 +135,7 @@ impl Taking for Silent {
         }
     }
 
+    #[inline(always)]
     fn obtain_journal<R: Registers, K: Keeps>(
         &self,
         coordinator: &Coordinator<R, K>,
